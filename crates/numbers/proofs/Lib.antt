@@ -1,0 +1,7 @@
+-- The laws that every crate cites.
+pub mod Tests
+pub mod Order
+pub mod Range
+pub mod Whole
+pub mod Lists
+pub mod Bytes

@@ -1,0 +1,117 @@
+-- Laws of tests: joined, at every number below n as a loop builds it, at every element, and along a chain of refusals.
+-- Assumes nothing.
+use mathlib.Core.Bool.{Bool, true, false, not, cond, _&&_, false≢true}
+use mathlib.Core.List.{List, [], _∷_}
+use mathlib.Core.Logic.{⊎-elim}
+use mathlib.Core.Path.{_≡_, refl, sym, ap, subst, _∙_}
+use Prim.Native.Nat.{ℕ, zero, suc, _+_, _≤_, _<_, zero-le}
+use native.Mathlib.Nat.{le-refl, le-of-suc-le-suc, not-suc-le-zero, eq-or-lt-of-le}
+use native.Mathlib.Numerals.{add-one}
+use native.Mathlib.Omega.{arith}
+use lib.Dec.{T, T-not, leb, leb→le, le→leb}
+use lib.ListN.{length, getD, drop}
+use lib.Seq.{drop-cons}
+use borrow.Author.Tests.{lt-ltb, le-ltb, le-leb, lt-leb, eq-eqb}
+use Rattle.numbers.specs.Tests.{bit, allBelow, every, unless}
+
+-- ---- two tests
+
+pub both : (x y : Bool) → (x && y) ≡ true → (x ≡ true) × (y ≡ true)
+both true y e = (refl, e)
+both false y e = absurd (false≢true e)
+
+pub and-false : (x : Bool) → (x && false) ≡ false
+and-false true = refl
+and-false false = refl
+
+-- the same of `T`
+pub both-T : (x y : Bool) → T (x && y) → T x × T y
+both-T true y t = (tt, t)
+both-T false y t = absurd t
+
+pub and-T : (x y : Bool) → T x → T y → T (x && y)
+and-T true y s t = t
+and-T false y s t = s
+
+-- a joint test whose parts pass more often, a test that fails more often, an order that is looser
+pub and-mono : (a b c d : Bool) → (T a → T c) → (T b → T d) → T (a && b) → T (c && d)
+and-mono a b c d f g t = let (s, r) = both-T a b t in and-T c d (f s) (g r)
+
+pub not-mono : (a b : Bool) → (T a → T b) → T (not b) → T (not a)
+not-mono true b f t = absurd (T-not b t (f tt))
+not-mono false b f t = tt
+
+pub leb-mono : {a b c d : ℕ} → c ≤ a → b ≤ d → T (leb a b) → T (leb c d)
+leb-mono {a} {b} h g t = omega (arith, leb→le, le→leb)
+
+-- a test that would be absurd, were it true
+pub refuted : (x : Bool) → (x ≡ true → ⊥) → x ≡ false
+refuted true h = absurd (h refl)
+refuted false h = refl
+
+pub true-T : {x : Bool} → x ≡ true → T x
+true-T e = subst T (sym e) tt
+
+pub T-true : (x : Bool) → T x → x ≡ true
+T-true true t = refl
+T-true false t = absurd t
+
+-- ---- the number of a test
+
+pub bit-le : (a b : Bool) → (T a → T b) → bit a ≤ bit b
+bit-le true true f = le-refl 1
+bit-le true false f = absurd (f tt)
+bit-le false b f = zero-le
+
+pub bit-most : (b : Bool) → bit b ≤ 1
+bit-most true = le-refl 1
+bit-most false = zero-le
+
+-- ---- at every number below n
+
+pub all-more : (n : ℕ) (f : ℕ → Bool) → allBelow n f ≡ true → f n ≡ true → allBelow (n + 1) f ≡ true
+unfolding allBelow
+all-more n f p q = rw add-one (ap (λ (x : Bool). x && f n) p ∙ q)
+
+pub all-fails : (n k : ℕ) (f : ℕ → Bool) → k < n → f k ≡ false → allBelow n f ≡ false
+unfolding allBelow
+all-fails zero k f l q = absurd (not-suc-le-zero l)
+all-fails (suc n) k f l q =
+    ⊎-elim
+    (λ e. ap (λ (x : Bool). allBelow n f && x) (subst (λ (m : ℕ). f m ≡ false) e q) ∙ and-false (allBelow n f))
+    (λ h. ap (λ (x : Bool). x && f n) (all-fails n k f h q))
+    (eq-or-lt-of-le (le-of-suc-le-suc l))
+
+pub all-at : (n : ℕ) (f : ℕ → Bool) → allBelow n f ≡ true → (k : ℕ) → k < n → f k ≡ true
+unfolding allBelow
+all-at zero f e k h = absurd (not-suc-le-zero h)
+all-at (suc n) f e k h =
+    let (r, l) = both (allBelow n f) (f n) e in
+    ⊎-elim (λ p. ap f p ∙ l) (λ p. all-at n f r k p) (eq-or-lt-of-le (le-of-suc-le-suc h))
+
+-- ---- at every element
+
+module _ {A : Type 0} (p : A → Bool) where
+  pub every-next : (a : List A) (i : ℕ) (d : A) → i < length a → every p (drop i a) ≡ (p (getD a i d) && every p (drop (i + 1) a))
+  every-next a i d h = rw (add-one, drop-cons a i d h)
+
+  pub every-not : (a : List A) (i : ℕ) (d : A) → i < length a → p (getD a i d) ≡ false → false ≡ every p (drop i a)
+  every-not a i d h e = sym (every-next a i d h ∙ rw e)
+
+  pub every-at : (a : List A) (d : A) → every p a ≡ true → (i : ℕ) → i < length a → p (getD a i d) ≡ true
+  every-at [] d e i h = absurd (not-suc-le-zero h)
+  every-at (x ∷ a) d e zero h = both (p x) (every p a) e .0
+  every-at (x ∷ a) d e (suc i) h = every-at a d (both (p x) (every p a) e .1) i (le-of-suc-le-suc h)
+
+-- ---- along a chain of refusals: a test that holds is passed, and one that fails is the answer
+
+pub pass : {A : Type 0} {r a : A} {b : Bool} (refusal : A) → b ≡ true → r ≡ a → r ≡ unless refusal b a
+unfolding unless
+pass refusal e h = rw e h
+
+pub stop : {A : Type 0} {refusal : A} {b : Bool} (rest : A) → b ≡ false → refusal ≡ unless refusal b rest
+unfolding unless
+stop rest e = rw e
+
+-- for `omega`, at a test of numbers
+pub ruleset tests = (arith, lt-ltb, le-ltb, le-leb, lt-leb, eq-eqb)

@@ -1,0 +1,210 @@
+-- ℤ for `omega`, which reads only ℕ. An integer z is `up z` less `down z`, two naturals. Sums, negation, order, equality and size of
+-- integers are stated here once, each as a linear fact on those naturals, so that a fact on integers is `omega` on theirs. Assumes nothing.
+use mathlib.Core.Path.{_≡_, refl, sym, ap, ap₂, _∙_, subst}
+use mathlib.Core.Bool.{Bool, true, false, cond}
+use mathlib.Core.List.{List}
+use Prim.Native.Nat.{ℕ, zero, suc, _+_, _*_, _-_, _^_, _≤_}
+use native.Mathlib.Nat.{lt-of-lt-of-le, le-trans, mul-le-mul}
+use native.Mathlib.Decide.{ℕ-discrete}
+use native.Mathlib.Omega.{arith}
+use borrow.Author.Tests.{ltb-true, ltb-false, leb-true, leb-false, le-leb, lt-leb, eq-eqb, ne-eqb}
+use lib.Dec.{T, leb, ltb, eqb, leb→le, ltb→lt}
+use lib.IntN.{ℤ, pos, negsuc, negℤ, natAbs, subℕ, _+ℤ_, _*ℤ_}
+use lib.ListN.{getD}
+use lib.Pow.{pow-mono}
+use lib.Signed.{leZ}
+use mir.Syntax.{Width}
+use mir.Val.{SFits, bits, hbits, toZ, ofZ}
+use mir.ValLaws.{toZ-ofZ, pow-bits}
+use Rattle.numbers.specs.Whole.{between, eqZ, Sized, Small}
+use Rattle.numbers.specs.Lists.{plus}
+use Rattle.numbers.specs.Range.{fold, gather, sumOf, sumOfℤ}
+use Rattle.numbers.proofs.Tests.{both}
+use Rattle.numbers.proofs.Lists.{set-either}
+
+abbrev pub up : ℤ → ℕ
+up (pos n) = n
+up (negsuc n) = 0
+
+abbrev pub down : ℤ → ℕ
+down (pos n) = 0
+down (negsuc n) = suc n
+
+-- ---- sum, negation, equality
+
+sub-parts : (a b : ℕ) → up (subℕ a b) + b ≡ a + down (subℕ a b)
+sub-parts a b = go (ltb a b) refl
+  where
+    go : (t : Bool) → ltb a b ≡ t → up (cond t (negsuc (b - suc a)) (pos (a - b))) + b ≡ a + down (cond t (negsuc (b - suc a)) (pos (a - b)))
+    go true e = omega (arith, ltb-true a b e)
+    go false e = omega (arith, ltb-false a b e)
+
+pub sum-is : (a b : ℤ) → up (a +ℤ b) + (down a + down b) ≡ (up a + up b) + down (a +ℤ b)
+sum-is (pos a) (pos b) = omega arith
+sum-is (pos a) (negsuc b) = omega (arith, sub-parts a (suc b))
+sum-is (negsuc a) (pos b) = omega (arith, sub-parts b (suc a))
+sum-is (negsuc a) (negsuc b) = omega arith
+
+pub up-neg : (a : ℤ) → up (negℤ a) ≡ down a
+up-neg (pos zero) = refl
+up-neg (pos (suc n)) = refl
+up-neg (negsuc n) = refl
+
+pub down-neg : (a : ℤ) → down (negℤ a) ≡ up a
+down-neg (pos zero) = refl
+down-neg (pos (suc n)) = refl
+down-neg (negsuc n) = refl
+
+pub eq-of : (a b : ℤ) → up a + down b ≡ up b + down a → a ≡ b
+eq-of (pos a) (pos b) e = let h : a ≡ b = omega arith in ap pos h
+eq-of (pos a) (negsuc b) e = absurd (omega arith)
+eq-of (negsuc a) (pos b) e = absurd (omega arith)
+eq-of (negsuc a) (negsuc b) e = let h : a ≡ b = omega arith in ap negsuc h
+
+-- ---- order
+
+le-is : (a b : ℤ) → leZ a b ≡ leb (up a + down b) (up b + down a)
+le-is (pos a) (pos b) = go (leb a b) refl
+  where
+    go : (t : Bool) → leb a b ≡ t → t ≡ leb (a + 0) (b + 0)
+    go true e = sym (le-leb (a + 0) (b + 0) (omega (arith, leb-true a b e)))
+    go false e = sym (lt-leb (a + 0) (b + 0) (omega (arith, leb-false a b e)))
+le-is (pos a) (negsuc b) = sym (lt-leb (a + suc b) 0 (omega arith))
+le-is (negsuc a) (pos b) = sym (le-leb 0 (b + suc a) (omega arith))
+le-is (negsuc a) (negsuc b) = go (leb b a) refl
+  where
+    go : (t : Bool) → leb b a ≡ t → t ≡ leb (0 + suc b) (0 + suc a)
+    go true e = sym (le-leb (0 + suc b) (0 + suc a) (omega (arith, leb-true b a e)))
+    go false e = sym (lt-leb (0 + suc b) (0 + suc a) (omega (arith, leb-false b a e)))
+
+pub le-up : (a b : ℤ) → leZ a b ≡ true → up a + down b ≤ up b + down a
+le-up a b e = leb-true (up a + down b) (up b + down a) (sym (le-is a b) ∙ e)
+
+pub up-le : (a b : ℤ) → up a + down b ≤ up b + down a → leZ a b ≡ true
+up-le a b h = le-is a b ∙ le-leb (up a + down b) (up b + down a) h
+
+pub le-add : (a b c d : ℤ) → leZ a b ≡ true → leZ c d ≡ true → leZ (a +ℤ c) (b +ℤ d) ≡ true
+le-add a b c d h k = up-le (a +ℤ c) (b +ℤ d) (omega (arith, le-up a b h, le-up c d k, sum-is a c, sum-is b d))
+
+-- ---- size
+
+pub abs-is : (a : ℤ) → natAbs a ≡ up a + down a
+abs-is (pos n) = omega arith
+abs-is (negsuc n) = omega arith
+
+-- one of the two parts is zero, so that a bound on either side bounds the size
+pub abs-le : (a : ℤ) (n : ℕ) → up a ≤ n + down a → down a ≤ n + up a → natAbs a ≤ n
+abs-le (pos a) n h k = omega arith
+abs-le (negsuc a) n h k = omega arith
+
+abs-add : (a b : ℤ) → natAbs (a +ℤ b) ≤ natAbs a + natAbs b
+abs-add a b =
+    abs-le (a +ℤ b) (natAbs a + natAbs b)
+    (omega (arith, sum-is a b, abs-is a, abs-is b))
+    (omega (arith, sum-is a b, abs-is a, abs-is b))
+
+abs-neg : (a : ℤ) → natAbs (negℤ a) ≡ natAbs a
+abs-neg (pos zero) = refl
+abs-neg (pos (suc n)) = refl
+abs-neg (negsuc n) = refl
+
+abs-mul : (a b : ℤ) → natAbs (a *ℤ b) ≡ natAbs a * natAbs b
+abs-mul (pos m) (pos n) = refl
+abs-mul (pos m) (negsuc n) = abs-neg (pos (m * suc n))
+abs-mul (negsuc m) (pos n) = abs-neg (pos (suc m * n))
+abs-mul (negsuc m) (negsuc n) = refl
+
+-- ---- size as a record, from which antt finds the number and its bound
+
+pub of-nat : {m n : ℕ} → m ≤ n → Sized n (pos m)
+of-nat h = record { size = h }
+
+pub weaken : {m n : ℕ} {a : ℤ} → m ≤ n → Sized m a → Sized n a
+weaken h s = record { size = le-trans (s .size) h }
+
+pub sized-add : {m n : ℕ} {a b : ℤ} → Sized m a → Sized n b → Sized (m + n) (a +ℤ b)
+sized-add {a = a} {b = b} s t = record { size = omega (arith, abs-add a b) }
+
+pub sized-neg : {n : ℕ} {a : ℤ} → Sized n a → Sized n (negℤ a)
+sized-neg {a = a} s = record { size = omega (arith, abs-neg a) }
+
+pub sized-mul : {m n : ℕ} {a b : ℤ} → Sized m a → Sized n b → Sized (m * n) (a *ℤ b)
+sized-mul {m} {n} {a} {b} s t = record { size = subst (λ (k : ℕ). k ≤ m * n) (sym (abs-mul a b)) (mul-le-mul (s .size) (t .size)) }
+
+pub sized-between : (n : ℕ) (z : ℤ) → between (negℤ (pos n)) (pos n) z ≡ true → Sized n z
+sized-between n z e = record {
+  size =
+      abs-le z n
+      (omega (arith, le-up z (pos n) (both (leZ (negℤ (pos n)) z) (leZ z (pos n)) e .1)))
+      (omega (arith, up-neg (pos n), down-neg (pos n), le-up (negℤ (pos n)) z (both (leZ (negℤ (pos n)) z) (leZ z (pos n)) e .0)));
+}
+
+pub sized-upto : (n : ℕ) (z : ℤ) → between (pos 0) (pos n) z ≡ true → Sized n z
+sized-upto n z e = record {
+  size =
+      abs-le z n
+      (omega (arith, le-up z (pos n) (both (leZ (pos 0) z) (leZ z (pos n)) e .1)))
+      (omega (arith, le-up (pos 0) z (both (leZ (pos 0) z) (leZ z (pos n)) e .0)));
+}
+
+-- and the other way round
+pub between-sized : (n : ℕ) (z : ℤ) → Sized n z → between (negℤ (pos n)) (pos n) z ≡ true
+between-sized n z s =
+    rw (
+      up-le (negℤ (pos n)) z (omega (arith, up-neg (pos n), down-neg (pos n), abs-is z)),
+      up-le z (pos n) (omega (arith, abs-is z)),
+    )
+
+pub between-upto : (n m : ℕ) → m ≤ n → between (pos 0) (pos n) (pos m) ≡ true
+between-upto n m h = rw (up-le (pos 0) (pos m) (omega arith), up-le (pos m) (pos n) (omega arith))
+
+-- the size of a sum is at most the sum of the sizes
+pub sized-gather : (test : ℕ → Bool) (f : ℕ → ℤ) (m : ℕ) → Sized (sumOf test (λ j. natAbs (f j)) m) (sumOfℤ test f m)
+unfolding fold gather
+sized-gather test f zero = of-nat (omega arith)
+sized-gather test f (suc m) = sized-add (sized-gather test f m) (go (test m))
+  where
+    go : (b : Bool) → Sized (cond b (natAbs (f m)) 0) (cond b (f m) (pos 0))
+    go true = record { size = omega arith }
+    go false = of-nat (omega arith)
+
+-- z is added to one number of a list: no number is larger than before by more than z's size
+pub small-plus : {m n : ℕ} {z : ℤ} (l : List ℤ) (k : ℕ) → Small m l → Sized n z → Small (m + n) (plus l k z)
+small-plus {m} {n} {z} l k s h j =
+    set-either (Sized (m + n)) l k j (getD l k (pos 0) +ℤ z) (pos 0) (sized-add (s k) h) (weaken (omega arith) (s j))
+
+-- ---- signed machine numbers, whatever the width
+
+-- a number fits where its size is below half the width's numbers
+pub sfits : (w : Width) {n : ℕ} {z : ℤ} → T (ltb n (2 ^ hbits w)) → Sized n z → SFits w z
+sfits w {n} {z = pos k} t s = record { sfits = omega (arith, s .size, ltb→lt n (2 ^ hbits w) t) }
+sfits w {n} {z = negsuc k} t s = record { sfits = omega (arith, s .size, ltb→lt n (2 ^ hbits w) t) }
+
+pub sized-fits : {w : Width} {z : ℤ} → SFits w z → Sized (2 ^ hbits w) z
+sized-fits {w} {z = pos n} h = record { size = omega (arith, h .sfits) }
+sized-fits {w} {z = negsuc n} h = record { size = h .sfits }
+
+-- what fits a width fits a wider one
+pub widen : {w : Width} {z : ℤ} (w′ : Width) → T (leb (hbits w) (hbits w′)) → SFits w z → SFits w′ z
+widen {w} w′ t h = record { sfits = lt-of-lt-of-le (h .sfits) (pow-mono (leb→le (hbits w) (hbits w′) t)) }
+
+-- what the machine reads back of a number, and of one that was cast to a wider type
+pub read : {w : Width} {z : ℤ} → SFits w z → toZ w (ofZ w z) ≡ z
+read {w} {z} h = toZ-ofZ w z h
+
+pub read-le : {w : Width} {a b : ℤ} → SFits w a → SFits w b → leZ (toZ w (ofZ w a)) (toZ w (ofZ w b)) ≡ leZ a b
+read-le h k = ap₂ leZ (read h) (read k)
+
+pub read-wide : {w : Width} {z : ℤ} (w′ : Width) → T (leb (hbits w) (hbits w′)) → SFits w z → toZ w′ (ofZ w′ (toZ w (ofZ w z))) ≡ z
+read-wide w′ t h = ap (λ (y : ℤ). toZ w′ (ofZ w′ y)) (read h) ∙ read (widen w′ t h)
+
+-- a test of equality compares the bits
+pub read-eq : {w : Width} {a b : ℤ} → SFits w a → SFits w b → eqb (ofZ w a) (ofZ w b) ≡ eqZ a b
+read-eq {w} {a = pos a} {b = pos b} h k = refl
+read-eq {w} {a = pos a} {b = negsuc b} h k = ne-eqb a (2 ^ bits w - suc b) (λ e. omega (arith, h .sfits, k .sfits, pow-bits w))
+read-eq {w} {a = negsuc a} {b = pos b} h k = ne-eqb (2 ^ bits w - suc a) b (λ e. omega (arith, h .sfits, k .sfits, pow-bits w))
+read-eq {w} {a = negsuc a} {b = negsuc b} h k = go (ℕ-discrete a b)
+  where
+    go : Dec (a ≡ b) → eqb (2 ^ bits w - suc a) (2 ^ bits w - suc b) ≡ eqb a b
+    go (yes e) = eq-eqb (2 ^ bits w - suc a) (2 ^ bits w - suc b) (ap (λ (n : ℕ). 2 ^ bits w - suc n) e) ∙ sym (eq-eqb a b e)
+    go (no n) = ne-eqb (2 ^ bits w - suc a) (2 ^ bits w - suc b) (λ e. n (omega (arith, h .sfits, k .sfits, pow-bits w))) ∙ sym (ne-eqb a b n)

@@ -1,0 +1,10 @@
+-- Numbers of several bytes. All numbers are big-endian (document 01, 'Record layout'). A place past the last byte reads as 0.
+-- Assumes nothing.
+use mathlib.Core.List.{List}
+use Prim.Native.Nat.{ℕ, zero, suc, _+_, _*_}
+use lib.ListN.{getD}
+
+-- the number of n bytes from place i, the highest byte first
+unfoldable pub be : ℕ → List ℕ → ℕ → ℕ
+be zero b i = 0
+be (suc n) b i = 256 * be n b i + getD b (i + n) 0

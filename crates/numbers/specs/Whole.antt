@@ -1,0 +1,28 @@
+-- Integers within bounds.
+-- Assumes nothing.
+use mathlib.Core.Bool.{Bool, true, false, _&&_}
+use mathlib.Core.List.{List}
+use Prim.Native.Nat.{ℕ, _≤_}
+use lib.Dec.{eqb}
+use lib.IntN.{ℤ, pos, negsuc, natAbs}
+use lib.ListN.{getD}
+use lib.Signed.{leZ}
+
+-- lo ≤ z ≤ hi
+abbrev pub between : ℤ → ℤ → ℤ → Bool
+between lo hi z = leZ lo z && leZ z hi
+
+-- two integers are the same
+abbrev pub eqZ : ℤ → ℤ → Bool
+eqZ (pos a) (pos b) = eqb a b
+eqZ (pos a) (negsuc b) = false
+eqZ (negsuc a) (pos b) = false
+eqZ (negsuc a) (negsuc b) = eqb a b
+
+-- z lies within n either way
+pub record Sized (n : ℕ) (z : ℤ) : Type 0 where
+  pub size : natAbs z ≤ n
+
+-- so does every number of l
+abbrev pub Small : ℕ → List ℤ → Type 0
+Small n l = (k : ℕ) → Sized n (getD l k (pos 0))

@@ -1,0 +1,97 @@
+-- Laws of the band: the last grid place, what inside, below and above say of each other, and the three verdicts.
+-- Assumes nothing.
+use mathlib.Core.Bool.{Bool, true, false, not, cond, _&&_}
+use mathlib.Core.List.{List}
+use mathlib.Core.Path.{_≡_, refl}
+use Prim.Native.Nat.{ℕ, _+_, _*_, _/_, _%_, _≤_, _<_}
+use native.Mathlib.Nat.{zero-mul, add-zero, le-refl, le-trans, add-le-add}
+use native.Mathlib.Omega.{arith}
+use lib.Dec.{T, leb, lit≤, leb→le, nleb→lt}
+use Rattle.numbers.proofs.Range.{least-at, greatest-at, least-wider, greatest-wider}
+use Rattle.numbers.proofs.Tests.{and-mono, leb-mono}
+use Rattle.rules.specs.Bench.{Tolerances}
+use Rattle.rules.specs.Cycle.{seconds, point, positions}
+use Rattle.rules.specs.Band.{grid20, from, upto, lo, hi, insideOf, belowOf, aboveOf, side, inside, below, above, verdict}
+
+-- "at place 20T it is 20 × point T"
+pub grid20-end : (b : List ℕ) → grid20 b (positions b) ≡ 20 * point b (seconds b)
+unfolding grid20
+grid20-end b =
+    let r : 20 * seconds b % 20 ≡ 0 = omega arith in
+    let q : 20 * seconds b / 20 ≡ seconds b = omega arith in
+    rw (r, q, zero-mul, add-zero)
+
+-- the window holds its own position, so that lo is at most hi
+pub lo-hi : (b : List ℕ) (w p : ℕ) → p ≤ positions b → lo b w p ≤ hi b w p
+lo-hi b w p h =
+    le-trans (least-at (grid20 b) (from w p) (upto b w p) p (omega arith) (omega arith))
+    (greatest-at (grid20 b) (from w p) (upto b w p) p (omega arith) (omega arith))
+
+module _ (b : List ℕ) (t : Tolerances) (p v : ℕ) where
+  -- outside is below or above
+  pub inside-is : inside b t p v ≡ (not (below b t p v) && not (above b t p v))
+  unfolding inside below above
+  inside-is = go (leb _ (20 * v + 20 * t .speed)) (leb (20 * v) _)
+    where
+      go : (x y : Bool) → (x && y) ≡ (not (not x) && not (not y))
+      go true true = refl
+      go true false = refl
+      go false y = refl
+
+  -- and never both
+  pub not-both : p ≤ positions b → T (below b t p v) → T (above b t p v) → ⊥
+  unfolding below above
+  not-both h s r =
+      let l = nleb→lt (lo b (t .time) p) (20 * v + 20 * t .speed) s in
+      let g = nleb→lt (20 * v) (hi b (t .time) p + 20 * t .speed) r in
+      omega (arith, lo-hi b (t .time) p h)
+
+  -- the three verdicts, and no other
+  pub verdict-inside : T (inside b t p v) → verdict b t p v ≡ 0
+  unfolding inside verdict side
+  verdict-inside = go (insideOf (lo b (t .time) p) (hi b (t .time) p) (t .speed) v) (belowOf (lo b (t .time) p) (t .speed) v)
+    where
+      go : (x y : Bool) → T x → _≡_ {A = ℕ} (cond x 0 (cond y 1 2)) 0
+      go true y s = refl
+      go false y s = absurd s
+
+  pub verdict-below : T (below b t p v) → verdict b t p v ≡ 1
+  unfolding below verdict side
+  verdict-below = go (leb _ (20 * v + 20 * t .speed)) (leb (20 * v) _)
+    where
+      go : (x y : Bool) → T (not x) → _≡_ {A = ℕ} (cond (x && y) 0 (cond (not x) 1 2)) 1
+      go true y s = absurd s
+      go false y s = refl
+
+  pub verdict-above : p ≤ positions b → T (above b t p v) → verdict b t p v ≡ 2
+  unfolding above verdict side below
+  verdict-above h r = go (leb (lo b (t .time) p) (20 * v + 20 * t .speed)) (leb (20 * v) _) r (λ s. not-both h s r)
+    where
+      go : (x y : Bool) → T (not y) → (T (not x) → ⊥) → _≡_ {A = ℕ} (cond (x && y) 0 (cond (not x) 1 2)) 2
+      go true true s n = absurd s
+      go true false s n = refl
+      go false y s n = absurd (n tt)
+
+-- ---- wider tolerances
+
+-- each of the three tolerances is kept or widened
+pub record Widened (t t′ : Tolerances) : Type 0 where
+  pub speed : t .speed ≤ t′ .speed
+  pub time : t .time ≤ t′ .time
+  pub allowance : t .allowance ≤ t′ .allowance
+
+pub lo-falls : (b : List ℕ) (w w′ p : ℕ) → w ≤ w′ → p ≤ positions b → lo b w′ p ≤ lo b w p
+lo-falls b w w′ p h l =
+    least-wider (grid20 b) (from w p) (upto b w p) (from w′ p) (upto b w′ p) (omega arith) (omega arith) (omega arith)
+
+pub hi-rises : (b : List ℕ) (w w′ p : ℕ) → w ≤ w′ → p ≤ positions b → hi b w p ≤ hi b w′ p
+hi-rises b w w′ p h l =
+    greatest-wider (grid20 b) (from w p) (upto b w p) (from w′ p) (upto b w′ p) (omega arith) (omega arith) (omega arith)
+
+-- what is inside stays inside
+pub inside-wider : (b : List ℕ) (t t′ : Tolerances) (p v : ℕ) → Widened t t′ → p ≤ positions b → T (inside b t p v) → T (inside b t′ p v)
+unfolding inside
+inside-wider b t t′ p v h l =
+    and-mono (leb (lo b (t .time) p) _) (leb (20 * v) _) (leb (lo b (t′ .time) p) _) (leb (20 * v) _)
+    (leb-mono (lo-falls b (t .time) (t′ .time) p (h .time) l) (omega (arith, h .speed)))
+    (leb-mono (le-refl (20 * v)) (add-le-add (hi-rises b (t .time) (t′ .time) p (h .time) l) (omega (arith, h .speed))))

@@ -1,0 +1,86 @@
+-- What the test `valid` says of a cycle's bytes, as facts that `omega` reads.
+-- Assumes nothing.
+use mathlib.Core.Bool.{true, false}
+use mathlib.Core.List.{List}
+use mathlib.Core.Path.{_≡_, subst}
+use Prim.Native.Nat.{ℕ, suc, _+_, _-_, _*_, _≤_, _<_}
+use native.Mathlib.Nat.{mod-lt}
+use native.Mathlib.Omega.{arith}
+use borrow.Author.Tests.{leb-true, ltb-true, eqb-true, le-leb, eq-eqb, lt-ltb}
+use lib.Dec.{T, ltb, ltb→lt}
+use lib.ListN.{length}
+use Rattle.numbers.specs.Range.{first}
+use Rattle.numbers.specs.Tests.{allBelow}
+use Rattle.numbers.proofs.Tests.{both, refuted, all-at, true-T}
+use Rattle.numbers.proofs.Range.{first-le, first-at, first-least, first-is}
+use Rattle.rules.specs.Cycle.{phases, phaseStart, phaseEnd, seconds, point, rises, isSpeed, valid, positions, phaseAt}
+
+pub record Sound (b : List ℕ) : Type 0 where
+  pub some-phase : 1 ≤ phases b
+  pub few-phases : phases b ≤ 4
+  pub long : 2 ≤ seconds b
+  pub short : seconds b ≤ 2400
+  pub whole : length b ≡ 1 + 2 * phases b + 2 * (seconds b + 1)
+  pub all-rise : allBelow (phases b) (rises b) ≡ true
+  pub all-speeds : allBelow (seconds b + 1) (isSpeed b) ≡ true
+
+pub sound : (b : List ℕ) → valid b ≡ true → Sound b
+unfolding valid
+sound b e =
+    let e₆ = both _ _ e in
+    let e₅ = both _ _ (e₆ .0) in
+    let e₄ = both _ _ (e₅ .0) in
+    let e₃ = both _ _ (e₄ .0) in
+    let e₂ = both _ _ (e₃ .0) in
+    let e₁ = both _ _ (e₂ .0) in
+    record {
+      some-phase = leb-true _ _ (e₁ .0);
+      few-phases = leb-true _ _ (e₁ .1);
+      long = leb-true _ _ (e₂ .1);
+      short = leb-true _ _ (e₃ .1);
+      whole = eqb-true _ _ (e₄ .1);
+      all-rise = e₅ .1;
+      all-speeds = e₆ .1;
+    }
+
+-- where all else holds, the test of the points decides
+pub valid-by-points : (b : List ℕ) → 1 ≤ phases b → phases b ≤ 4 → 2 ≤ seconds b → seconds b ≤ 2400
+    → length b ≡ 1 + 2 * phases b + 2 * (seconds b + 1) → allBelow (phases b) (rises b) ≡ true → valid b ≡ allBelow (seconds b + 1) (isSpeed b)
+unfolding valid
+valid-by-points b p₁ p₂ t₁ t₂ n e = simp (le-leb _ _ p₁, le-leb _ _ p₂, le-leb _ _ t₁, le-leb _ _ t₂, eq-eqb _ _ n, e)
+
+pub not-valid : (b : List ℕ) → (Sound b → ⊥) → valid b ≡ false
+not-valid b h = refuted (valid b) (λ e. h (sound b e))
+
+-- phase k ends after it starts; point k is a speed
+pub rising : {b : List ℕ} → Sound b → (k : ℕ) → k < phases b → phaseStart b k < phaseEnd b k
+rising {b} o k h = ltb-true _ _ (all-at (phases b) (rises b) (o .all-rise) k h)
+
+pub speeds : {b : List ℕ} → Sound b → (k : ℕ) → k < seconds b + 1 → point b k ≤ 1500
+speeds {b} o k h = leb-true _ _ (all-at (seconds b + 1) (isSpeed b) (o .all-speeds) k h)
+
+-- a cycle has a position
+pub real : {b : List ℕ} → Sound b → 0 < positions b
+real o = omega (arith, o .long)
+
+-- ---- the phase of a position
+
+module _ (b : List ℕ) (p : ℕ) where
+  -- position p of phase k is before the phase's end, and at or after the end of the phase before
+  pub phase-before : (k : ℕ) → k < phases b → phaseAt b p ≡ k → p < 20 * phaseEnd b k
+  unfolding phaseAt
+  phase-before k h e =
+      subst (λ (i : ℕ). p < 20 * phaseEnd b i) e
+      (ltb→lt p _ (first-at (λ i. ltb p (20 * phaseEnd b i)) (phases b) (omega arith)))
+
+  -- a position before the end of phase k lies in it or in an earlier one
+  pub phase-least : (k : ℕ) → p < 20 * phaseEnd b k → phaseAt b p ≤ k
+  unfolding phaseAt
+  phase-least k l = first-least (λ i. ltb p (20 * phaseEnd b i)) (phases b) k (true-T (lt-ltb p _ l))
+
+  pub phase-exists : Sound b → p < positions b → phaseAt b p < phases b
+  phase-exists o l = omega (arith, o .some-phase, phase-least (phases b - 1) l)
+
+  -- so that it has a place in the ledger
+  pub four : Sound b → p < positions b → phaseAt b p < 4
+  four o l = omega (arith, phase-exists o l, o .few-phases)

@@ -1,0 +1,60 @@
+-- 'Numbers on the bench': the limits, and what a sample brings.
+-- Assumes nothing.
+use mathlib.Core.Bool.{Bool, _&&_}
+use Prim.Native.Nat.{ℕ}
+use lib.Dec.{leb}
+use lib.IntN.{ℤ, pos, negℤ, _*ℤ_}
+use Rattle.numbers.specs.Whole.{between}
+pub use Rattle.rules.specs.declared.Sample.{Sample}
+pub use Rattle.rules.specs.declared.Tolerances.{Tolerances}
+pub use Rattle.rules.specs.declared.End.{End}
+pub use Rattle.rules.specs.declared.End.the-variants.{None as none, Stop as stop, Limit as limit}
+
+-- "Speed 0..1500 .. Voltage 0..15000 .. Current -10000..10000"
+abbrev pub mostSpeed : ℕ
+mostSpeed = 1500
+
+abbrev pub mostVoltage : ℕ
+mostVoltage = 15000
+
+abbrev pub mostCurrent : ℕ
+mostCurrent = 10000
+
+-- every value of the sample is within its limits
+unfoldable pub isSample : Sample → Bool
+isSample x =
+    leb (x .speed) mostSpeed
+    && leb (x .voltage) mostVoltage
+    && between (negℤ (pos mostCurrent)) (pos mostCurrent) (x .current)
+
+-- "Drawn energy of a sample is -(voltage × current), in units of 0.5 mJ"
+abbrev pub drawn : Sample → ℤ
+drawn x = negℤ (pos (x .voltage) *ℤ x .current)
+
+-- "Distance of a sample is its speed, in units of 1/720 m"
+abbrev pub distance : Sample → ℕ
+distance x = x .speed
+
+-- "A cycle has T seconds, 2 <= T <= 2400 .. and 1 to 4 phases"
+abbrev pub leastSeconds : ℕ
+leastSeconds = 2
+
+abbrev pub mostSeconds : ℕ
+mostSeconds = 2400
+
+abbrev pub mostPhases : ℕ
+mostPhases = 4
+
+-- "A run has at most 64 cycles. At most 4,000,000 samples may be offered, and at most 4,000,000 blocks passed over."
+abbrev pub mostCycles : ℕ
+mostCycles = 64
+
+abbrev pub mostOffered : ℕ
+mostOffered = 4_000_000
+
+abbrev pub mostPassed : ℕ
+mostPassed = 4_000_000
+
+-- "Tolerances: speed 0..100 (0.1 km/h), time 0..40 positions, allowance 0..1200 samples."
+unfoldable pub tolerable : Tolerances → Bool
+tolerable t = leb (t .speed) 100 && leb (t .time) 40 && leb (t .allowance) 1200

@@ -1,0 +1,38 @@
+-- Which samples count, whatever cycle each stands in and whatever makes it outside. Sample j stands in `cycle j`; `out j` says whether it is outside.
+-- Assumes nothing.
+use mathlib.Core.Bool.{Bool, cond}
+use Prim.Native.Nat.{ℕ, suc, _+_, min}
+use lib.Dec.{ltb, eqb}
+use Rattle.numbers.specs.Range.{sumOf, first}
+use Rattle.numbers.specs.Tests.{bit}
+use Rattle.rules.specs.Bench.{End, none, stop, limit}
+
+module _ (cycle : ℕ → ℕ) (out : ℕ → Bool) where
+  -- "Outside samples are counted afresh in each cycle": of the first m, those of cycle c that are outside
+  abbrev pub outside : ℕ → ℕ → ℕ
+  outside c = sumOf (λ j. eqb (cycle j) c) (λ j. bit (out j))
+
+  -- sample j "brings this count above the allowance"
+  unfoldable pub over : ℕ → ℕ → Bool
+  over allowance j = ltb allowance (outside (cycle j) (suc j))
+
+-- of n samples offered, at most `most` can count
+abbrev pub room : ℕ → ℕ → ℕ
+room most n = min n most
+
+-- `ends j` says whether sample j brings its count above the allowance
+module _ (ends : ℕ → Bool) (most n : ℕ) where
+  -- "The run stops at the first sample" that does; its "energy and distance are not counted"
+  abbrev pub counted : ℕ
+  counted = first ends (room most n)
+
+  abbrev pub stopped : Bool
+  stopped = ltb counted (room most n)
+
+  -- "That sample is marked and counted as outside": it is judged, as those counted are
+  abbrev pub judged : ℕ
+  judged = counted + bit stopped
+
+  -- "The run also ends, by limit, when" as many as can count are counted
+  abbrev pub ending : End
+  ending = cond stopped stop (cond (ltb counted most) none limit)

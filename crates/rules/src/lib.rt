@@ -1,0 +1,22 @@
+// Document 01: the types that its rules speak of. The definitions are in specs/, their laws in proofs/.
+
+// Speed in 0.1 km/h, voltage in 0.1 V, current in 0.1 A, negative while the battery is drained.
+pub struct Sample {
+    pub speed: u16,
+    pub voltage: u16,
+    pub current: i16,
+}
+
+// Speed in 0.1 km/h, time in positions, the allowance in samples.
+pub struct Tolerances {
+    pub speed: u32,
+    pub time: u32,
+    pub allowance: u32,
+}
+
+// How a run has ended.
+pub enum End {
+    None,
+    Stop,
+    Limit,
+}
