@@ -1,0 +1,2 @@
+-- The laws that the question's proof cites.
+pub mod Answers

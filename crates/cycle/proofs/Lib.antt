@@ -1,0 +1,2 @@
+-- The laws that the cycle's functions cite.
+pub mod Window
