@@ -6,10 +6,11 @@ use mathlib.Core.Path.{_≡_, refl}
 use Prim.Native.Nat.{ℕ, _+_, _*_, _/_, _%_, _≤_, _<_}
 use native.Mathlib.Nat.{zero-mul, add-zero, le-refl, le-trans, add-le-add}
 use native.Mathlib.Omega.{arith}
-use lib.Dec.{T, leb, lit≤, leb→le, nleb→lt}
+use borrow.Author.Tests.{leb-true}
+use lib.Dec.{T, leb, lit≤, nleb→lt}
 use Rattle.numbers.proofs.Range.{least-at, greatest-at, least-wider, greatest-wider}
-use Rattle.numbers.proofs.Tests.{and-mono, leb-mono}
-use Rattle.rules.specs.Bench.{Tolerances}
+use Rattle.numbers.proofs.Tests.{both, and-mono, leb-mono}
+use Rattle.rules.specs.Bench.{Tolerances, tolerable}
 use Rattle.rules.specs.Cycle.{seconds, point, positions}
 use Rattle.rules.specs.Band.{grid20, from, upto, lo, hi, insideOf, belowOf, aboveOf, side, inside, below, above, verdict}
 
@@ -72,7 +73,30 @@ module _ (b : List ℕ) (t : Tolerances) (p v : ℕ) where
       go true false s n = refl
       go false y s n = absurd (n tt)
 
--- ---- wider tolerances
+-- "0 inside, 1 below, 2 above": no verdict is more
+pub verdict-most : (b : List ℕ) (t : Tolerances) (p v : ℕ) → verdict b t p v ≤ 2
+unfolding verdict side
+verdict-most b t p v = go (leb _ (20 * v + 20 * t .speed)) (leb (20 * v) _)
+  where
+    go : (x y : Bool) → cond (x && y) 0 (cond (not x) 1 2) ≤ 2
+    go true true = lit≤ tt
+    go true false = lit≤ tt
+    go false y = lit≤ tt
+
+-- ---- the tolerances
+
+-- what the test says of them
+pub record Tolerated (t : Tolerances) : Type 0 where
+  pub speed : t .speed ≤ 100
+  pub time : t .time ≤ 40
+  pub allowance : t .allowance ≤ 1200
+
+pub tolerated : (t : Tolerances) → tolerable t ≡ true → Tolerated t
+unfolding tolerable
+tolerated t e =
+    let e₂ = both (leb (t .speed) 100 && leb (t .time) 40) _ e in
+    let e₁ = both (leb (t .speed) 100) _ (e₂ .0) in
+    record { speed = leb-true _ _ (e₁ .0); time = leb-true _ _ (e₁ .1); allowance = leb-true _ _ (e₂ .1) }
 
 -- each of the three tolerances is kept or widened
 pub record Widened (t t′ : Tolerances) : Type 0 where

@@ -13,9 +13,9 @@ use Rattle.numbers.proofs.Tests.{pass, stop, tests}
 use Rattle.rules.specs.declared.Tolerances.{Tolerances}
 use Rattle.rules.specs.Bench.{tolerable}
 use Rattle.rules.specs.Cycle.{valid}
+use Rattle.rules.proofs.Band.{tolerated, verdict-most}
 use Rattle.rules.proofs.Sound.{sound}
 use Rattle.bench.specs.Question.{question}
-use Rattle.bench.proofs.Answers.{short-time, verdict-small}
 use Rattle.bench.proofs.paperwhelk_verdict.Statement.{statement}
 use Rattle.bench.proofs.paperwhelk_verdict.Tie as tie
 
@@ -26,11 +26,11 @@ given s = record { speed = s .args .speed-tol; time = s .args .time-tol; allowan
 is-valid : (c : tie.Else1) → valid (c .before .before .before .args .cycle .now) ≡ true
 is-valid c = sym (c .before .is-cycle .ensures) ∙ not-false _ (c .if1 .left)
 
-tolerated : (c : tie.Else2) → tolerable (given (c .before .before .before .before .before)) ≡ true
-tolerated c = sym (c .before .is-tolerable .ensures) ∙ not-false _ (c .if2 .left)
+is-tolerated : (c : tie.Else2) → tolerable (given (c .before .before .before .before .before)) ≡ true
+is-tolerated c = sym (c .before .is-tolerable .ensures) ∙ not-false _ (c .if2 .left)
 
 small : (c : tie.After-verdict-at) → c .verdict-at .result < 2 ^ 31
-small c = let h : c .verdict-at .result ≤ 2 = rw (c .verdict-at .ensures) (verdict-small _ _ _ _) in omega arith
+small c = let h : c .verdict-at .result ≤ 2 = rw (c .verdict-at .ensures) (verdict-most _ _ _ _) in omega arith
 
 is-cycle-requires : tie.Need-is-cycle-requires
 is-cycle-requires c κs = search needs
@@ -58,20 +58,20 @@ returns-3 : tie.Need-returns-3
 unfolding question
 returns-3 c =
     pass _ (is-valid (c .before .before .before .before))
-    (pass _ (tolerated (c .before .before))
+    (pass _ (is-tolerated (c .before .before))
     (stop _ (omega tests)))
 
 returns-4 : tie.Need-returns-4
 unfolding question
 returns-4 c =
     pass _ (is-valid (c .before .before .before .before .before))
-    (pass _ (tolerated (c .before .before .before))
+    (pass _ (is-tolerated (c .before .before .before))
     (pass _ (omega tests)
     (stop _ (omega tests))))
 
 verdict-at-requires : tie.Need-verdict-at-requires
 verdict-at-requires c κs =
-    (is-valid (c .before .before .before .before .before), short-time _ (tolerated (c .before .before .before)), omega arith)
+    (is-valid (c .before .before .before .before .before), tolerated _ (is-tolerated (c .before .before .before)) .time, omega arith)
 
 cast-result : tie.Need-cast-result
 cast-result c = record { sfits = small c }
@@ -80,7 +80,7 @@ returns-5 : tie.Need-returns-5
 unfolding question
 returns-5 c =
     pass _ (is-valid (c .before .before .before .before .before .before))
-    (pass _ (tolerated (c .before .before .before .before))
+    (pass _ (is-tolerated (c .before .before .before .before))
     (pass _ (omega tests)
     (pass _ (omega tests)
     (toZ-pos w32 _ (small c) ∙ ap pos (c .verdict-at .ensures)))))

@@ -1,2 +1,0 @@
--- The laws that the question's proof cites.
-pub mod Answers
