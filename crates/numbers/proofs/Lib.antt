@@ -4,4 +4,5 @@ pub mod Order
 pub mod Range
 pub mod Whole
 pub mod Lists
+pub mod Sums
 pub mod Bytes

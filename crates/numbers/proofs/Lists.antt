@@ -5,8 +5,8 @@ use Prim.Native.Nat.{ℕ, zero, suc, _+_, _≤_, _<_}
 use native.Mathlib.Nat.{zero-add, suc-add, not-suc-le-zero, le-of-suc-le-suc}
 use native.Mathlib.Omega.{arith}
 use native.Mathlib.Numerals.{add-one}
-use lib.ListN.{length, getD, set, take, length-replicate, length-append, length-drop, List·getD-append}
-use lib.Seq.{set-append-left, getD-append-add, length-take-le}
+use lib.ListN.{length, getD, set, take, drop, replicate, length-replicate, length-append, length-drop, getD-replicate, List·getD-append}
+use lib.Seq.{set-append-left, getD-append-add, length-take-le, drop-at}
 use borrow.Rule.Slice.PartMut.{putMid, postOf}
 use Rattle.numbers.specs.Lists.{cleared}
 
@@ -56,3 +56,11 @@ module _ {A : Type 0} where
   pub length-cleared : (z : A) (n : ℕ) (l : List A) → n ≤ length l → length (cleared z n l) ≡ length l
   unfolding cleared
   length-cleared z n l h = simp (length-append, length-replicate, length-drop) (omega arith)
+
+  pub getD-cleared : (z : A) (n : ℕ) (l : List A) (i : ℕ) (d : A) → i < n → getD (cleared z n l) i d ≡ z
+  unfolding cleared
+  getD-cleared z n l i d h = List·getD-append (replicate n z) (drop n l) d i (omega (arith, length-replicate n z)) ∙ getD-replicate n i z d h
+
+  pub drop-cleared : (z : A) (n : ℕ) (l : List A) → drop n (cleared z n l) ≡ drop n l
+  unfolding cleared
+  drop-cleared z n l = drop-at (replicate n z) (drop n l) n (length-replicate n z)

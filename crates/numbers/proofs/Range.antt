@@ -99,7 +99,7 @@ sum-ℤ = record {
 }
 
 module _ {A : Type 0} (op : A → A → A) (z : A) (laws : Sum op z) where
-  fold-none : (f : ℕ → A) (n : ℕ) → ((k : ℕ) → k < n → f k ≡ z) → fold op z f n ≡ z
+  pub fold-none : (f : ℕ → A) (n : ℕ) → ((k : ℕ) → k < n → f k ≡ z) → fold op z f n ≡ z
   unfolding fold
   fold-none f zero h = refl
   fold-none f (suc n) h = ap₂ op (fold-none f n (λ k l. h k (le-step l))) (h n (le-refl (suc n))) ∙ laws .idr z

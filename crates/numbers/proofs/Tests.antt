@@ -1,11 +1,11 @@
 -- Laws of tests: joined, at every number below n as a loop builds it, at every element, and along a chain of refusals.
 -- Assumes nothing.
-use mathlib.Core.Bool.{Bool, true, false, not, cond, _&&_, false≢true}
+use mathlib.Core.Bool.{Bool, true, false, not, _&&_, false≢true}
 use mathlib.Core.List.{List, [], _∷_}
 use mathlib.Core.Logic.{⊎-elim}
 use mathlib.Core.Path.{_≡_, refl, sym, ap, subst, _∙_}
 use Prim.Native.Nat.{ℕ, zero, suc, _+_, _≤_, _<_, zero-le}
-use native.Mathlib.Nat.{le-refl, le-of-suc-le-suc, not-suc-le-zero, eq-or-lt-of-le}
+use native.Mathlib.Nat.{le-refl, le-step, le-of-suc-le-suc, not-suc-le-zero, eq-or-lt-of-le}
 use native.Mathlib.Numerals.{add-one}
 use native.Mathlib.Omega.{arith}
 use lib.Dec.{T, T-not, leb, leb→le, le→leb}
@@ -88,6 +88,11 @@ all-at zero f e k h = absurd (not-suc-le-zero h)
 all-at (suc n) f e k h =
     let (r, l) = both (allBelow n f) (f n) e in
     ⊎-elim (λ p. ap f p ∙ l) (λ p. all-at n f r k p) (eq-or-lt-of-le (le-of-suc-le-suc h))
+
+pub all-by : (n : ℕ) (test : ℕ → Bool) → ((k : ℕ) → k < n → test k ≡ true) → allBelow n test ≡ true
+unfolding allBelow
+all-by zero test h = refl
+all-by (suc n) test h = rw (all-by n test (λ k l. h k (le-step l))) (h n (le-refl (suc n)))
 
 -- ---- at every element
 

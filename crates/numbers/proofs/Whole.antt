@@ -1,7 +1,7 @@
 -- ℤ for `omega`, which reads only ℕ. An integer z is `up z` less `down z`, two naturals. Sums, negation, order, equality and size of
 -- integers are stated here once, each as a linear fact on those naturals, so that a fact on integers is `omega` on theirs. Assumes nothing.
 use mathlib.Core.Path.{_≡_, refl, sym, ap, ap₂, _∙_, subst}
-use mathlib.Core.Bool.{Bool, true, false, cond}
+use mathlib.Core.Bool.{Bool, true, false, cond, not, false≢true}
 use mathlib.Core.List.{List}
 use Prim.Native.Nat.{ℕ, zero, suc, _+_, _*_, _-_, _^_, _≤_}
 use native.Mathlib.Nat.{lt-of-lt-of-le, le-trans, mul-le-mul}
@@ -12,7 +12,7 @@ use lib.Dec.{T, leb, ltb, eqb, leb→le, ltb→lt}
 use lib.IntN.{ℤ, pos, negsuc, negℤ, natAbs, subℕ, _+ℤ_, _*ℤ_}
 use lib.ListN.{getD}
 use lib.Pow.{pow-mono}
-use lib.Signed.{leZ}
+use lib.Signed.{leZ, ltZ}
 use mir.Syntax.{Width}
 use mir.Val.{SFits, bits, hbits, toZ, ofZ}
 use mir.ValLaws.{toZ-ofZ, pow-bits}
@@ -86,6 +86,20 @@ up-le a b h = le-is a b ∙ le-leb (up a + down b) (up b + down a) h
 pub le-add : (a b c d : ℤ) → leZ a b ≡ true → leZ c d ≡ true → leZ (a +ℤ c) (b +ℤ d) ≡ true
 le-add a b c d h k = up-le (a +ℤ c) (b +ℤ d) (omega (arith, le-up a b h, le-up c d k, sum-is a c, sum-is b d))
 
+-- the two tests of order
+leb-not : (a b : ℕ) → leb b a ≡ not (ltb a b)
+leb-not a b = go (ltb a b) refl
+  where
+    go : (t : Bool) → ltb a b ≡ t → leb b a ≡ not t
+    go true e = lt-leb b a (ltb-true a b e)
+    go false e = le-leb b a (ltb-false a b e)
+
+pub le-not : (a b : ℤ) → leZ b a ≡ not (ltZ a b)
+le-not (pos a) (pos b) = leb-not a b
+le-not (pos a) (negsuc b) = refl
+le-not (negsuc a) (pos b) = refl
+le-not (negsuc a) (negsuc b) = leb-not b a
+
 -- ---- size
 
 pub abs-is : (a : ℤ) → natAbs a ≡ up a + down a
@@ -157,6 +171,11 @@ between-sized n z s =
 
 pub between-upto : (n m : ℕ) → m ≤ n → between (pos 0) (pos n) (pos m) ≡ true
 between-upto n m h = rw (up-le (pos 0) (pos m) (omega arith), up-le (pos m) (pos n) (omega arith))
+
+-- a number that is not negative is a natural one
+pub natural-is : (n : ℕ) (z : ℤ) → between (pos 0) (pos n) z ≡ true → (pos (up z) ≡ z) × (up z ≤ n)
+natural-is n (pos m) e = (refl, leb-true m n (both (leb 0 m) (leb m n) e .1))
+natural-is n (negsuc m) e = absurd (false≢true e)
 
 -- the size of a sum is at most the sum of the sizes
 pub sized-gather : (test : ℕ → Bool) (f : ℕ → ℤ) (m : ℕ) → Sized (sumOf test (λ j. natAbs (f j)) m) (sumOfℤ test f m)

@@ -3,7 +3,7 @@
 use mathlib.Core.Bool.{Bool, true, false, not, cond, _&&_}
 use mathlib.Core.List.{List}
 use mathlib.Core.Path.{_≡_, refl}
-use Prim.Native.Nat.{ℕ, _+_, _*_, _/_, _%_, _≤_, _<_}
+use Prim.Native.Nat.{ℕ, _+_, _*_, _/_, _%_, _≤_}
 use native.Mathlib.Nat.{zero-mul, add-zero, le-refl, le-trans, add-le-add}
 use native.Mathlib.Omega.{arith}
 use borrow.Author.Tests.{leb-true}
@@ -12,7 +12,7 @@ use Rattle.numbers.proofs.Range.{least-at, greatest-at, least-wider, greatest-w
 use Rattle.numbers.proofs.Tests.{both, and-mono, leb-mono}
 use Rattle.rules.specs.Bench.{Tolerances, tolerable}
 use Rattle.rules.specs.Cycle.{seconds, point, positions}
-use Rattle.rules.specs.Band.{grid20, from, upto, lo, hi, insideOf, belowOf, aboveOf, side, inside, below, above, verdict}
+use Rattle.rules.specs.Band.{grid20, from, upto, lo, hi, insideOf, belowOf, side, inside, below, above, verdict}
 
 -- "at place 20T it is 20 × point T"
 pub grid20-end : (b : List ℕ) → grid20 b (positions b) ≡ 20 * point b (seconds b)

@@ -6,10 +6,10 @@ use mathlib.Core.Path.{_≡_, refl}
 use Prim.Native.Nat.{ℕ, zero, suc, _+_, _-_, _*_, _/_, _%_, _≤_, _<_, zero-le}
 use native.Mathlib.Nat.{le-trans, mod-lt, div-add-mod', mul-le-mul-left}
 use native.Mathlib.Omega.{arith}
-use lib.Dec.{T, ltb, eqb, leb}
-use lib.IntN.{ℤ, pos, negℤ, natAbs}
+use lib.Dec.{T, ltb, leb}
+use lib.IntN.{pos, negℤ, natAbs}
 use borrow.Author.Tests.{eqb-true, leb-true}
-use Rattle.numbers.specs.Range.{fold, gather, sumOf, sumOfℤ}
+use Rattle.numbers.specs.Range.{fold, gather, sumOf}
 use Rattle.numbers.specs.Tests.{bit}
 use Rattle.numbers.specs.Whole.{between, Sized}
 use Rattle.numbers.proofs.Range.{gather-most}
@@ -18,7 +18,7 @@ use Rattle.numbers.proofs.Whole.{of-nat, weaken, sized-neg, sized-mul, sized-be
 use Rattle.rules.specs.Bench.{Sample, Tolerances, isSample, drawn, mostSpeed, mostVoltage}
 use Rattle.rules.specs.Cycle.{positions}
 use Rattle.rules.specs.Run.{ofCycle, ofPhase, phaseEnergy, phaseDistance, energyShare, distanceShare, out, outside, over, most, counted, judged}
-use Rattle.rules.specs.Shown.{ofNine, inBounds, figure}
+use Rattle.rules.specs.Shown.{inBounds, figure}
 use Rattle.rules.proofs.Sound.{Sound, real}
 use Rattle.rules.proofs.Tally.{counted-le}
 
@@ -39,7 +39,7 @@ pub drawn-sized : {x : Sample} → Within x → Sized 150_000_000 (drawn x)
 drawn-sized w = sized-neg (sized-mul (of-nat (w .voltage)) (w .current))
 
 -- a cycle has N samples
-cycle-most : (b : List ℕ) → Sound b → (c m : ℕ) → (sumOf (ofCycle b c) (λ j. 1) m ≤ m - c * positions b) × (sumOf (ofCycle b c) (λ j. 1) m ≤ positions b)
+pub cycle-most : (b : List ℕ) → Sound b → (c m : ℕ) → (sumOf (ofCycle b c) (λ j. 1) m ≤ m - c * positions b) × (sumOf (ofCycle b c) (λ j. 1) m ≤ positions b)
 unfolding fold gather
 cycle-most b o c zero = (zero-le, zero-le)
 cycle-most b o c (suc m) = go (ofCycle b c m) refl (cycle-most b o c m)

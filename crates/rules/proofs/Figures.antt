@@ -3,10 +3,10 @@
 use mathlib.Core.Bool.{Bool, true}
 use mathlib.Core.List.{List}
 use mathlib.Core.Path.{_≡_, ap, _∙_}
-use Prim.Native.Nat.{ℕ, _+_, _*_, _/_, _%_, _≤_, _<_, zero-le}
+use Prim.Native.Nat.{ℕ, _+_, _*_, _/_, _≤_, _<_, zero-le}
 use native.Mathlib.Nat.{le-trans, mod-lt, div-add-mod', add-zero, le-div-iff-mul-le, div-lt-iff-lt-mul}
 use native.Mathlib.Omega.{arith}
-use lib.Dec.{T, ltb, leb, ltb→lt, leb→le, eqb→eq}
+use lib.Dec.{T, ltb, ltb→lt, leb→le, eqb→eq}
 use lib.IntN.{pos, _+ℤ_, +ℤ-idr}
 use borrow.Author.Tests.{lt-ltb, le-leb}
 use Rattle.numbers.specs.Range.{fold, gather}

@@ -2,17 +2,18 @@
 -- Assumes nothing.
 use mathlib.Core.Bool.{true, false}
 use mathlib.Core.List.{List}
-use mathlib.Core.Path.{_≡_, subst}
+use mathlib.Core.Logic.{_⊎_, ⊎-elim}
+use mathlib.Core.Path.{_≡_, refl, ap, subst}
 use Prim.Native.Nat.{ℕ, suc, _+_, _-_, _*_, _≤_, _<_}
-use native.Mathlib.Nat.{mod-lt}
+use native.Mathlib.Nat.{not-suc-le-zero, le-of-suc-le-suc, eq-or-lt-of-le}
 use native.Mathlib.Omega.{arith}
-use borrow.Author.Tests.{leb-true, ltb-true, eqb-true, le-leb, eq-eqb, lt-ltb}
-use lib.Dec.{T, ltb, ltb→lt}
+use borrow.Author.Tests.{leb-true, ltb-true, eqb-true, le-leb, eq-eqb, lt-ltb, le-ltb}
+use lib.Dec.{ltb, ltb→lt, nltb→le}
 use lib.ListN.{length}
-use Rattle.numbers.specs.Range.{first}
 use Rattle.numbers.specs.Tests.{allBelow}
 use Rattle.numbers.proofs.Tests.{both, refuted, all-at, true-T}
-use Rattle.numbers.proofs.Range.{first-le, first-at, first-least, first-is}
+use Rattle.numbers.proofs.Order.{side}
+use Rattle.numbers.proofs.Range.{first-at, first-before, first-least, first-is}
 use Rattle.rules.specs.Cycle.{phases, phaseStart, phaseEnd, seconds, point, rises, isSpeed, valid, positions, phaseAt}
 
 pub record Sound (b : List ℕ) : Type 0 where
@@ -84,3 +85,39 @@ module _ (b : List ℕ) (p : ℕ) where
   -- so that it has a place in the ledger
   pub four : Sound b → p < positions b → phaseAt b p < 4
   four o l = omega (arith, phase-exists o l, o .few-phases)
+
+-- the phase of the first position, and that of the next
+module _ (b : List ℕ) (o : Sound b) where
+  pub phase-first : phaseAt b 0 ≡ 0
+  unfolding phaseAt
+  phase-first =
+      first-is (λ k. ltb 0 (20 * phaseEnd b k)) (phases b) 0 (o .some-phase) (λ j l. absurd (not-suc-le-zero l))
+      (lt-ltb 0 (20 * phaseEnd b 0) (omega (arith, rising o 0 (o .some-phase))))
+
+  module _ (p : ℕ) (h : suc p < positions b) where
+    passed : (j : ℕ) → j < phaseAt b p → ltb (suc p) (20 * phaseEnd b j) ≡ false
+    unfolding phaseAt
+    passed j l =
+        let g = nltb→le p (20 * phaseEnd b j) (first-before (λ k. ltb p (20 * phaseEnd b k)) (phases b) j l) in
+        le-ltb (suc p) (20 * phaseEnd b j) (omega arith)
+
+    pub phase-stays : suc p < 20 * phaseEnd b (phaseAt b p) → phaseAt b (suc p) ≡ phaseAt b p
+    unfolding phaseAt
+    phase-stays g =
+        first-is (λ k. ltb (suc p) (20 * phaseEnd b k)) (phases b) (phaseAt b p) (phase-exists b p o (omega arith)) passed (lt-ltb _ _ g)
+
+    pub phase-next : 20 * phaseEnd b (phaseAt b p) ≤ suc p → phaseAt b (suc p) ≡ suc (phaseAt b p)
+    unfolding phaseAt
+    phase-next g =
+        let k = phaseAt b p in
+        let exists = phase-exists b p o (omega arith) in
+        let before = phase-before b p k exists refl in
+        let more : suc k < phases b = last (side (phases b) (suc k)) in
+        first-is (λ i. ltb (suc p) (20 * phaseEnd b i)) (phases b) (suc k) more
+        (λ j l. ⊎-elim (λ (e : j ≡ k). rw e (le-ltb (suc p) _ g)) (λ i. passed j i) (eq-or-lt-of-le (le-of-suc-le-suc l)))
+        (lt-ltb (suc p) (20 * phaseEnd b (suc k)) (omega (arith, rising o (suc k) more)))
+      where
+        last : (phases b ≤ suc (phaseAt b p)) ⊎ (suc (phaseAt b p) < phases b) → suc (phaseAt b p) < phases b
+        last = ⊎-elim (λ (e : phases b ≤ suc (phaseAt b p)).
+            let k : phases b - 1 ≡ phaseAt b p = omega (arith, phase-exists b p o (omega arith)) in
+            absurd (let f = ap (phaseEnd b) k in omega arith)) (λ l. l)

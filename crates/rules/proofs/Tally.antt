@@ -7,22 +7,17 @@ use Prim.Native.Nat.{ℕ, suc, _+_, _≤_, _<_, suc-le-suc}
 use native.Mathlib.Nat.{le-refl, le-antisymm, add-zero}
 use native.Mathlib.Numerals.{add-one}
 use native.Mathlib.Omega.{arith}
-use lib.Dec.{T, ltb, eqb, ltb→lt, le→leb}
+use lib.Dec.{T, ltb, ltb→lt, le→leb}
 use borrow.Author.Tests.{lt-ltb, le-ltb}
 use Rattle.numbers.specs.Range.{first}
 use Rattle.numbers.specs.Tests.{bit}
 use Rattle.numbers.proofs.Order.{side}
 use Rattle.numbers.proofs.Range.{gather-le, gather-same, first-le, first-at, first-least, first-later, first-stays, first-next}
 use Rattle.numbers.proofs.Tests.{leb-mono, bit-le}
-use Rattle.rules.specs.Bench.{End, none, stop, limit}
+use Rattle.rules.specs.Bench.{End, none, stop, limit, isOpen}
 use Rattle.rules.specs.Tally.{outside, over, room, counted, stopped, judged, ending}
 
 -- ---- one more sample: it comes after the end, or it stops the run, or it counts
-
-abbrev pub isOpen : End → Bool
-isOpen none = true
-isOpen stop = false
-isOpen limit = false
 
 pub record Tally : Type 0 where
   pub counted : ℕ

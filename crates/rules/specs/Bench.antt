@@ -1,6 +1,6 @@
 -- 'Numbers on the bench': the limits, and what a sample brings.
 -- Assumes nothing.
-use mathlib.Core.Bool.{Bool, _&&_}
+use mathlib.Core.Bool.{Bool, true, false, _&&_}
 use Prim.Native.Nat.{ℕ}
 use lib.Dec.{leb}
 use lib.IntN.{ℤ, pos, negℤ, _*ℤ_}
@@ -58,3 +58,9 @@ mostPassed = 4_000_000
 -- "Tolerances: speed 0..100 (0.1 km/h), time 0..40 positions, allowance 0..1200 samples."
 unfoldable pub tolerable : Tolerances → Bool
 tolerable t = leb (t .speed) 100 && leb (t .time) 40 && leb (t .allowance) 1200
+
+-- the run has not ended
+abbrev pub isOpen : End → Bool
+isOpen none = true
+isOpen stop = false
+isOpen limit = false

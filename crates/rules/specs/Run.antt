@@ -1,11 +1,10 @@
 -- A run of the samples s 0, s 1, .., of which n are offered, by the cycle b and the tolerances t.
 -- Assumes nothing.
-use mathlib.Core.Bool.{Bool, not, cond, _&&_}
+use mathlib.Core.Bool.{Bool, not, _&&_}
 use mathlib.Core.List.{List}
-use Prim.Native.Nat.{ℕ, _+_, _*_, _/_, _%_, _≤_, _<_}
+use Prim.Native.Nat.{ℕ, _+_, _*_, _/_, _%_}
 use lib.Dec.{ltb, leb, eqb}
 use lib.IntN.{ℤ}
-use lib.ListN.{getD}
 use Rattle.numbers.specs.Range.{sumOf, sumOfℤ, sumℤ}
 use Rattle.rules.specs.Bench.{Sample, Tolerances, End, drawn, distance, mostCycles}
 use Rattle.rules.specs.Cycle.{phases, phaseEnd, positions, phaseAt}

@@ -53,12 +53,12 @@ module _ (b : List ℕ) (t : Tolerances) (s : ℕ → Sample) (n : ℕ) where
   abbrev pub ledger : List ℤ
   ledger = table figure ledgerNumbers
 
+-- the map after j samples are judged
+module _ (b : List ℕ) (t : Tolerances) (s : ℕ → Sample) (j : ℕ) where
   -- "The map shows the cycle last judged"
   abbrev pub lastJudged : ℕ
-  lastJudged = cycleOf b (judged b t s n - 1)
+  lastJudged = cycleOf b (j - 1)
 
   -- "position p is .. set when outside": the sample of that cycle at position p is judged and outside
   unfoldable pub marked : ℕ → Bool
-  marked p =
-      let j = lastJudged * positions b + p in
-      ltb p (positions b) && ltb j (judged b t s n) && out b t s j
+  marked p = let i = lastJudged * positions b + p in ltb p (positions b) && ltb i j && out b t s i

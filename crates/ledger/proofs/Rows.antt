@@ -1,0 +1,269 @@
+-- The ledger's nine numbers of a cycle: what a sample adds to them, in the ledger and in the stretch that is lent, and what the bounds of the
+-- 576 numbers say.
+-- Assumes nothing.
+use mathlib.Core.Path.{_≡_, refl, sym, ap, ap₂, _∙_, subst}
+use mathlib.Core.Bool.{Bool, true, false, cond}
+use mathlib.Core.List.{List}
+use Prim.Native.Nat.{ℕ, _+_, _*_, _%_, _≤_, _<_}
+use native.Mathlib.Decide.{decLt}
+use native.Mathlib.Nat.{zero-add, le-refl}
+use native.Mathlib.Omega.{arith}
+use borrow.Author.Tests.{leb-true, le-leb, lt-ltb, le-ltb}
+use borrow.Rule.Slice.PartMut.{putMid, midOf, put-same}
+use lib.Dec.{leb, ltb, lit≤}
+use lib.IntN.{ℤ, pos, negℤ, _+ℤ_, +ℤ-idr}
+use lib.ListN.{length, set, drop, length-take, length-drop, length-set, List·getD-eq-default}
+use lib.Seq.{getD-set-same, getD-set-other, getD-take, getD-drop}
+use lib.Signed.{leZ, ltZ}
+use Rattle.numbers.specs.Lists.{plus}
+use Rattle.numbers.specs.Tests.{bit}
+use Rattle.numbers.specs.Whole.{between, Sized, Small}
+use Rattle.numbers.proofs.Lists.{set-either, put-set, put-getD}
+use Rattle.numbers.proofs.Tests.{both, all-at}
+use Rattle.numbers.proofs.Whole.{of-nat, weaken, sized-add, small-plus, sized-between, sized-upto}
+use Rattle.rules.specs.Shown.{inBounds, mostEnergy, mostDistance, mostOutside}
+use Rattle.ledger.specs.Row.{at, bounded, outsideAdded, isOver, sampleAdded, energyIn, distanceIn, outsideIn, energyAll, outsideAll}
+use Rattle.numbers.proofs.Sums.{sized-sum, between-sum}
+use Rattle.numbers.proofs.Tests.{all-by}
+
+-- ---- one number
+
+pub at-plus-same : (l : List ℤ) (i : ℕ) (z : ℤ) → i < length l → at (plus l i z) i ≡ at l i +ℤ z
+at-plus-same l i z h = getD-set-same l i (at l i +ℤ z) (pos 0) h
+
+pub at-plus-other : (l : List ℤ) (i j : ℕ) (z : ℤ) → (j ≡ i → ⊥) → at (plus l i z) j ≡ at l j
+at-plus-other l i j z n = getD-set-other l i j (at l i +ℤ z) (pos 0) n
+
+pub length-plus : (l : List ℤ) (i : ℕ) (z : ℤ) → length (plus l i z) ≡ length l
+length-plus l i z = length-set l i (at l i +ℤ z)
+
+-- no number beyond n, where the one that is added to was smaller by what is added
+small-plus-at : {n m x : ℕ} {z : ℤ} (l : List ℤ) (i : ℕ) → Small n l → Sized m (at l i) → Sized x z → m + x ≤ n → Small n (plus l i z)
+small-plus-at {n} {z = z} l i s t u h j =
+    set-either (Sized n) l i j (at l i +ℤ z) (pos 0) (weaken h (sized-add t u)) (s j)
+
+-- ---- a sample
+
+pub at-outside : (a : ℕ) (l : List ℤ) (out : Bool) → a + 8 < length l → at (outsideAdded a l out) (a + 8) ≡ at l (a + 8) +ℤ pos (bit out)
+at-outside a l true h = at-plus-same l (a + 8) (pos 1) h
+at-outside a l false h = sym (+ℤ-idr (at l (a + 8)))
+
+pub at-outside-other : (a : ℕ) (l : List ℤ) (out : Bool) (j : ℕ) → (j ≡ a + 8 → ⊥) → at (outsideAdded a l out) j ≡ at l j
+at-outside-other a l true j n = at-plus-other l (a + 8) j (pos 1) n
+at-outside-other a l false j n = refl
+
+pub length-outside : (a : ℕ) (l : List ℤ) (out : Bool) → length (outsideAdded a l out) ≡ length l
+length-outside a l true = length-plus l (a + 8) (pos 1)
+length-outside a l false = refl
+
+pub small-outside : {n : ℕ} (a : ℕ) (l : List ℤ) (out : Bool) → Small n l → Small (n + 1) (outsideAdded a l out)
+small-outside a l true s j = small-plus l (a + 8) s (of-nat (le-refl 1)) j
+small-outside a l false s j = weaken (omega arith) (s j)
+
+module _ (a : ℕ) (l : List ℤ) (k : ℕ) (e d : ℤ) (out : Bool) (al : ℕ) where
+  pub added-over : isOver a l out al ≡ true → sampleAdded a l k e d out al ≡ outsideAdded a l out
+  unfolding sampleAdded
+  added-over o = rw o
+
+  pub added-not-over : isOver a l out al ≡ false → sampleAdded a l k e d out al ≡ plus (plus (outsideAdded a l out) (a + k) e) (a + (4 + k)) d
+  unfolding sampleAdded
+  added-not-over o = rw o
+
+  -- the numbers once the outside count is raised, and once the energy is added too
+  abbrev l₁ : List ℤ
+  l₁ = outsideAdded a l out
+
+  abbrev l₂ : List ℤ
+  l₂ = plus l₁ (a + k) e
+
+  -- what holds of both outcomes holds of the one that is
+  added-either : (P : List ℤ → Type 0) → P l₁ → P (plus l₂ (a + (4 + k)) d) → P (sampleAdded a l k e d out al)
+  unfolding sampleAdded
+  added-either P p q = go (isOver a l out al)
+    where
+      go : (b : Bool) → P (cond b l₁ (plus l₂ (a + (4 + k)) d))
+      go true = p
+      go false = q
+
+  pub length-added : length (sampleAdded a l k e d out al) ≡ length l
+  length-added =
+      let one : length l₁ ≡ length l = length-outside a l out in
+      added-either (λ x. length x ≡ length l) one (length-plus l₂ (a + (4 + k)) d ∙ length-plus l₁ (a + k) e ∙ one)
+
+  -- ---- each place afterwards
+
+  pub at-added-outside : k < 4 → a + 8 < length l → at (sampleAdded a l k e d out al) (a + 8) ≡ at l (a + 8) +ℤ pos (bit out)
+  at-added-outside h g =
+      let one : at l₁ (a + 8) ≡ at l (a + 8) +ℤ pos (bit out) = at-outside a l out g in
+      added-either (λ x. at x (a + 8) ≡ at l (a + 8) +ℤ pos (bit out)) one
+      (at-plus-other l₂ (a + (4 + k)) (a + 8) d (λ q. omega arith) ∙ at-plus-other l₁ (a + k) (a + 8) e (λ q. omega arith) ∙ one)
+
+  pub at-added-energy : isOver a l out al ≡ false → k < 4 → a + k < length l → at (sampleAdded a l k e d out al) (a + k) ≡ at l (a + k) +ℤ e
+  at-added-energy o h g =
+      ap (λ (x : List ℤ). at x (a + k)) (added-not-over o)
+      ∙ at-plus-other l₂ (a + (4 + k)) (a + k) d (λ q. omega arith)
+      ∙ at-plus-same l₁ (a + k) e (omega (arith, length-outside a l out))
+      ∙ ap (λ (z : ℤ). z +ℤ e) (at-outside-other a l out (a + k) (λ q. omega arith))
+
+  pub at-added-distance : isOver a l out al ≡ false → k < 4 → a + (4 + k) < length l
+      → at (sampleAdded a l k e d out al) (a + (4 + k)) ≡ at l (a + (4 + k)) +ℤ d
+  at-added-distance o h g =
+      ap (λ (x : List ℤ). at x (a + (4 + k))) (added-not-over o)
+      ∙ at-plus-same l₂ (a + (4 + k)) d (omega (arith, length-plus l₁ (a + k) e, length-outside a l out))
+      ∙ ap (λ (z : ℤ). z +ℤ d)
+      (at-plus-other l₁ (a + k) (a + (4 + k)) e (λ q. omega arith) ∙ at-outside-other a l out (a + (4 + k)) (λ q. omega arith))
+
+  pub at-added-other : (j : ℕ) → (j ≡ a + k → ⊥) → (j ≡ a + (4 + k) → ⊥) → (j ≡ a + 8 → ⊥) → at (sampleAdded a l k e d out al) j ≡ at l j
+  at-added-other j n m o =
+      let one : at l₁ j ≡ at l j = at-outside-other a l out j o in
+      added-either (λ x. at x j ≡ at l j) one (at-plus-other l₂ (a + (4 + k)) j d m ∙ at-plus-other l₁ (a + k) j e n ∙ one)
+
+  -- no number grows by more than the energy: the three places differ
+  pub small-added : {n : ℕ} → k < 4 → Small n l → Sized 150_000_000 e → Sized 1_500 d
+      → Small (n + 150_000_000) (sampleAdded a l k e d out al)
+  small-added {n} h s he hd =
+      added-either (Small (n + 150_000_000)) s₁ (small-plus-at l₂ (a + (4 + k)) s₂ was₂ hd (omega arith))
+    where
+      s₁ : Small (n + 150_000_000) l₁
+      s₁ j = weaken (omega arith) (small-outside a l out s j)
+
+      was : (i : ℕ) → i < 8 → Sized n (at l₁ (a + i))
+      was i g = rw (at-outside-other a l out (a + i) (λ q. omega arith)) (s (a + i))
+
+      s₂ : Small (n + 150_000_000) l₂
+      s₂ = small-plus-at l₁ (a + k) s₁ (was k (omega arith)) he (omega arith)
+
+      was₂ : Sized n (at l₂ (a + (4 + k)))
+      was₂ = rw (at-plus-other l₁ (a + k) (a + (4 + k)) e (λ q. omega arith)) (was (4 + k) (omega arith))
+
+-- ---- the stretch of nine that is lent, and put back
+
+-- n stands for 9: of a range s..e the checker states e - s
+module _ (a n : ℕ) (xs : List ℤ) (nine : n ≡ 9) (h : a + 9 ≤ length xs) where
+  abbrev part : List ℤ
+  part = midOf a n xs
+
+  pub part-length : length (midOf a n xs) ≡ 9
+  part-length = omega (arith, length-take n (drop a xs), length-drop a xs)
+
+  put-plus : (ys : List ℤ) (j : ℕ) (z : ℤ) → j < length ys → putMid a n xs (plus ys j z) ≡ plus (putMid a n xs ys) (a + j) z
+  put-plus ys j z g =
+      put-set a n xs (omega arith) ys j (at ys j +ℤ z) g
+      ∙ ap (λ (v : ℤ). set (putMid a n xs ys) (a + j) (v +ℤ z)) (sym (put-getD a n xs (omega arith) ys j (pos 0) g))
+
+  put-outside : (out : Bool) → putMid a n xs (outsideAdded 0 part out) ≡ outsideAdded a xs out
+  put-outside true = put-plus part 8 (pos 1) (omega (arith, part-length)) ∙ ap (λ (l : List ℤ). plus l (a + 8) (pos 1)) (put-same a n xs)
+  put-outside false = put-same a n xs
+
+  pub over-part : (out : Bool) (al : ℕ) → isOver 0 (midOf a n xs) out al ≡ isOver a xs out al
+  over-part out al =
+      ap (ltZ (pos al))
+      (sym (put-getD a n xs (omega arith) (outsideAdded 0 part out) 8 (pos 0) (omega (arith, part-length, length-outside 0 part out)))
+      ∙ ap (λ (l : List ℤ). at l (a + 8)) (put-outside out))
+
+  pub put-added : (k : ℕ) (e d : ℤ) (out : Bool) (al : ℕ) → k < 4
+      → putMid a n xs (sampleAdded 0 (midOf a n xs) k e d out al) ≡ sampleAdded a xs k e d out al
+  unfolding sampleAdded
+  put-added k e d out al g = rw (over-part out al) (go (isOver a xs out al))
+    where
+      p₁ : List ℤ
+      p₁ = outsideAdded 0 part out
+
+      p₂ : List ℤ
+      p₂ = plus p₁ (0 + k) e
+
+      x₁ : List ℤ
+      x₁ = outsideAdded a xs out
+
+      x₂ : List ℤ
+      x₂ = plus x₁ (a + k) e
+
+      one : length p₁ ≡ 9
+      one = length-outside 0 part out ∙ part-length
+
+      two : putMid a n xs p₂ ≡ x₂
+      two =
+          put-plus p₁ (0 + k) e (omega (arith, one))
+          ∙ ap₂ (λ (l : List ℤ) (j : ℕ). plus l (a + j) e) (put-outside out) (zero-add k)
+
+      go : (b : Bool) → putMid a n xs (cond b p₁ (plus p₂ (0 + (4 + k)) d)) ≡ cond b x₁ (plus x₂ (a + (4 + k)) d)
+      go true = put-outside out
+      go false =
+          put-plus p₂ (0 + (4 + k)) d (omega (arith, one, length-plus p₁ (0 + k) e))
+          ∙ ap₂ (λ (l : List ℤ) (j : ℕ). plus l (a + j) d) two (zero-add (4 + k))
+
+-- a part of a list whose first m numbers are within n
+pub part-small : (n m a k : ℕ) (l : List ℤ) → ((j : ℕ) → j < m → Sized n (at l j)) → a + k ≤ m → Small n (midOf a k l)
+part-small n m a k l s h j = go (decLt j k)
+  where
+    go : Dec (j < k) → Sized n (at (midOf a k l) j)
+    go (yes g) = subst (Sized n) (sym (getD-take k (drop a l) j (pos 0) g ∙ getD-drop a l j (pos 0))) (s (a + j) (omega arith))
+    go (no g) = subst (Sized n) (sym (List·getD-eq-default (midOf a k l) (pos 0) (omega (arith, length-take k (drop a l))))) (of-nat (omega arith))
+
+-- ---- bounds
+
+-- by its place among the nine
+pub bounds-energy : (i : ℕ) (z : ℤ) → i % 9 < 4 → inBounds i z ≡ between (negℤ (pos mostEnergy)) (pos mostEnergy) z
+unfolding inBounds
+bounds-energy i z h = rw (lt-ltb (i % 9) 4 h)
+
+pub bounds-distance : (i : ℕ) (z : ℤ) → 4 ≤ i % 9 → i % 9 < 8 → inBounds i z ≡ between (pos 0) (pos mostDistance) z
+unfolding inBounds
+bounds-distance i z h g = rw (le-ltb (i % 9) 4 h, lt-ltb (i % 9) 8 g)
+
+pub bounds-outside : (i : ℕ) (z : ℤ) → 8 ≤ i % 9 → inBounds i z ≡ between (pos 0) (pos mostOutside) z
+unfolding inBounds
+bounds-outside i z h = rw (le-ltb (i % 9) 4 (omega arith), le-ltb (i % 9) 8 h)
+
+in-bounds-sized : (i : ℕ) (z : ℤ) → inBounds i z ≡ true → Sized 7_200_000_000_000 z
+unfolding inBounds
+in-bounds-sized i z = go (ltb (i % 9) 4) (ltb (i % 9) 8)
+  where
+    go : (x y : Bool)
+        → cond x (between (negℤ (pos mostEnergy)) (pos mostEnergy) z)
+        (cond y (between (pos 0) (pos mostDistance) z) (between (pos 0) (pos mostOutside) z))
+        ≡ true
+        → Sized 7_200_000_000_000 z
+    go true y e = sized-between mostEnergy z e
+    go false true e = weaken (lit≤ tt) (sized-upto mostDistance z e)
+    go false false e = weaken (lit≤ tt) (sized-upto mostOutside z e)
+
+pub bounded-by : (l : List ℤ) → 576 ≤ length l → ((i : ℕ) → i < 576 → inBounds i (at l i) ≡ true) → bounded l ≡ true
+unfolding bounded
+bounded-by l h g = rw (le-leb 576 (length l) h) (all-by 576 (λ i. inBounds i (at l i)) g)
+
+module _ (l : List ℤ) (b : bounded l ≡ true) where
+  pub bounded-long : 576 ≤ length l
+  unfolding bounded
+  bounded-long = leb-true 576 (length l) (both (leb 576 (length l)) _ b .0)
+
+  module _ (i : ℕ) (h : i < 576) where
+    pub bounded-at : inBounds i (at l i) ≡ true
+    unfolding bounded
+    bounded-at = all-at 576 (λ j. inBounds j (at l j)) (both (leb 576 (length l)) _ b .1) i h
+
+    pub bounded-sized : Sized 7_200_000_000_000 (at l i)
+    bounded-sized = in-bounds-sized i (at l i) bounded-at
+
+  -- the sums of a cycle
+  module _ (c : ℕ) (h : c < 64) where
+    pub outside-between : between (pos 0) (pos 48_000) (outsideIn l c) ≡ true
+    outside-between = sym (bounds-outside (9 * c + 8) (outsideIn l c) (omega arith)) ∙ bounded-at (9 * c + 8) (omega arith)
+
+    pub outside-natural : Sized 48_000 (outsideIn l c) × (leZ (pos 0) (outsideIn l c) ≡ true)
+    outside-natural = (sized-upto 48_000 (outsideIn l c) outside-between, both (leZ (pos 0) (outsideIn l c)) _ outside-between .0)
+
+    pub distance-natural : between (pos 0) (pos 288_000_000) (distanceIn l c) ≡ true
+    distance-natural =
+        between-sum 72_000_000 (λ k. at l (9 * c + 4 + k)) 4
+        (λ k g. sym (bounds-distance (9 * c + 4 + k) (at l (9 * c + 4 + k)) (omega arith) (omega arith)) ∙ bounded-at (9 * c + 4 + k) (omega arith))
+
+    pub energy-sized : Sized 28_800_000_000_000 (energyIn l c)
+    energy-sized = sized-sum 7_200_000_000_000 (λ k. at l (9 * c + k)) 4 (λ k g. bounded-sized (9 * c + k) (omega arith))
+
+  -- and of all cycles
+  pub energy-all-sized : Sized 1_843_200_000_000_000 (energyAll l)
+  energy-all-sized = sized-sum 28_800_000_000_000 (energyIn l) 64 energy-sized
+
+  pub outside-all-sized : Sized 3_072_000 (outsideAll l)
+  outside-all-sized = sized-sum 48_000 (outsideIn l) 64 (λ c h. outside-natural c h .0)

@@ -1,0 +1,3 @@
+-- What is done to the lent memory, and what is read from it.
+pub mod Row
+pub mod Map

@@ -1,0 +1,56 @@
+-- The ledger's nine numbers of a cycle, which start at place a (9 × c in the whole ledger, 0 in the stretch that is lent on).
+-- Assumes nothing.
+use mathlib.Core.Bool.{Bool, cond, _&&_}
+use mathlib.Core.List.{List}
+use Prim.Native.Nat.{ℕ, _+_, _*_}
+use lib.Dec.{leb}
+use lib.IntN.{ℤ, pos}
+use lib.ListN.{length, getD}
+use lib.Signed.{ltZ}
+use Rattle.numbers.specs.Lists.{plus}
+use Rattle.numbers.specs.Range.{sumℤ}
+use Rattle.numbers.specs.Tests.{allBelow}
+use Rattle.rules.specs.Shown.{ledgerNumbers, inBounds}
+
+-- number i
+abbrev pub at : List ℤ → ℕ → ℤ
+at l i = getD l i (pos 0)
+
+-- long enough, and none of the 576 numbers out of bounds
+unfoldable pub bounded : List ℤ → Bool
+bounded l = leb ledgerNumbers (length l) && allBelow ledgerNumbers (λ i. inBounds i (at l i))
+
+module _ (a : ℕ) (l : List ℤ) where
+  -- a sample that is outside is counted as outside
+  abbrev pub outsideAdded : Bool → List ℤ
+  outsideAdded out = cond out (plus l (a + 8) (pos 1)) l
+
+  -- "brings this count above the allowance"
+  abbrev pub isOver : Bool → ℕ → Bool
+  isOver out allowance = ltZ (pos allowance) (at (outsideAdded out) (a + 8))
+
+-- a judged sample of phase k, with energy e and distance d: one that stops the run is only counted as outside
+unfoldable pub sampleAdded : ℕ → List ℤ → ℕ → ℤ → ℤ → Bool → ℕ → List ℤ
+sampleAdded a l k e d out allowance =
+    let marked = outsideAdded a l out in
+    cond (isOver a l out allowance) marked (plus (plus marked (a + k) e) (a + (4 + k)) d)
+
+-- the sum of the four numbers from place a
+abbrev pub fourFrom : List ℤ → ℕ → ℤ
+fourFrom l a = sumℤ (λ k. at l (a + k)) 4
+
+-- energy, distance and outside count of cycle c; energy and outside count of all 64
+abbrev pub energyIn : List ℤ → ℕ → ℤ
+energyIn l c = fourFrom l (9 * c)
+
+abbrev pub distanceIn : List ℤ → ℕ → ℤ
+distanceIn l c = fourFrom l (9 * c + 4)
+
+abbrev pub outsideIn : List ℤ → ℕ → ℤ
+outsideIn l c = at l (9 * c + 8)
+
+abbrev pub energyAll : List ℤ → ℤ
+energyAll l = sumℤ (energyIn l) 64
+
+abbrev pub outsideAll : List ℤ → ℤ
+outsideAll l = sumℤ (outsideIn l) 64

@@ -1,0 +1,87 @@
+-- Sums over the numbers below n: one term grows, no term counts, bounds of a sum from bounds of its terms, and a sum that a loop forms.
+-- Assumes nothing.
+use mathlib.Core.Bool.{true}
+use mathlib.Core.Logic.{⊎-elim}
+use mathlib.Core.Path.{_≡_, sym, ap, ap₂, _∙_}
+use Prim.Native.Nat.{ℕ, zero, suc, _+_, _*_, _^_, _≤_, _<_, zero-le}
+use native.Mathlib.Nat.{le-refl, le-step, le-of-suc-le-suc, not-suc-le-zero, eq-or-lt-of-le, suc-mul, add-zero, add-suc, add-assoc, add-le-add, mul-le-mul-right}
+use native.Mathlib.Omega.{arith}
+use borrow.Author.Tests.{le-leb}
+use lib.Dec.{T, ltb}
+use lib.IntN.{ℤ, pos, _+ℤ_}
+use lib.Signed.{leZ}
+use mir.Syntax.{w64}
+use mir.Val.{SFits, hbits, toZ, ofZ}
+use Rattle.numbers.specs.Range.{fold, sum, sumℤ}
+use Rattle.numbers.specs.Whole.{between, Sized}
+use Rattle.numbers.proofs.Range.{fold-same, fold-more, fold-none, sum-ℕ}
+use Rattle.numbers.proofs.Tests.{both}
+use Rattle.numbers.proofs.Whole.{of-nat, weaken, sized-add, le-add, sfits, read}
+
+pub sum-none : (f : ℕ → ℕ) (n : ℕ) → ((k : ℕ) → k < n → f k ≡ 0) → sum f n ≡ 0
+sum-none = fold-none _+_ 0 sum-ℕ
+
+-- the term at q is x more than before, and the others are as before
+pub sum-grown : (f g : ℕ → ℕ) (q x n : ℕ) → q < n → f q ≡ g q + x → ((k : ℕ) → (k ≡ q → ⊥) → f k ≡ g k) → sum f n ≡ sum g n + x
+unfolding fold
+sum-grown f g q x zero l e h = absurd (not-suc-le-zero l)
+sum-grown f g q x (suc n) l e h =
+    ⊎-elim
+    (λ (i : q ≡ n).
+    let r : sum f n ≡ sum g n = fold-same _+_ 0 f g n (λ k m. h k (λ (j : k ≡ q). omega arith)) in
+    let t : f n ≡ g n + x = rw (← i) e in
+    omega arith)
+    (λ (m : q < n).
+    let r : sum f n ≡ sum g n + x = sum-grown f g q x n m e h in
+    let t : f n ≡ g n = h n (λ (j : n ≡ q). omega arith) in
+    omega arith)
+    (eq-or-lt-of-le (le-of-suc-le-suc l))
+
+-- the first a terms, and c more
+pub sum-more : (f : ℕ → ℕ) (a c : ℕ) → sum f (a + c) ≡ sum f a + sum (λ k. f (a + k)) c
+unfolding fold
+sum-more f a zero = rw (add-zero a) (sym (add-zero (sum f a)))
+sum-more f a (suc c) =
+    rw (add-suc a c)
+    (ap (λ (x : ℕ). x + f (a + c)) (sum-more f a c) ∙ add-assoc (sum f a) (sum (λ k. f (a + k)) c) (f (a + c)))
+
+-- n terms, each at most b
+pub sum-most : (b : ℕ) (f : ℕ → ℕ) (n : ℕ) → ((k : ℕ) → k < n → f k ≤ b) → sum f n ≤ n * b
+unfolding fold
+sum-most b f zero h = zero-le
+sum-most b f (suc n) h = rw (suc-mul n b) (add-le-add (sum-most b f n (λ k l. h k (le-step l))) (h n (le-refl (suc n))))
+
+-- n terms, each within b either way
+pub sized-sum : (b : ℕ) (f : ℕ → ℤ) (n : ℕ) → ((k : ℕ) → k < n → Sized b (f k)) → Sized (n * b) (sumℤ f n)
+unfolding fold
+sized-sum b f zero h = of-nat (omega arith)
+sized-sum b f (suc n) h = weaken (omega (arith, suc-mul n b)) (sized-add (sized-sum b f n (λ k l. h k (le-step l))) (h n (le-refl (suc n))))
+
+-- n terms, each from 0 to b
+pub between-sum : (b : ℕ) (f : ℕ → ℤ) (n : ℕ) → ((k : ℕ) → k < n → between (pos 0) (pos b) (f k) ≡ true)
+    → between (pos 0) (pos (n * b)) (sumℤ f n) ≡ true
+unfolding fold
+between-sum b f zero h = le-leb 0 (0 * b) zero-le
+between-sum b f (suc n) h =
+    let (lo, hi) = both (leZ (pos 0) (sumℤ f n)) _ (between-sum b f n (λ k l. h k (le-step l))) in
+    let (lo′, hi′) = both (leZ (pos 0) (f n)) _ (h n (le-refl (suc n))) in
+    rw (suc-mul n b, le-add (pos 0) (sumℤ f n) (pos 0) (f n) lo lo′, le-add (sumℤ f n) (pos (n * b)) (f n) (pos b) hi hi′)
+
+-- a loop forms the sum of f 0, f 1, .. in the bits s of an `i64`: the term x that it adds after k terms fits, and gives the sum of one more
+pub record Next (f : ℕ → ℤ) (s k : ℕ) (x : ℤ) : Type 0 where
+  pub fits : SFits w64 (toZ w64 s +ℤ x)
+  pub is : toZ w64 (ofZ w64 (toZ w64 s +ℤ x)) ≡ sumℤ f (k + 1)
+
+-- of n terms within b either way
+pub next : (b n : ℕ) → T (ltb (n * b) (2 ^ hbits w64)) → (f : ℕ → ℤ) → ((k : ℕ) → k < n → Sized b (f k))
+    → (s k : ℕ) (x : ℤ) → k < n → toZ w64 s ≡ sumℤ f k → x ≡ f k → Next f s k x
+next b n small f h s k x l before term = record { fits = fits; is = read fits ∙ more }
+  where
+    more : toZ w64 s +ℤ x ≡ sumℤ f (k + 1)
+    more = ap₂ _+ℤ_ before term ∙ sym (fold-more _+ℤ_ (pos 0) f k)
+
+    sized : Sized (n * b) (sumℤ f (k + 1))
+    sized = weaken (mul-le-mul-right b (let g : k + 1 ≤ n = omega arith in g)) (sized-sum b f (k + 1) (λ j m. h j (omega arith)))
+
+    fits : SFits w64 (toZ w64 s +ℤ x)
+    fits = rw more (sfits w64 small sized)
