@@ -1,12 +1,13 @@
 -- Laws of numbers of several bytes, whatever their width.
 -- Assumes nothing.
-use mathlib.Core.List.{List}
-use mathlib.Core.Path.{_≡_}
-use Prim.Native.Nat.{ℕ, zero, suc, _+_, _*_, _^_, _<_}
+use mathlib.Core.List.{List, _++_}
+use mathlib.Core.Path.{_≡_, refl, ap, ap₂, _∙_}
+use Prim.Native.Nat.{ℕ, zero, suc, _+_, _*_, _^_, _≤_, _<_}
 use native.Mathlib.Nat.{pow-suc, add-zero}
 use native.Mathlib.Omega.{arith}
 use lib.Dec.{lit<}
-use lib.ListN.{getD}
+use lib.ListN.{length, getD, List·getD-append}
+use lib.Seq.{getD-append-add}
 use Rattle.numbers.specs.Bytes.{be}
 
 -- n bytes make a number below 256 ^ n
@@ -23,3 +24,17 @@ be-one b i = rw add-zero (omega arith)
 pub be-two : (b : List ℕ) (i : ℕ) → be 2 b i ≡ 256 * getD b i 0 + getD b (i + 1) 0
 unfolding be
 be-two b i = rw add-zero (omega arith)
+
+-- of joined bytes
+pub be-left : (n : ℕ) (p q : List ℕ) (i : ℕ) → i + n ≤ length p → be n (p ++ q) i ≡ be n p i
+unfolding be
+be-left zero p q i h = refl
+be-left (suc n) p q i h =
+    ap₂ (λ (x y : ℕ). 256 * x + y) (be-left n p q i (omega arith)) (List·getD-append p q 0 (i + n) (omega arith))
+
+pub be-right : (n : ℕ) (p q : List ℕ) (i : ℕ) → be n (p ++ q) (length p + i) ≡ be n q i
+unfolding be
+be-right zero p q i = refl
+be-right (suc n) p q i =
+    let e : length p + i + n ≡ length p + (i + n) = omega arith in
+    ap₂ (λ (x y : ℕ). 256 * x + y) (be-right n p q i) (ap (λ (k : ℕ). getD (p ++ q) k 0) e ∙ getD-append-add p q (i + n) 0)

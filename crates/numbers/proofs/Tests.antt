@@ -118,5 +118,11 @@ pub stop : {A : Type 0} {refusal : A} {b : Bool} (rest : A) → b ≡ false → 
 unfolding unless
 stop rest e = rw e
 
+-- a chain of numbers that refuses nothing: its first test passes, and the rest refuses nothing
+pub not-refused : (n : ℕ) (t : Bool) (rest : ℕ) → unless (suc n) t rest ≡ 0 → (t ≡ true) × (rest ≡ 0)
+unfolding unless
+not-refused n true rest e = (refl, e)
+not-refused n false rest e = absurd (omega arith)
+
 -- for `omega`, at a test of numbers
 pub ruleset tests = (arith, lt-ltb, le-ltb, le-leb, lt-leb, eq-eqb)

@@ -1,0 +1,10 @@
+-- The laws of the judge's definitions, and the join with the rules.
+pub mod Bytes
+pub mod Entries
+pub mod LedgerShows
+pub mod MapShows
+pub mod Checked
+pub mod Played
+pub mod Standing
+pub mod Steps
+pub mod Calls
