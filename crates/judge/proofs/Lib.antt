@@ -8,3 +8,7 @@ pub mod Played
 pub mod Standing
 pub mod Steps
 pub mod Calls
+pub mod Figures
+pub mod Limits
+pub mod Runs
+pub mod Promises

@@ -287,3 +287,8 @@ module _ {A B : Type 0} (g : B → A → B) where
   unfolding fold
   fold-list b [] d = refl
   fold-list b (x ∷ xs) d = fold-list (g b x) xs d ∙ sym (fold-front b (λ j. getD (x ∷ xs) j d) (length xs))
+
+  pub fold-table : (b : B) (f : ℕ → A) (n : ℕ) → fold g b f n ≡ foldl g b (table f n)
+  unfolding fold table
+  fold-table b f zero = refl
+  fold-table b f (suc n) = fold-front b f n ∙ fold-table (g b (f 0)) (λ j. f (suc j)) n

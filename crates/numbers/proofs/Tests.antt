@@ -1,10 +1,10 @@
 -- Laws of tests: joined, at every number below n as a loop builds it, at every element, and along a chain of refusals.
 -- Assumes nothing.
 use mathlib.Core.Bool.{Bool, true, false, not, _&&_, false≢true}
-use mathlib.Core.List.{List, [], _∷_}
+use mathlib.Core.List.{List, [], _∷_, _++_}
 use mathlib.Core.Logic.{⊎-elim}
 use mathlib.Core.Path.{_≡_, refl, sym, ap, subst, _∙_}
-use Prim.Native.Nat.{ℕ, zero, suc, _+_, _≤_, _<_, zero-le}
+use Prim.Native.Nat.{ℕ, zero, suc, _+_, _≤_, _<_, zero-le, suc-le-suc}
 use native.Mathlib.Nat.{le-refl, le-step, le-of-suc-le-suc, not-suc-le-zero, eq-or-lt-of-le}
 use native.Mathlib.Numerals.{add-one}
 use native.Mathlib.Omega.{arith}
@@ -12,6 +12,7 @@ use lib.Dec.{T, T-not, leb, leb→le, le→leb}
 use lib.ListN.{length, getD, drop}
 use lib.Seq.{drop-cons}
 use borrow.Author.Tests.{lt-ltb, le-ltb, le-leb, lt-leb, eq-eqb}
+use Rattle.numbers.specs.Range.{table}
 use Rattle.numbers.specs.Tests.{bit, allBelow, every, unless}
 
 -- ---- two tests
@@ -107,6 +108,18 @@ module _ {A : Type 0} (p : A → Bool) where
   every-at [] d e i h = absurd (not-suc-le-zero h)
   every-at (x ∷ a) d e zero h = both (p x) (every p a) e .0
   every-at (x ∷ a) d e (suc i) h = every-at a d (both (p x) (every p a) e .1) i (le-of-suc-le-suc h)
+
+  pub every-append : (a c : List A) → every p a ≡ true → every p c ≡ true → every p (a ++ c) ≡ true
+  every-append [] c e f = f
+  every-append (x ∷ a) c e f =
+      let (h, t) = both (p x) (every p a) e in
+      ap (λ (y : Bool). y && every p (a ++ c)) h ∙ every-append a c t f
+
+  pub every-table : (f : ℕ → A) (n : ℕ) → ((k : ℕ) → k < n → p (f k) ≡ true) → every p (table f n) ≡ true
+  unfolding table
+  every-table f zero h = refl
+  every-table f (suc n) h =
+      ap (λ (y : Bool). y && every p (table (λ j. f (suc j)) n)) (h 0 (suc-le-suc zero-le)) ∙ every-table (λ j. f (suc j)) n (λ k l. h (suc k) (suc-le-suc l))
 
 -- ---- along a chain of refusals: a test that holds is passed, and one that fails is the answer
 

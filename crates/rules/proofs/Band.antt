@@ -7,7 +7,7 @@ use Prim.Native.Nat.{ℕ, _+_, _*_, _/_, _%_, _≤_}
 use native.Mathlib.Nat.{zero-mul, add-zero, le-refl, le-trans, add-le-add}
 use native.Mathlib.Omega.{arith}
 use borrow.Author.Tests.{leb-true}
-use lib.Dec.{T, leb, lit≤, nleb→lt}
+use lib.Dec.{T, eqb, leb, lit≤, nleb→lt}
 use Rattle.numbers.proofs.Range.{least-at, greatest-at, least-wider, greatest-wider}
 use Rattle.numbers.proofs.Tests.{both, and-mono, leb-mono}
 use Rattle.rules.specs.Bench.{Tolerances, tolerable}
@@ -82,6 +82,16 @@ verdict-most b t p v = go (leb _ (20 * v + 20 * t .speed)) (leb (20 * v) _)
     go true true = lit≤ tt
     go true false = lit≤ tt
     go false y = lit≤ tt
+
+-- the verdict is 0 exactly where the sample is inside
+pub verdict-zero : (b : List ℕ) (t : Tolerances) (p v : ℕ) → eqb (verdict b t p v) 0 ≡ inside b t p v
+unfolding verdict side inside
+verdict-zero b t p v = go (leb _ (20 * v + 20 * t .speed)) (leb (20 * v) _)
+  where
+    go : (x y : Bool) → eqb (cond (x && y) 0 (cond (not x) 1 2)) 0 ≡ (x && y)
+    go true true = refl
+    go true false = refl
+    go false y = refl
 
 -- ---- the tolerances
 

@@ -4,12 +4,17 @@ use mathlib.Core.Bool.{Bool, not, _&&_}
 use mathlib.Core.List.{List}
 use Prim.Native.Nat.{ℕ, _+_, _*_, _/_, _%_}
 use lib.Dec.{ltb, leb, eqb}
-use lib.IntN.{ℤ}
+use lib.IntN.{ℤ, pos}
+use lib.ListN.{getD}
 use Rattle.numbers.specs.Range.{sumOf, sumOfℤ, sumℤ}
 use Rattle.rules.specs.Bench.{Sample, Tolerances, End, drawn, distance, mostCycles}
 use Rattle.rules.specs.Cycle.{phases, phaseEnd, positions, phaseAt}
 use Rattle.rules.specs.Band.{inside}
 use Rattle.rules.specs.Tally as tally
+
+-- sample j of a list; past its end, a sample of nothing
+abbrev pub sampleOf : List Sample → ℕ → Sample
+sampleOf xs j = getD xs j (record { speed = 0; voltage = 0; current = pos 0 })
 
 -- where sample j stands: position j mod N of cycle j div N
 abbrev pub cycleOf : List ℕ → ℕ → ℕ

@@ -1,0 +1,52 @@
+-- The ledger's 576 numbers by their index, and their sums, where the ledger shows a run.
+-- Assumes nothing.
+use mathlib.Core.List.{List}
+use mathlib.Core.Logic.{⊎-elim}
+use mathlib.Core.Path.{_≡_, ap, _∙_}
+use Prim.Native.Nat.{ℕ, suc, _+_, _-_, _*_, _/_, _%_, _<_}
+use native.Mathlib.Omega.{arith}
+use lib.IntN.{ℤ, pos, _+ℤ_}
+use borrow.Author.Tests.{lt-ltb, le-ltb}
+use Rattle.numbers.proofs.Order.{side}
+use Rattle.numbers.proofs.Range.{fold-same}
+use Rattle.rules.specs.declared.Sample.{Sample}
+use Rattle.rules.specs.declared.Tolerances.{Tolerances}
+use Rattle.rules.specs.Run.{energy, over, most, counted, judged}
+use Rattle.rules.specs.Shown.{figure}
+use Rattle.rules.proofs.Figures.{energy-phases, energy-cycles}
+use Rattle.rules.proofs.Sound.{Sound}
+use Rattle.rules.proofs.Tally.{counted-le}
+use Rattle.ledger.specs.Row.{at, energyAll}
+use Rattle.judge.proofs.LedgerShows.{LedgerShows}
+
+module _ (b : List ℕ) (t : Tolerances) (s : ℕ → Sample) (l₀ : List ℤ) (n : ℕ) (l : List ℤ)
+    (h : LedgerShows b t s l₀ (counted b t s n) (judged b t s n) l) where
+  -- number i, by its cycle and its place among the nine
+  number : (i : ℕ) → i < 576 → at l (9 * (i / 9) + i % 9) ≡ figure b t s n i
+  unfolding figure
+  number i g =
+      let c = i / 9 in
+      let a = i % 9 in
+      ⊎-elim (λ e. simp (lt-ltb a 4 e) (h .energies c a (omega arith) e))
+      (λ (e : 4 < suc a). ⊎-elim
+      (λ f.
+      let q : a ≡ 4 + (a - 4) = omega arith in
+      simp (le-ltb a 4 (omega arith), lt-ltb a 8 f) (ap (λ (k : ℕ). at l (9 * c + k)) q ∙ h .distances c (a - 4) (omega arith) (omega arith)))
+      (λ (f : 8 < suc a).
+      let q : a ≡ 8 = omega arith in
+      simp (le-ltb a 4 (omega arith), le-ltb a 8 (omega arith)) (ap (λ (k : ℕ). at l (9 * c + k)) q ∙ h .outsides c (omega arith)))
+      (side (suc a) 8))
+      (side (suc a) 4)
+
+  pub number-is : (i : ℕ) → i < 576 → at l i ≡ figure b t s n i
+  number-is i g =
+      let q : i ≡ 9 * (i / 9) + i % 9 = omega arith in
+      ap (at l) q ∙ number i g
+
+  -- the ledger's energies add up to the energy of the counted samples
+  pub energies-are : Sound b → energyAll l ≡ energy s (counted b t s n)
+  energies-are o =
+      let m = counted b t s n in
+      fold-same _+ℤ_ (pos 0) _ _ 64
+      (λ c g. fold-same _+ℤ_ (pos 0) _ _ 4 (λ k f. h .energies c k g f) ∙ energy-phases b s o m c)
+      ∙ energy-cycles b s o m (counted-le (over b t s) (most b) n .1)
