@@ -16,19 +16,11 @@ use lib.Signed.{leZ, ltZ}
 use mir.Syntax.{Width}
 use mir.Val.{SFits, bits, hbits, toZ, ofZ}
 use mir.ValLaws.{toZ-ofZ, pow-bits}
-use Rattle.numbers.specs.Whole.{between, eqZ, Sized, Small}
+use Rattle.numbers.specs.Whole.{up, down, between, eqZ, Sized, Small}
 use Rattle.numbers.specs.Lists.{plus}
 use Rattle.numbers.specs.Range.{fold, gather, sumOf, sumOfℤ}
 use Rattle.numbers.proofs.Tests.{both}
 use Rattle.numbers.proofs.Lists.{set-either}
-
-abbrev pub up : ℤ → ℕ
-up (pos n) = n
-up (negsuc n) = 0
-
-abbrev pub down : ℤ → ℕ
-down (pos n) = 0
-down (negsuc n) = suc n
 
 -- ---- sum, negation, equality
 

@@ -1,12 +1,28 @@
 -- 'Closing figures', on whole numbers of any size: n finished cycles of energies e and distances d, the whole energy E. Place 0 is cycle 1.
 -- Assumes nothing.
+use mathlib.Core.Bool.{Bool, true, _&&_}
 use mathlib.Core.List.{List}
 use mathlib.Core.Path.{_≡_}
 use Prim.Native.Nat.{ℕ, _+_, _-_, _*_, _/_, _<_}
-use lib.IntN.{ℤ, _+ℤ_}
+use lib.Dec.{leb}
+use lib.IntN.{ℤ, pos, negℤ, _+ℤ_}
+use lib.Signed.{leZ, ltZ}
 use Rattle.numbers.specs.Range.{sum}
+use Rattle.numbers.specs.Tests.{allBelow, unless}
+use Rattle.numbers.specs.Whole.{up, between}
 use Rattle.rules.specs.Bench.{Sample, Tolerances}
 use Rattle.rules.specs.Run.{energy, counted}
+pub use Rattle.rules.specs.declared.Charge.{Charge}
+pub use Rattle.rules.specs.declared.Charge.the-variants.{Absent as absent, Wh as wh}
+pub use Rattle.rules.specs.declared.Amounts.{Amounts}
+
+-- "within 10^13 either way"; "recharge in Wh (4), 1..2,000,000"
+abbrev pub mostTransfer : ℕ
+mostTransfer = 10_000_000_000_000
+
+abbrev pub isCharge : Charge → Bool
+isCharge absent = true
+isCharge (wh A) = leb 1 A && leb A 2_000_000
 
 -- "E is transfer energy before the test plus the energy of all counted samples"
 abbrev pub wholeEnergy : ℤ → List ℕ → Tolerances → (ℕ → Sample) → ℕ → ℤ
@@ -42,3 +58,48 @@ recharge E EF A r = E * A * 1000000 / (EF * r)
 -- "the unrounded 100 e_c / d_c" over one denominator: u c / k is 100 e_c / d_c
 unfoldable pub Unrounded : ℕ → ℕ → (ℕ → ℕ) → (ℕ → ℕ) → (ℕ → ℕ) → Type 0
 Unrounded k n e d u = (c : ℕ) → c < n → u c * d c ≡ k * (100 * e c)
+
+-- "q_c outside 1..10,000,000"
+abbrev pub mostRate : ℕ
+mostRate = 10_000_000
+
+abbrev pub isRate : ℕ → Bool
+isRate q = leb 1 q && leb q mostRate
+
+-- q_c of signed energies e and distances d, as a ledger has them
+abbrev pub rateOf : (ℕ → ℤ) → (ℕ → ℤ) → ℕ → ℕ
+rateOf e d c = rate (up (e c)) (up (d c))
+
+-- n finished cycles, and the signed whole energy E
+module _ (E : ℤ) (n : ℕ) (e d : ℕ → ℤ) where
+  abbrev pub weightedFigure : ℕ
+  weightedFigure = weighted (up E) n (λ c. up (e c)) (rateOf e d)
+
+  abbrev pub rangeFigure : ℕ
+  rangeFigure = range (up E) weightedFigure
+
+  -- "Closing: 10, 11, 12, 13."; 0 where nothing is refused
+  unfoldable pub closingRefusal : ℕ
+  closingRefusal =
+      unless 10 (leb 3 n)
+      (unless 11 (allBelow n (λ c. leZ (pos 1) (e c)))
+      (unless 11 (leZ (e 0 +ℤ e 1) E)
+      (unless 12 (allBelow n (λ c. ltZ (pos 0) (d c)))
+      (unless 12 (allBelow n (λ c. isRate (rateOf e d c)))
+      (unless 13 (leb 1 rangeFigure) 0)))))
+
+  -- "Recharge: whatever closing refuses, then absent, 14, 12.": 14 and 12, with F and A; 0 where nothing is refused
+  abbrev pub rechargeFigure : ℤ → ℕ → ℕ
+  rechargeFigure F A = recharge (up E) (up (E +ℤ F)) A rangeFigure
+
+  unfoldable pub rechargeRefusal : ℤ → ℕ → ℕ
+  rechargeRefusal F A =
+      unless 14 (leZ (pos 1) (E +ℤ F))
+      (unless 12 (leb (rechargeFigure F A) mostRate) 0)
+
+-- "drawn energy .. within 10^13 either way", "recharge in Wh .. 1..2,000,000"
+unfoldable pub areAmounts : Amounts → Bool
+areAmounts a =
+    between (negℤ (pos mostTransfer)) (pos mostTransfer) (a .before)
+    && between (negℤ (pos mostTransfer)) (pos mostTransfer) (a .after)
+    && isCharge (a .charge)

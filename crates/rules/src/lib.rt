@@ -20,3 +20,16 @@ pub enum End {
     Stop,
     Limit,
 }
+
+// The energy that a recharge took from the mains, in Wh, where the record has it.
+pub enum Charge {
+    Absent,
+    Wh(u32),
+}
+
+// Transfer energy before and after the test, in units of 0.5 mJ, and the recharge.
+pub struct Amounts {
+    pub before: i64,
+    pub after: i64,
+    pub charge: Charge,
+}
