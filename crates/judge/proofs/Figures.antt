@@ -9,14 +9,15 @@ use lib.IntN.{ℤ, pos, _+ℤ_}
 use borrow.Author.Tests.{lt-ltb, le-ltb}
 use Rattle.numbers.proofs.Order.{side}
 use Rattle.numbers.proofs.Range.{fold-same}
+use Rattle.numbers.proofs.Sums.{sum-pos}
 use Rattle.rules.specs.declared.Sample.{Sample}
 use Rattle.rules.specs.declared.Tolerances.{Tolerances}
-use Rattle.rules.specs.Run.{energy, over, most, counted, judged}
+use Rattle.rules.specs.Run.{phaseDistance, cycleEnergy, cycleDistance, energy, over, most, counted, judged}
 use Rattle.rules.specs.Shown.{figure}
-use Rattle.rules.proofs.Figures.{energy-phases, energy-cycles}
+use Rattle.rules.proofs.Figures.{distance-phases, energy-phases, energy-cycles}
 use Rattle.rules.proofs.Sound.{Sound}
 use Rattle.rules.proofs.Tally.{counted-le}
-use Rattle.ledger.specs.Row.{at, energyAll}
+use Rattle.ledger.specs.Row.{at, energyIn, distanceIn, energyAll}
 use Rattle.judge.proofs.LedgerShows.{LedgerShows}
 
 module _ (b : List ℕ) (t : Tolerances) (s : ℕ → Sample) (l₀ : List ℤ) (n : ℕ) (l : List ℤ)
@@ -43,10 +44,22 @@ module _ (b : List ℕ) (t : Tolerances) (s : ℕ → Sample) (l₀ : List ℤ) 
       let q : i ≡ 9 * (i / 9) + i % 9 = omega arith in
       ap (at l) q ∙ number i g
 
+  -- a cycle's energy and distance
+  pub cycle-energy-is : Sound b → (c : ℕ) → c < 64 → energyIn l c ≡ cycleEnergy b s c (counted b t s n)
+  cycle-energy-is o c g = fold-same _+ℤ_ (pos 0) _ _ 4 (λ k f. h .energies c k g f) ∙ energy-phases b s o (counted b t s n) c
+
+  pub cycle-distance-is : Sound b → (c : ℕ) → c < 64 → distanceIn l c ≡ pos (cycleDistance b s c (counted b t s n))
+  cycle-distance-is o c g =
+      fold-same _+ℤ_ (pos 0) _ _ 4
+      (λ k f.
+      let q : 9 * c + 4 + k ≡ 9 * c + (4 + k) = omega arith in
+      ap (at l) q ∙ h .distances c k g f)
+      ∙ sum-pos (λ k. phaseDistance b s c k (counted b t s n)) 4
+      ∙ ap pos (distance-phases b s o (counted b t s n) c)
+
   -- the ledger's energies add up to the energy of the counted samples
   pub energies-are : Sound b → energyAll l ≡ energy s (counted b t s n)
   energies-are o =
       let m = counted b t s n in
-      fold-same _+ℤ_ (pos 0) _ _ 64
-      (λ c g. fold-same _+ℤ_ (pos 0) _ _ 4 (λ k f. h .energies c k g f) ∙ energy-phases b s o m c)
+      fold-same _+ℤ_ (pos 0) _ _ 64 (λ c g. cycle-energy-is o c g)
       ∙ energy-cycles b s o m (counted-le (over b t s) (most b) n .1)

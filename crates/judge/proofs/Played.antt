@@ -46,37 +46,37 @@ module _ (b : List ℕ) (t : Tolerances) (s : ℕ → Sample) (l₀ : List ℤ) 
 
   -- sample n of an open run
   module _ (n : ℕ) (l : List ℤ) (m : List ℕ) (small : n < most b) (hl : LedgerShows b t s l₀ n n l) (hm : MapShows b t s m₀ n m) where
+    -- the state after it, where x says whether it is over
+    next-state : (x : Bool) → over b t s n ≡ x
+        → judge b t (opened n l m) (s n)
+        ≡ stateAt (suc n) (tallyOf (cond x n (suc n)) (suc n) (cond x stop (cond (ltb (suc n) (most b)) none limit)))
+        (judge b t (opened n l m) (s n) .ledger) (judge b t (opened n l m) (s n) .map)
+    unfolding judge
+    next-state x o =
+        let e = test-over b t s l₀ n l sound small hl ∙ o in
+        λ i. record {
+          offered = suc n;
+          counted = cond (e i) n (suc n);
+          end = cond (e i) stop (cond (ltb (suc n) (most b)) none limit);
+          ledger = judge b t (opened n l m) (s n) .ledger;
+          map = judge b t (opened n l m) (s n) .map;
+        }
+
     judge-stops : over b t s n ≡ true → Shows b t s l₀ m₀ (suc n) (tallyOf n (suc n) stop) (judge b t (opened n l m) (s n))
     unfolding judge
-    judge-stops o =
-        let e = test-over b t s l₀ n l sound small hl ∙ o in
-        record {
-          state = λ i. record {
-            offered = suc n;
-            counted = cond (e i) n (suc n);
-            end = cond (e i) stop (cond (ltb (suc n) (most b)) none limit);
-            ledger = judge b t (opened n l m) (s n) .ledger;
-            map = judge b t (opened n l m) (s n) .map;
-          };
-          in-ledger = ledger-stops b t s l₀ n l sound small hl o;
-          in-map = map-next b t s sound n m₀ m hm;
-        }
+    judge-stops o = record {
+      state = next-state true o;
+      in-ledger = ledger-stops b t s l₀ n l sound small hl o;
+      in-map = map-next b t s sound n m₀ m hm;
+    }
 
     judge-goes : over b t s n ≡ false → Shows b t s l₀ m₀ (suc n) (counting (over b t s) (most b) (suc n)) (judge b t (opened n l m) (s n))
     unfolding judge
-    judge-goes o =
-        let e = test-over b t s l₀ n l sound small hl ∙ o in
-        record {
-          state = λ i. record {
-            offered = suc n;
-            counted = cond (e i) n (suc n);
-            end = cond (e i) stop (cond (ltb (suc n) (most b)) none limit);
-            ledger = judge b t (opened n l m) (s n) .ledger;
-            map = judge b t (opened n l m) (s n) .map;
-          };
-          in-ledger = ledger-goes b t s l₀ n l sound small hl o;
-          in-map = map-next b t s sound n m₀ m hm;
-        }
+    judge-goes o = record {
+      state = next-state false o;
+      in-ledger = ledger-goes b t s l₀ n l sound small hl o;
+      in-map = map-next b t s sound n m₀ m hm;
+    }
 
   shows-step : (n : ℕ) (a : State) → Shows b t s l₀ m₀ n (run n) a → Shows b t s l₀ m₀ (suc n) (run (suc n)) (step b t a (s n))
   unfolding step

@@ -2,7 +2,7 @@
 -- Assumes nothing.
 use mathlib.Core.Bool.{true}
 use mathlib.Core.Logic.{⊎-elim}
-use mathlib.Core.Path.{_≡_, sym, ap, ap₂, _∙_}
+use mathlib.Core.Path.{_≡_, refl, sym, ap, ap₂, _∙_}
 use Prim.Native.Nat.{ℕ, zero, suc, _+_, _*_, _^_, _≤_, _<_, zero-le}
 use native.Mathlib.Nat.{le-refl, le-step, le-of-suc-le-suc, not-suc-le-zero, eq-or-lt-of-le, suc-mul, add-zero, add-suc, add-assoc, add-le-add, mul-le-mul-right}
 use native.Mathlib.Omega.{arith}
@@ -44,6 +44,12 @@ sum-more f a zero = rw (add-zero a) (sym (add-zero (sum f a)))
 sum-more f a (suc c) =
     rw (add-suc a c)
     (ap (λ (x : ℕ). x + f (a + c)) (sum-more f a c) ∙ add-assoc (sum f a) (sum (λ k. f (a + k)) c) (f (a + c)))
+
+-- a sum of natural numbers, as a signed number
+pub sum-pos : (f : ℕ → ℕ) (n : ℕ) → sumℤ (λ k. pos (f k)) n ≡ pos (sum f n)
+unfolding fold
+sum-pos f zero = refl
+sum-pos f (suc n) = ap (λ (z : ℤ). z +ℤ pos (f n)) (sum-pos f n)
 
 -- n terms, each at most b
 pub sum-most : (b : ℕ) (f : ℕ → ℕ) (n : ℕ) → ((k : ℕ) → k < n → f k ≤ b) → sum f n ≤ n * b

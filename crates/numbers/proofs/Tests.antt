@@ -3,7 +3,7 @@
 use mathlib.Core.Bool.{Bool, true, false, not, _&&_, false≢true}
 use mathlib.Core.List.{List, [], _∷_, _++_}
 use mathlib.Core.Logic.{⊎-elim}
-use mathlib.Core.Path.{_≡_, refl, sym, ap, subst, _∙_}
+use mathlib.Core.Path.{_≡_, refl, sym, ap, ap₂, subst, _∙_}
 use Prim.Native.Nat.{ℕ, zero, suc, _+_, _≤_, _<_, zero-le, suc-le-suc}
 use native.Mathlib.Nat.{le-refl, le-step, le-of-suc-le-suc, not-suc-le-zero, eq-or-lt-of-le}
 use native.Mathlib.Numerals.{add-one}
@@ -94,6 +94,11 @@ pub all-by : (n : ℕ) (test : ℕ → Bool) → ((k : ℕ) → k < n → test k
 unfolding allBelow
 all-by zero test h = refl
 all-by (suc n) test h = rw (all-by n test (λ k l. h k (le-step l))) (h n (le-refl (suc n)))
+
+pub all-same : (n : ℕ) (f g : ℕ → Bool) → ((k : ℕ) → k < n → f k ≡ g k) → allBelow n f ≡ allBelow n g
+unfolding allBelow
+all-same zero f g h = refl
+all-same (suc n) f g h = ap₂ _&&_ (all-same n f g (λ k l. h k (le-step l))) (h n (le-refl (suc n)))
 
 -- ---- at every element
 

@@ -3,13 +3,13 @@
 use lib.Dec.{T}
 use Rattle.numbers.specs.Bytes.{be}
 use Rattle.numbers.specs.Range.{fold, gather, first}
-use Rattle.numbers.specs.Tests.{allBelow, every}
+use Rattle.numbers.specs.Tests.{allBelow, every, unless}
 use Rattle.rules.specs.Cycle.{valid}
 use Rattle.rules.specs.Band.{grid20, inside}
 use Rattle.rules.specs.Tally.{over}
-use Rattle.rules.specs.Closing.{weighing}
+use Rattle.rules.specs.Closing.{weighing, closingRefusal}
 use Rattle.rules.specs.Card.{card, holds}
 
 pub card-holds : T (every holds card)
-unfolding be fold gather first allBelow valid grid20 inside over weighing card holds
+unfolding be fold gather first allBelow valid grid20 inside over weighing unless closingRefusal card holds
 card-holds = tt

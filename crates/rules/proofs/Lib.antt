@@ -10,3 +10,5 @@ pub mod Bounds
 pub mod Weighing
 pub mod Closeness
 pub mod Recharge
+pub mod Same
+pub mod Closes

@@ -5,14 +5,14 @@ use mathlib.Core.List.{List, [], _∷_}
 use Prim.Native.Nat.{ℕ}
 use lib.Dec.{ltb, eqb}
 use lib.IntN.{ℤ, pos, negℤ}
-use lib.ListN.{getD}
+use lib.ListN.{length, getD}
 use Rattle.numbers.specs.Tests.{every}
 use Rattle.numbers.specs.Whole.{eqZ}
 use Rattle.rules.specs.Bench.{Sample, Tolerances, End, none, stop, limit, drawn}
 use Rattle.rules.specs.Cycle.{valid}
 use Rattle.rules.specs.Run.{positionOf, outside, counted, judged, ending, cycles}
 use Rattle.rules.specs.Band.{inside}
-use Rattle.rules.specs.Closing.{weighted}
+use Rattle.rules.specs.Closing.{weighted, closingRefusal}
 
 abbrev pub sameEnd : End → End → Bool
 sameEnd none none = true
@@ -54,6 +54,8 @@ pub data Row : Type 0 where
   draws : ℕ → ℤ → ℤ → Row
   -- E, the first two energies, the rates: W, of as many cycles as there are rates
   weighs : ℕ → ℕ → ℕ → ℕ → List ℕ → ℕ → Row
+  -- E, the energies and the distances of the finished cycles: the number that the closing is refused, or 0
+  closes : ℤ → List ℤ → List ℤ → ℕ → Row
 
 unfoldable pub card : List Row
 unfolding points
@@ -80,6 +82,14 @@ card =
     -- ours: a stop at the last position, here of the second cycle, leaves its cycle unfinished; the count begins afresh in each cycle
     ∷ drive 40 30 39 stop 79 1 (0 ∷ 40 ∷ 0 ∷ [])
     ∷ drive 20 30 39 stop 79 1 (20 ∷ 40 ∷ 0 ∷ [])
+    -- ours: the closing's order, each number with the next one's fault there too; E = e_1 + e_2 is good
+    ∷ closes (pos 9) (pos 0 ∷ pos 0 ∷ []) (pos 0 ∷ pos 0 ∷ []) 10
+    ∷ closes (pos 9) (pos 1 ∷ pos 1 ∷ pos 0 ∷ []) (pos 1 ∷ pos 1 ∷ pos 0 ∷ []) 11
+    ∷ closes (pos 1) (pos 1 ∷ pos 1 ∷ pos 1 ∷ []) (pos 1 ∷ pos 1 ∷ pos 0 ∷ []) 11
+    ∷ closes (pos 2) (pos 1 ∷ pos 1 ∷ pos 1 ∷ []) (pos 1 ∷ pos 1 ∷ pos 0 ∷ []) 12
+    ∷ closes (pos 2) (pos 1 ∷ pos 1 ∷ pos 1 ∷ []) (pos 100 ∷ pos 100 ∷ pos 101 ∷ []) 12
+    ∷ closes (pos 2) (pos 1 ∷ pos 1 ∷ pos 1 ∷ []) (pos 100 ∷ pos 100 ∷ pos 100 ∷ []) 13
+    ∷ closes (pos 8) (pos 1 ∷ pos 1 ∷ pos 1 ∷ []) (pos 100 ∷ pos 100 ∷ pos 100 ∷ []) 0
     ∷ []
 
 unfoldable pub holds : Row → Bool
@@ -96,3 +106,4 @@ holds (drive j s a e m c os) =
     sameEnd (ending y t x 120) e && eqb (counted y t x 120) m && eqb (cycles y t x 120) c && o 0 && o 1 && o 2
 holds (draws u i z) = eqZ (drawn (record { speed = 0; voltage = u; current = i })) z
 holds (weighs E e₁ e₂ n qs W) = eqb (weighted E n (λ c. getD (e₁ ∷ e₂ ∷ []) c 0) (λ c. getD qs c 0)) W
+holds (closes E es ds k) = eqb (closingRefusal E (length es) (λ c. getD es c (pos 0)) (λ c. getD ds c (pos 0))) k

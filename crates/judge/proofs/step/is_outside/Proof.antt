@@ -1,12 +1,10 @@
 -- `judge::step::is_outside` meets its contract: the verdict is 0 exactly where the sample is inside.
 -- Assumes nothing.
-use mathlib.Core.Bool.{Bool, true, false, not, cond, _&&_}
-use mathlib.Core.List.{List}
-use mathlib.Core.Path.{_≡_, refl, ap, _∙_}
-use Prim.Native.Nat.{ℕ, _+_, _*_}
+use mathlib.Core.Bool.{not}
+use mathlib.Core.Path.{ap, _∙_}
+use Prim.Native.Nat.{ℕ}
 use borrow.Author.Needs.{needs}
-use lib.Dec.{eqb, leb}
-use Rattle.rules.specs.declared.Tolerances.{Tolerances}
+use lib.Dec.{eqb}
 use Rattle.rules.proofs.Band.{verdict-zero}
 use Rattle.judge.proofs.step.is_outside.Statement.{statement}
 use Rattle.judge.proofs.step.is_outside.Tie as tie

@@ -1,0 +1,218 @@
+-- What stands where the ground of a closing is not refused, and what a closing that refuses nothing says of energy and range.
+-- Assumes nothing.
+use mathlib.Core.Bool.{Bool, true, false, cond, false≢true}
+use mathlib.Core.List.{List}
+use mathlib.Core.Path.{_≡_, refl, sym, ap, ap₂, _∙_, subst}
+use Prim.Native.Nat.{ℕ, _+_, _*_, _/_, _^_, _≤_, _<_}
+use native.Mathlib.Nat.{div-div-eq-div-mul, div-le-self, div-le-of-le-mul, div-mul-le-self}
+use native.Mathlib.Omega.{arith}
+use borrow.Author.Tests.{leb-true}
+use lib.Dec.{T, leb, ltb, eqb, ltb→lt}
+use lib.IntN.{ℤ, pos, negsuc, natAbs, _+ℤ_}
+use lib.Signed.{leZ, nonNeg}
+use mir.Syntax.{w64}
+use mir.Val.{Fits, SFits, toZ, ofZ}
+use Rattle.numbers.specs.Tests.{unless}
+use Rattle.numbers.specs.Whole.{up, Sized}
+use Rattle.numbers.proofs.Tests.{not-refused, both, all-at, pass}
+use Rattle.numbers.proofs.Whole.{sum-is, le-up, up-le, abs-is, sized-add, sized-between, weaken, sfits, read}
+use Rattle.rules.specs.declared.Charge.the-variants.{Wh as wh}
+use Rattle.rules.specs.declared.Amounts.{Amounts}
+use Rattle.rules.specs.Closing.{mostRate, isCharge, areAmounts, weightedFigure, rangeFigure, closingRefusal, rechargeFigure, rechargeRefusal}
+use Rattle.rules.specs.Run.{finishedCycles}
+use Rattle.ledger.specs.Row.{energyIn, distanceIn, energyAll}
+use Rattle.ledger.proofs.Rows.{energy-all-sized}
+use Rattle.judge.specs.declared.Run.{Run}
+use Rattle.judge.specs.State.{ground}
+use Rattle.judge.specs.Answers.{settled}
+use Rattle.judge.proofs.Checked.{settled-taken, settled-refused, Ground, ground-passed, ground-zero, ground-on, ground-off, progress-most}
+use Rattle.closing.specs.Answers.{Figure, Is, Refused, closedOf, grounds, whole, closed, refusalOf, closingOf, rechargedOf, rechargedBy}
+
+-- ---- an answer by the number of its refusal
+
+pub figure-refused : {n k : ℕ} (f : Figure) → k ≡ n → (k ≡ 0 → ⊥) → Refused k ≡ settled n f (Refused n)
+figure-refused f e h = ap Refused e ∙ sym (settled-refused f (λ z. h (e ∙ z)))
+
+pub figure-taken : {n y : ℕ} (x : ℕ) → n ≡ 0 → y ≡ settled n x 0 → Is y ≡ settled n (Is x) (Refused n)
+figure-taken {n} x z e = ap Is (e ∙ settled-taken 0 z) ∙ sym (settled-taken (Refused n) z)
+
+settled-again : (n x : ℕ) → settled n (settled n x 0) 0 ≡ settled n x 0
+settled-again n x = go (eqb n 0)
+  where
+    go : (t : Bool) → cond t (cond t x 0) 0 ≡ cond t x 0
+    go true = refl
+    go false = refl
+
+-- ---- signed sums and casts, as the machine forms them
+
+module _ {m n : ℕ} {x y : ℤ} (t : T (ltb (m + n) (2 ^ 63))) (s : Sized m x) (u : Sized n y) where
+  sum-parts : toZ w64 (ofZ w64 x) +ℤ toZ w64 (ofZ w64 y) ≡ x +ℤ y
+  sum-parts =
+      let v : Sized (m + n) x = weaken (omega arith) s in
+      let w : Sized (m + n) y = weaken (omega arith) u in
+      ap₂ _+ℤ_ (read (sfits w64 t v)) (read (sfits w64 t w))
+
+  pub sum-fits : SFits w64 (toZ w64 (ofZ w64 x) +ℤ toZ w64 (ofZ w64 y))
+  sum-fits = subst (λ (z : ℤ). SFits w64 z) (sym sum-parts) (sfits w64 t (sized-add s u))
+
+  pub sum-read : toZ w64 (ofZ w64 (toZ w64 (ofZ w64 x) +ℤ toZ w64 (ofZ w64 y))) ≡ x +ℤ y
+  sum-read = read sum-fits ∙ sum-parts
+
+-- a positive z, read as y, is cast to an unsigned number: the cast is defined, and is `up z`
+cast-parts : {n : ℕ} (z : ℤ) → T (ltb n (2 ^ 63)) → Sized n z → leZ (pos 1) z ≡ true → T (nonNeg z) × Fits w64 (natAbs z) × (natAbs z ≡ up z)
+cast-parts {n} (pos k) t s e = (tt, omega (arith, s .size, ltb→lt n (2 ^ 63) t), refl)
+cast-parts (negsuc k) t s e = absurd (false≢true e)
+
+module _ {n : ℕ} {y z : ℤ} (t : T (ltb n (2 ^ 63))) (s : Sized n z) (h : leZ (pos 1) z ≡ true) (e : y ≡ z) where
+  pub cast-fits : T (nonNeg y) × Fits w64 (natAbs y)
+  cast-fits = let p = cast-parts z t s h in subst (λ (x : ℤ). T (nonNeg x) × Fits w64 (natAbs x)) (sym e) (p .0, p .1)
+
+  pub cast-is : natAbs y ≡ up z
+  cast-is = ap natAbs e ∙ cast-parts z t s h .2
+
+-- ---- the ground
+
+-- the amounts are within their limits, the ground is not refused; n and E, as the machine forms them
+pub record Standing (r : Run) (a : Amounts) (b : List ℕ) (l : List ℤ) (m : List ℕ) : Type 0 where
+  pub ground : Ground r b l m
+  pub before : Sized 10_000_000_000_000 (a .before)
+  pub after : Sized 10_000_000_000_000 (a .after)
+  pub charge : isCharge (a .charge) ≡ true
+  pub whole-sized : Sized 2_000_000_000_000_000 (a .before +ℤ energyAll l)
+  pub cycles : r .counted / (20 * r .seconds) ≡ finishedCycles b (r .counted)
+  pub most : r .counted / (20 * r .seconds) ≤ 64
+
+module _ (r : Run) (a : Amounts) (b : List ℕ) (l : List ℤ) (m : List ℕ) where
+  pub standing : grounds r a b l m 0 ≡ 0 → Standing r a b l m
+  unfolding areAmounts
+  standing e =
+      let (x, e′) = not-refused 0 _ _ e in
+      let x₂ = both _ _ x in
+      let x₁ = both _ _ (x₂ .0) in
+      let g = ground-passed e′ in
+      let before = sized-between 10_000_000_000_000 (a .before) (x₁ .0) in
+      record {
+        ground = g;
+        before = before;
+        after = sized-between 10_000_000_000_000 (a .after) (x₁ .1);
+        charge = x₂ .1;
+        whole-sized = weaken (omega arith) (sized-add before (energy-all-sized l (g .bounded)));
+        cycles = ap (λ (t : ℕ). r .counted / (20 * t)) (sym (g .same-seconds));
+        most = div-le-of-le-mul (20 * r .seconds) (omega (arith, progress-most _ _ _ _ (g .limits .progress) .1));
+      }
+
+  grounds-on : (others : ℕ) → grounds r a b l m 0 ≡ 0 → grounds r a b l m others ≡ others
+  grounds-on others e =
+      let (x, e′) = not-refused 0 _ _ e in
+      sym (pass 1 x (sym (ground-on r b l m others e′)))
+
+  grounds-off : (others : ℕ) → (grounds r a b l m 0 ≡ 0 → ⊥) → grounds r a b l m others ≡ grounds r a b l m 0
+  unfolding unless
+  grounds-off others = go (areAmounts a)
+    where
+      go : (t : Bool) → (unless 1 t (ground r b l m 0) ≡ 0 → ⊥) → unless 1 t (ground r b l m others) ≡ unless 1 t (ground r b l m 0)
+      go true h = ground-off r b l m others h
+      go false h = refl
+
+  -- the ground's refusal is the closing's
+  pub closing-refused : (grounds r a b l m 0 ≡ 0 → ⊥) → record { refusal = grounds r a b l m 0; weighted = 0; range = 0 } ≡ closingOf r a b l m
+  unfolding refusalOf
+  closing-refused h =
+      let same = sym (grounds-off (closed r a b l m .refusal) h) in
+      let none : (x : ℕ) → 0 ≡ settled (refusalOf r a b l m) x 0 = λ x. sym (settled-refused x (λ z. h (same ∙ z))) in
+      λ i. record { refusal = same i; weighted = none (closed r a b l m .weighted) i; range = none (closed r a b l m .range) i }
+
+  -- where it refuses nothing, the closing is that of the finished cycles
+  pub closing-taken : grounds r a b l m 0 ≡ 0 → closed r a b l m ≡ closingOf r a b l m
+  unfolding refusalOf closedOf
+  closing-taken e =
+      let c = closed r a b l m in
+      let same = sym (grounds-on (c .refusal) e) in
+      λ i. record {
+        refusal = same i;
+        weighted = (sym (settled-again (c .refusal) _) ∙ ap (λ (n : ℕ). settled n (c .weighted) 0) same) i;
+        range = (sym (settled-again (c .refusal) _) ∙ ap (λ (n : ℕ). settled n (c .range) 0) same) i;
+      }
+
+  -- nothing is refused, by the ground or by the closing
+  pub nothing-refused : refusalOf r a b l m ≡ 0
+      → Standing r a b l m × (closingRefusal (whole r a b l m) (finishedCycles b (r .counted)) (energyIn l) (distanceIn l) ≡ 0)
+  unfolding refusalOf closedOf
+  nothing-refused e =
+      let (x, e′) = not-refused 0 _ _ e in
+      let (z, e₂) = ground-zero r b l m _ e′ in
+      (standing (sym (pass 1 x (sym z))), e₂)
+
+-- E as the machine forms it, of the sum z that it has of the ledger
+module _ {r : Run} {a : Amounts} {b : List ℕ} {l : List ℤ} {m : List ℕ} (s : Standing r a b l m) (z : ℤ) (e : z ≡ energyAll l) where
+  pub whole-fits : SFits w64 (toZ w64 (ofZ w64 (a .before)) +ℤ toZ w64 (ofZ w64 z))
+  whole-fits = rw e (sum-fits tt (s .before) (energy-all-sized l (s .ground .bounded)))
+
+  pub whole-read : toZ w64 (ofZ w64 (toZ w64 (ofZ w64 (a .before)) +ℤ toZ w64 (ofZ w64 z))) ≡ a .before +ℤ energyAll l
+  whole-read = rw e (sum-read tt (s .before) (energy-all-sized l (s .ground .bounded)))
+
+-- ---- a closing that refuses nothing
+
+-- a range of at most 2 × 10^15 of energy
+short : (E W : ℕ) → E ≤ 2_000_000_000_000_000 → 5 * E / (36 * W) < 2 ^ 51
+short E W h =
+    omega (arith, div-div-eq-div-mul (5 * E) 36 W, div-le-self (5 * E / 36) W, div-mul-le-self (5 * E) 36)
+
+pub record Charged (E : ℤ) (range : ℕ) : Type 0 where
+  pub some-range : 1 ≤ range
+  pub small-range : range < 2 ^ 51
+  pub some-energy : leZ (pos 1) E ≡ true
+
+module _ (E : ℤ) (n : ℕ) (e d : ℕ → ℤ) where
+  charged : Sized 2_000_000_000_000_000 E → closingRefusal E n e d ≡ 0 → Charged E (rangeFigure E n e d)
+  unfolding closingRefusal
+  charged s z =
+      let (p₁, z₁) = not-refused 9 _ _ z in
+      let (p₂, z₂) = not-refused 10 _ _ z₁ in
+      let (p₃, z₃) = not-refused 10 _ _ z₂ in
+      let (p₄, z₄) = not-refused 11 _ _ z₃ in
+      let (p₅, z₅) = not-refused 11 _ _ z₄ in
+      let (p₆, z₆) = not-refused 12 _ _ z₅ in
+      let three = leb-true 3 n p₁ in
+      let drawn = all-at n (λ c. leZ (pos 1) (e c)) p₂ in
+      record {
+        some-range = leb-true 1 _ p₆;
+        small-range = short (up E) (weightedFigure E n e d) (omega (arith, s .size, abs-is E));
+        some-energy =
+            up-le (pos 1) E
+            (omega (
+              arith,
+              le-up (pos 1) (e 0) (drawn 0 (omega arith)),
+              le-up (pos 1) (e 1) (drawn 1 (omega arith)),
+              sum-is (e 0) (e 1),
+              le-up (e 0 +ℤ e 1) E p₃,
+            ));
+      }
+
+-- of the closing itself
+module _ (r : Run) (a : Amounts) (b : List ℕ) (l : List ℤ) (m : List ℕ) (z : refusalOf r a b l m ≡ 0) where
+  pub range-is : closingOf r a b l m .range ≡ rangeFigure (whole r a b l m) (finishedCycles b (r .counted)) (energyIn l) (distanceIn l)
+  unfolding closedOf
+  range-is = settled-taken 0 z ∙ settled-taken 0 (nothing-refused r a b l m z .1)
+
+  pub closing-charged : Charged (whole r a b l m) (closingOf r a b l m .range)
+  closing-charged =
+      let (s, none) = nothing-refused r a b l m z in
+      subst (λ (n : ℕ). Charged (whole r a b l m) n) (sym range-is) (charged _ _ _ _ (s .whole-sized) none)
+
+pub charge-most : (A : ℕ) → isCharge (wh A) ≡ true → A ≤ 2_000_000
+charge-most A e = leb-true A 2_000_000 (both (leb 1 A) (leb A 2_000_000) e .1)
+
+-- 14 and 12 as answers, or as numbers
+pub recharged-is : (l : List ℤ) (n : ℕ) (E F : ℤ) (A : ℕ)
+    → rechargedBy (rangeFigure E n (energyIn l) (distanceIn l)) E F A ≡ rechargedOf l n E F (wh A)
+unfolding rechargedBy rechargedOf rechargeRefusal unless
+recharged-is l n E F A =
+    let x = rechargeFigure E n (energyIn l) (distanceIn l) F A in
+    go (leZ (pos 1) (E +ℤ F)) (leb x mostRate) x
+  where
+    go : (s t : Bool) (x : ℕ) →
+        unless (Refused 14) s (unless (Refused 12) t (Is x)) ≡ settled (unless 14 s (unless 12 t 0)) (Is x) (Refused (unless 14 s (unless 12 t 0)))
+    go true true x = refl
+    go true false x = refl
+    go false t x = refl

@@ -1,0 +1,126 @@
+-- The closing figures of a whole run are those of the rules over its samples.
+-- Assumes nothing.
+use mathlib.Core.Bool.{Bool, true, false, cond}
+use mathlib.Core.List.{List}
+use mathlib.Core.Path.{_≡_, refl, sym, ap, ap₂, _∙_}
+use Prim.Native.Nat.{ℕ, _≤_, _<_}
+use lib.Dec.{eqb}
+use lib.IntN.{ℤ, pos, _+ℤ_}
+use lib.ListN.{length}
+use Rattle.numbers.proofs.Tests.{pass}
+use Rattle.rules.specs.declared.Sample.{Sample}
+use Rattle.rules.specs.declared.Tolerances.{Tolerances}
+use Rattle.rules.specs.declared.Amounts.{Amounts}
+use Rattle.rules.specs.declared.Charge.{Charge}
+use Rattle.rules.specs.declared.Charge.the-variants.{Absent as absent, Wh as wh}
+use Rattle.rules.specs.Closing.{wholeEnergy, areAmounts, weightedFigure, rangeFigure, closingRefusal, rechargeFigure, rechargeRefusal}
+use Rattle.rules.specs.Run.{sampleOf, cycleEnergy, cycleDistance, finishedCycles, over, counted, cycles}
+use Rattle.rules.proofs.Same.{weighted-same, range-same, refusal-same, recharge-same, recharge-refusal-same}
+use Rattle.ledger.specs.Row.{energyIn, distanceIn, energyAll}
+use Rattle.judge.specs.declared.Run.{Run}
+use Rattle.judge.specs.Answers.{settled}
+use Rattle.judge.proofs.Runs.{Reached, run-shows, cycle-energies, cycle-distances, few-cycles, never-refused}
+use Rattle.closing.specs.Answers.{Figure, Is, Absent, Refused, closedOf, refusalOf, weightedAnswer, rangeAnswer, rechargedOf, rechargeAnswer}
+
+-- the answers, of the whole energy E and n finished cycles of energies e and distances d
+module _ (E : ℤ) (n : ℕ) (e d : ℕ → ℤ) where
+  abbrev pub weightedBy : Figure
+  weightedBy = settled (closingRefusal E n e d) (Is (weightedFigure E n e d)) (Refused (closingRefusal E n e d))
+
+  abbrev pub rangeBy : Figure
+  rangeBy = settled (closingRefusal E n e d) (Is (rangeFigure E n e d)) (Refused (closingRefusal E n e d))
+
+  abbrev pub chargedBy : ℤ → Charge → Figure
+  chargedBy F absent = Absent
+  chargedBy F (wh A) = settled (rechargeRefusal E n e d F A) (Is (rechargeFigure E n e d F A)) (Refused (rechargeRefusal E n e d F A))
+
+  abbrev pub rechargeBy : ℤ → Charge → Figure
+  rechargeBy F charge = settled (closingRefusal E n e d) (chargedBy F charge) (Refused (closingRefusal E n e d))
+
+-- a figure that is 0 where it is refused
+settled-twice : (k x : ℕ) → settled k (Is (settled k x 0)) (Refused k) ≡ settled k (Is x) (Refused k)
+settled-twice k x = go (eqb k 0)
+  where
+    go : (y : Bool) → cond y (Is (cond y x 0)) (Refused k) ≡ cond y (Is x) (Refused k)
+    go true = refl
+    go false = refl
+
+module _ (b : List ℕ) (t : Tolerances) (l₀ : List ℤ) (m₀ : List ℕ) {xs : List Sample} {r : Run} {l : List ℤ} {m : List ℕ} (h : Reached b t l₀ m₀ xs r l m)
+    (a : Amounts) (ok : areAmounts a ≡ true) where
+  -- E, n, e_c and d_c of the samples
+  abbrev pub E : ℤ
+  E = wholeEnergy (a .before) b t (sampleOf xs) (length xs)
+
+  abbrev pub n : ℕ
+  n = cycles b t (sampleOf xs) (length xs)
+
+  abbrev pub e : ℕ → ℤ
+  e c = cycleEnergy b (sampleOf xs) c (counted b t (sampleOf xs) (length xs))
+
+  abbrev pub d : ℕ → ℤ
+  d c = pos (cycleDistance b (sampleOf xs) c (counted b t (sampleOf xs) (length xs)))
+
+  -- as the ledger has them
+  abbrev E′ : ℤ
+  E′ = a .before +ℤ energyAll l
+
+  abbrev n′ : ℕ
+  n′ = finishedCycles b (r .counted)
+
+  E-is : E′ ≡ E
+  E-is = ap (λ (z : ℤ). a .before +ℤ z) (run-shows b t l₀ m₀ h .energies-add-up)
+
+  n-is : n′ ≡ n
+  n-is = ap (finishedCycles b) (run-shows b t l₀ m₀ h .counted-is)
+
+  few : n ≤ 64
+  few = rw (sym n-is) (few-cycles b t l₀ m₀ h)
+
+  energies : (c : ℕ) → c < 64 → energyIn l c ≡ e c
+  energies = cycle-energies b t l₀ m₀ h
+
+  distances : (c : ℕ) → c < 64 → distanceIn l c ≡ d c
+  distances = cycle-distances b t l₀ m₀ h
+
+  refused-is : closingRefusal E′ n′ (energyIn l) (distanceIn l) ≡ closingRefusal E n e d
+  refused-is =
+      ap₂ (λ (x : ℤ) (y : ℕ). closingRefusal x y (energyIn l) (distanceIn l)) E-is n-is
+      ∙ refusal-same E n few (energyIn l) (distanceIn l) e d energies distances
+
+  weighted-is : weightedFigure E′ n′ (energyIn l) (distanceIn l) ≡ weightedFigure E n e d
+  weighted-is =
+      ap₂ (λ (x : ℤ) (y : ℕ). weightedFigure x y (energyIn l) (distanceIn l)) E-is n-is
+      ∙ weighted-same E n few (energyIn l) (distanceIn l) e d energies distances
+
+  range-is : rangeFigure E′ n′ (energyIn l) (distanceIn l) ≡ rangeFigure E n e d
+  range-is =
+      ap₂ (λ (x : ℤ) (y : ℕ). rangeFigure x y (energyIn l) (distanceIn l)) E-is n-is
+      ∙ range-same E n few (energyIn l) (distanceIn l) e d energies distances
+
+  -- such a run is refused by the closing's own numbers only
+  refusal-is : refusalOf r a b l m ≡ closingRefusal E n e d
+  unfolding refusalOf closedOf
+  refusal-is = sym (pass 1 ok refl) ∙ never-refused b t l₀ m₀ h _ ∙ refused-is
+
+  pub weighted-of-run : weightedAnswer r a b l m ≡ weightedBy E n e d
+  unfolding closedOf
+  weighted-of-run =
+      (λ i. settled (refusal-is i) (Is (settled (refused-is i) (weighted-is i) 0)) (Refused (refusal-is i)))
+      ∙ settled-twice (closingRefusal E n e d) (weightedFigure E n e d)
+
+  pub range-of-run : rangeAnswer r a b l m ≡ rangeBy E n e d
+  unfolding closedOf
+  range-of-run =
+      (λ i. settled (refusal-is i) (Is (settled (refused-is i) (range-is i) 0)) (Refused (refusal-is i)))
+      ∙ settled-twice (closingRefusal E n e d) (rangeFigure E n e d)
+
+  charged-is : (F : ℤ) (charge : Charge) → rechargedOf l n′ E′ F charge ≡ chargedBy E n e d F charge
+  unfolding rechargedOf
+  charged-is F absent = refl
+  charged-is F (wh A) =
+      let k = ap₂ (λ (x : ℤ) (y : ℕ). rechargeRefusal x y (energyIn l) (distanceIn l) F A) E-is n-is ∙ recharge-refusal-same E n few (energyIn l) (distanceIn l) e d energies distances F A in
+      let f = ap₂ (λ (x : ℤ) (y : ℕ). rechargeFigure x y (energyIn l) (distanceIn l) F A) E-is n-is ∙ recharge-same E n few (energyIn l) (distanceIn l) e d energies distances F A in
+      λ i. settled (k i) (Is (f i)) (Refused (k i))
+
+  pub recharge-of-run : rechargeAnswer r a b l m ≡ rechargeBy E n e d (a .after) (a .charge)
+  recharge-of-run = λ i. settled (refusal-is i) (charged-is (a .after) (a .charge) i) (Refused (refusal-is i))

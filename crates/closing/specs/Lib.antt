@@ -1,0 +1,2 @@
+-- The closing operations of a started run.
+pub mod Answers

@@ -1,0 +1,63 @@
+// The closing figures of a started run: weighted consumption, range and recharge figure.
+use judge::Run;
+use rules::Amounts;
+use rules::Charge;
+ghost use mathlib.Core.Path.{_≡_};
+ghost use Rattle.closing.specs.Answers.{refusalOf, weightedAnswer, rangeAnswer, rechargeAnswer};
+
+pub mod checks;
+pub mod figures;
+
+// A figure, no figure, or the number of a refusal.
+pub enum Figure {
+    Is(u64),
+    Absent,
+    Refused(u32),
+}
+
+// The closing of a run: W and the range, or the number of a refusal.
+pub struct Closed {
+    pub refusal: u32,
+    pub weighted: u64,
+    pub range: u64,
+}
+
+// Weighted consumption, in mWh/km.
+pub fn weighted(run: Run, amounts: Amounts, b: &[u8], ledger: &[i64], map: &[u64]) -> Figure
+    ensures { λ r. ⌜ r ≡ weightedAnswer run amounts (now (b .entry)) (now (ledger .entry)) (now (map .entry)) ⌝ }
+{
+    let c = checks::closing_of(run, amounts, b, ledger, map);
+    if c.refusal != 0 {
+        return Figure::Refused(c.refusal);
+    }
+    Figure::Is(c.weighted)
+}
+
+// Range, in metres.
+pub fn range(run: Run, amounts: Amounts, b: &[u8], ledger: &[i64], map: &[u64]) -> Figure
+    ensures { λ r. ⌜ r ≡ rangeAnswer run amounts (now (b .entry)) (now (ledger .entry)) (now (map .entry)) ⌝ }
+{
+    let c = checks::closing_of(run, amounts, b, ledger, map);
+    if c.refusal != 0 {
+        return Figure::Refused(c.refusal);
+    }
+    Figure::Is(c.range)
+}
+
+// Recharge figure, in mWh/km.
+pub fn recharge(run: Run, amounts: Amounts, b: &[u8], ledger: &[i64], map: &[u64]) -> Figure
+    ensures { λ r. ⌜ r ≡ rechargeAnswer run amounts (now (b .entry)) (now (ledger .entry)) (now (map .entry)) ⌝ }
+{
+    let c = checks::closing_of(run, amounts, b, ledger, map);
+    if c.refusal != 0 {
+        return Figure::Refused(c.refusal);
+    }
+    let charge = amounts.charge;
+    match charge {
+        Charge::Absent => Figure::Absent,
+        Charge::Wh(wh) => {
+            let total = amounts.before + ledger::totals::energy_all(ledger);
+            figures::recharged(c.range, total, amounts.after, wh)
+        }
+    }
+}
