@@ -48,16 +48,16 @@ pub fn range(run: Run, amounts: Amounts, b: &[u8], ledger: &[i64], map: &[u64]) 
 pub fn recharge(run: Run, amounts: Amounts, b: &[u8], ledger: &[i64], map: &[u64]) -> Figure
     ensures { λ r. ⌜ r ≡ rechargeAnswer run amounts (now (b .entry)) (now (ledger .entry)) (now (map .entry)) ⌝ }
 {
-    let c = checks::closing_of(run, amounts, b, ledger, map);
-    if c.refusal != 0 {
-        return Figure::Refused(c.refusal);
+    let closing = checks::closing_of(run, amounts, b, ledger, map);
+    if closing.refusal != 0 {
+        return Figure::Refused(closing.refusal);
     }
     let charge = amounts.charge;
     match charge {
         Charge::Absent => Figure::Absent,
         Charge::Wh(wh) => {
             let total = amounts.before + ledger::totals::energy_all(ledger);
-            figures::recharged(c.range, total, amounts.after, wh)
+            figures::recharged(closing.range, total, amounts.after, wh)
         }
     }
 }

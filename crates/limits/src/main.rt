@@ -1,0 +1,253 @@
+// The closing figures at their limits: each is printed, and the gate compares it with what was worked out by hand.
+use closing::Figure;
+use judge::Ends;
+use judge::Run;
+use libc::STDOUT_FILENO;
+use rules::Amounts;
+use rules::Charge;
+use rules::End;
+use rules::Tolerances;
+
+// T = 2, one phase, points of 100.
+const CYCLE: [u8; 9] = [1, 0, 2, 0, 100, 0, 100, 0, 100];
+
+fn say(text: &[u8]) {
+    io::write_all(STDOUT_FILENO, text);
+}
+
+fn say_number(n: u64) {
+    io::print_decimal(STDOUT_FILENO, n);
+}
+
+fn say_figure(figure: Figure) {
+    match figure {
+        Figure::Is(n) => say_number(n),
+        Figure::Absent => say(b"-"),
+        Figure::Refused(n) => {
+            say(b"refused ");
+            say_number(n as u64);
+        }
+    }
+}
+
+// A run of n finished cycles, as a start and 40 n samples leave it.
+fn finished(n: u32) -> Run {
+    let end = if n < 64 { End::None } else { End::Limit };
+    let counted = if n < 64 { 40 * n } else { 2560 };
+    Run {
+        seconds: 2,
+        ends: Ends {
+            first: 2,
+            second: 0,
+            third: 0,
+            fourth: 0,
+        },
+        tolerances: Tolerances {
+            speed: 30,
+            time: 20,
+            allowance: 300,
+        },
+        offered: counted,
+        counted,
+        end,
+    }
+}
+
+// What stands at place i of a ledger in which every energy and every distance is the same.
+fn number_at(i: usize, energy: i64, distance: i64) -> i64 {
+    let a = i % 9;
+    if a < 4 {
+        return energy;
+    }
+    if a < 8 {
+        return distance;
+    }
+    0
+}
+
+fn fill(ledger: &mut [i64], energy: i64, distance: i64) {
+    let mut i = 0;
+    while i < ledger.len() {
+        ledger[i] = number_at(i, energy, distance);
+        i += 1;
+    }
+}
+
+fn say_all(label: &[u8], run: Run, amounts: Amounts, cycle: &[u8], ledger: &[i64]) {
+    let map = [0u64; 750];
+    say(label);
+    say(b": ");
+    say_figure(closing::weighted(run, amounts, cycle, ledger, &map));
+    say(b", ");
+    say_figure(closing::range(run, amounts, cycle, ledger, &map));
+    say(b", ");
+    say_figure(closing::recharge(run, amounts, cycle, ledger, &map));
+    say(b"\n");
+}
+
+fn amounts(before: i64, after: i64, wh: u32) -> Amounts {
+    let charge = if wh == 0 {
+        Charge::Absent
+    } else {
+        Charge::Wh(wh)
+    };
+    Amounts {
+        before,
+        after,
+        charge,
+    }
+}
+
+fn large() {
+    let mut ledger = [0i64; 576];
+    fill(&mut ledger, 7_200_000_000_000, 72_000_000);
+    say_all(
+        b"largest ledger, quotient past 64 bits",
+        finished(64),
+        amounts(10_000_000_000_000, -10_000_000_000_000, 2_000_000),
+        &CYCLE,
+        &ledger,
+    );
+    say_all(
+        b"largest ledger, transfer after",
+        finished(64),
+        amounts(10_000_000_000_000, 10_000_000_000_000, 1),
+        &CYCLE,
+        &ledger,
+    );
+}
+
+fn out_of_bounds() {
+    let mut ledger = [0i64; 576];
+    ledger[0] = 7_200_000_000_001;
+    say_all(
+        b"a number of the ledger out of bounds",
+        finished(64),
+        amounts(0, 0, 1),
+        &CYCLE,
+        &ledger,
+    );
+}
+
+// Energies of 1 in one phase, distances of 100: every q is 1.
+fn small() {
+    let mut ledger = [0i64; 576];
+    ledger[0] = 1;
+    ledger[9] = 1;
+    ledger[18] = 1;
+    ledger[4] = 100;
+    ledger[13] = 100;
+    ledger[22] = 100;
+    say_all(
+        b"q at 1, E + F = 1",
+        finished(3),
+        amounts(5, -7, 1),
+        &CYCLE,
+        &ledger,
+    );
+    say_all(
+        b"recharge figure above its limit",
+        finished(3),
+        amounts(5, -7, 2),
+        &CYCLE,
+        &ledger,
+    );
+    say_all(
+        b"E + F = 0",
+        finished(3),
+        amounts(5, -8, 1),
+        &CYCLE,
+        &ledger,
+    );
+    say_all(
+        b"E + F = 0, no recharge",
+        finished(3),
+        amounts(5, -8, 0),
+        &CYCLE,
+        &ledger,
+    );
+    say_all(
+        b"a range of 0",
+        finished(3),
+        amounts(4, 0, 1),
+        &CYCLE,
+        &ledger,
+    );
+    say_all(
+        b"E = e_1 + e_2",
+        finished(3),
+        amounts(-1, 0, 1),
+        &CYCLE,
+        &ledger,
+    );
+    say_all(
+        b"E below e_1 + e_2",
+        finished(3),
+        amounts(-2, 0, 1),
+        &CYCLE,
+        &ledger,
+    );
+    say_all(
+        b"two cycles",
+        finished(2),
+        amounts(5, 0, 1),
+        &CYCLE,
+        &ledger,
+    );
+    say_all(
+        b"transfer past its limit",
+        finished(2),
+        amounts(10_000_000_000_001, 0, 1),
+        &CYCLE,
+        &ledger,
+    );
+    say_all(
+        b"recharge past its limit",
+        finished(2),
+        amounts(0, 0, 2_000_001),
+        &CYCLE,
+        &ledger,
+    );
+    say_all(
+        b"a cycle of 8 bytes",
+        finished(2),
+        amounts(0, 0, 1),
+        &CYCLE[..8],
+        &ledger,
+    );
+    ledger[22] = 101;
+    say_all(b"q below 1", finished(3), amounts(5, 0, 1), &CYCLE, &ledger);
+    ledger[22] = 0;
+    say_all(
+        b"no distance",
+        finished(3),
+        amounts(5, 0, 1),
+        &CYCLE,
+        &ledger,
+    );
+    ledger[18] = 0;
+    say_all(b"no energy", finished(3), amounts(5, 0, 1), &CYCLE, &ledger);
+    ledger[18] = 100_001;
+    ledger[22] = 1;
+    say_all(
+        b"q above 10,000,000",
+        finished(3),
+        amounts(5, 0, 1),
+        &CYCLE,
+        &ledger,
+    );
+    ledger[18] = 100_000;
+    say_all(
+        b"q at 10,000,000",
+        finished(3),
+        amounts(1_000_000_000, 0, 1),
+        &CYCLE,
+        &ledger,
+    );
+}
+
+fn main() {
+    large();
+    out_of_bounds();
+    small();
+}
