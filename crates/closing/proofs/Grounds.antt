@@ -1,24 +1,25 @@
 -- What stands where the ground of a closing is not refused, and what a closing that refuses nothing says of energy and range.
 -- Assumes nothing.
-use mathlib.Core.Bool.{Bool, true, false, cond, false≢true}
+use mathlib.Core.Bool.{Bool, true, false, cond}
 use mathlib.Core.List.{List}
 use mathlib.Core.Path.{_≡_, refl, sym, ap, ap₂, _∙_, subst}
 use Prim.Native.Nat.{ℕ, _+_, _*_, _/_, _^_, _≤_, _<_}
 use native.Mathlib.Nat.{div-div-eq-div-mul, div-le-self, div-le-of-le-mul, div-mul-le-self}
 use native.Mathlib.Omega.{arith}
-use borrow.Author.Tests.{leb-true}
-use lib.Dec.{T, leb, ltb, eqb, ltb→lt}
-use lib.IntN.{ℤ, pos, negsuc, natAbs, _+ℤ_}
-use lib.Signed.{leZ, nonNeg}
+use borrow.Author.Tests.{le-leb, leb-true}
+use lib.Dec.{T, leb, ltb, eqb}
+use lib.IntN.{ℤ, pos, negsuc, _+ℤ_}
+use lib.Signed.{leZ}
 use mir.Syntax.{w64}
-use mir.Val.{Fits, SFits, toZ, ofZ}
+use mir.Val.{SFits, toZ, ofZ}
 use Rattle.numbers.specs.Tests.{unless}
 use Rattle.numbers.specs.Whole.{up, Sized}
-use Rattle.numbers.proofs.Tests.{not-refused, both, all-at, pass}
-use Rattle.numbers.proofs.Whole.{sum-is, le-up, up-le, abs-is, sized-add, sized-between, weaken, sfits, read}
+use Rattle.numbers.proofs.Tests.{not-refused, both, pass}
+use Rattle.numbers.proofs.Whole.{abs-is, sized-add, sized-between, weaken, sfits, read}
 use Rattle.rules.specs.declared.Charge.the-variants.{Wh as wh}
 use Rattle.rules.specs.declared.Amounts.{Amounts}
 use Rattle.rules.specs.Closing.{mostRate, isCharge, areAmounts, weightedFigure, rangeFigure, closingRefusal, rechargeFigure, rechargeRefusal}
+use Rattle.rules.proofs.Closes.{closes, some-energy}
 use Rattle.rules.specs.Run.{finishedCycles}
 use Rattle.ledger.specs.Row.{energyIn, distanceIn, energyAll}
 use Rattle.ledger.proofs.Rows.{energy-all-sized}
@@ -57,18 +58,6 @@ module _ {m n : ℕ} {x y : ℤ} (t : T (ltb (m + n) (2 ^ 63))) (s : Sized m x) 
 
   pub sum-read : toZ w64 (ofZ w64 (toZ w64 (ofZ w64 x) +ℤ toZ w64 (ofZ w64 y))) ≡ x +ℤ y
   sum-read = read sum-fits ∙ sum-parts
-
--- a positive z, read as y, is cast to an unsigned number: the cast is defined, and is `up z`
-cast-parts : {n : ℕ} (z : ℤ) → T (ltb n (2 ^ 63)) → Sized n z → leZ (pos 1) z ≡ true → T (nonNeg z) × Fits w64 (natAbs z) × (natAbs z ≡ up z)
-cast-parts {n} (pos k) t s e = (tt, omega (arith, s .size, ltb→lt n (2 ^ 63) t), refl)
-cast-parts (negsuc k) t s e = absurd (false≢true e)
-
-module _ {n : ℕ} {y z : ℤ} (t : T (ltb n (2 ^ 63))) (s : Sized n z) (h : leZ (pos 1) z ≡ true) (e : y ≡ z) where
-  pub cast-fits : T (nonNeg y) × Fits w64 (natAbs y)
-  cast-fits = let p = cast-parts z t s h in subst (λ (x : ℤ). T (nonNeg x) × Fits w64 (natAbs x)) (sym e) (p .0, p .1)
-
-  pub cast-is : natAbs y ≡ up z
-  cast-is = ap natAbs e ∙ cast-parts z t s h .2
 
 -- ---- the ground
 
@@ -163,30 +152,18 @@ pub record Charged (E : ℤ) (range : ℕ) : Type 0 where
   pub small-range : range < 2 ^ 51
   pub some-energy : leZ (pos 1) E ≡ true
 
+one-up : (z : ℤ) → 1 ≤ up z → leZ (pos 1) z ≡ true
+one-up (pos m) h = le-leb 1 m h
+one-up (negsuc m) h = absurd (omega arith)
+
 module _ (E : ℤ) (n : ℕ) (e d : ℕ → ℤ) where
   charged : Sized 2_000_000_000_000_000 E → closingRefusal E n e d ≡ 0 → Charged E (rangeFigure E n e d)
-  unfolding closingRefusal
   charged s z =
-      let (p₁, z₁) = not-refused 9 _ _ z in
-      let (p₂, z₂) = not-refused 10 _ _ z₁ in
-      let (p₃, z₃) = not-refused 10 _ _ z₂ in
-      let (p₄, z₄) = not-refused 11 _ _ z₃ in
-      let (p₅, z₅) = not-refused 11 _ _ z₄ in
-      let (p₆, z₆) = not-refused 12 _ _ z₅ in
-      let three = leb-true 3 n p₁ in
-      let drawn = all-at n (λ c. leZ (pos 1) (e c)) p₂ in
+      let k = closes E n e d z in
       record {
-        some-range = leb-true 1 _ p₆;
+        some-range = k .somewhere;
         small-range = short (up E) (weightedFigure E n e d) (omega (arith, s .size, abs-is E));
-        some-energy =
-            up-le (pos 1) E
-            (omega (
-              arith,
-              le-up (pos 1) (e 0) (drawn 0 (omega arith)),
-              le-up (pos 1) (e 1) (drawn 1 (omega arith)),
-              sum-is (e 0) (e 1),
-              le-up (e 0 +ℤ e 1) E p₃,
-            ));
+        some-energy = one-up E (some-energy E n e d k);
       }
 
 -- of the closing itself

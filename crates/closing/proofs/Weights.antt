@@ -12,7 +12,7 @@ use lib.Dec.{T, leb, ltb, ltb→lt}
 use lib.IntN.{ℤ, pos, negsuc, natAbs, _+ℤ_}
 use lib.Signed.{leZ, ltZ, nonNeg}
 use mir.Syntax.{w64}
-use mir.Val.{Fits, SFits, toZ, ofZ}
+use mir.Val.{Fits, toZ, ofZ}
 use Rattle.numbers.specs.Tests.{allBelow, unless}
 use Rattle.numbers.specs.Whole.{up, down, Sized}
 use Rattle.numbers.proofs.Tests.{both, all-more, all-fails, all-at, refuted, pass}
@@ -62,22 +62,26 @@ pub positive : (n : ℕ) (z : ℤ) → Sized n z → leZ (pos 1) z ≡ true → 
 positive n (pos m) s e = record { is = refl; least = leb-true 1 m e; most = s .size }
 positive n (negsuc m) s e = absurd (false≢true e)
 
--- the code casts the number r to an unsigned one, and r is such a z
-pub record Cast (r z : ℤ) : Type 0 where
-  pub fits : T (nonNeg (toZ w64 (ofZ w64 r))) × Fits w64 (natAbs (toZ w64 (ofZ w64 r)))
-  pub is : natAbs (toZ w64 (ofZ w64 r)) ≡ up z
+-- a positive z, read as y, is cast to an unsigned number: the cast is defined, and is `up z`
+pub record Cast (y z : ℤ) : Type 0 where
+  pub fits : T (nonNeg y) × Fits w64 (natAbs y)
+  pub is : natAbs y ≡ up z
 
-pub cast : {n : ℕ} {r z : ℤ} → T (ltb n (2 ^ 64)) → SFits w64 r → r ≡ z → Positive n z → Cast r z
-cast {n} {r} {z} t ok e p = record { fits = (subst (λ (y : ℤ). T (nonNeg y)) (sym was) tt, small); is = is }
+pub cast : {n : ℕ} {y z : ℤ} → T (ltb n (2 ^ 64)) → y ≡ z → Positive n z → Cast y z
+cast {n} {y} {z} t e p = record { fits = (subst (λ (x : ℤ). T (nonNeg x)) (sym was) tt, small); is = is }
   where
-    was : toZ w64 (ofZ w64 r) ≡ pos (up z)
-    was = read ok ∙ e ∙ sym (p .is)
+    was : y ≡ pos (up z)
+    was = e ∙ sym (p .is)
 
-    is : natAbs (toZ w64 (ofZ w64 r)) ≡ up z
+    is : natAbs y ≡ up z
     is = ap natAbs was
 
-    small : Fits w64 (natAbs (toZ w64 (ofZ w64 r)))
+    small : Fits w64 (natAbs y)
     small = record { fits = rw is (lt-of-le-of-lt (p .most) (ltb→lt n (2 ^ 64) t)) }
+
+-- the machine's reading of a number that fits
+abbrev pub machine : ℤ → ℤ
+machine r = toZ w64 (ofZ w64 r)
 
 positive-one : (z : ℤ) → ltZ (pos 0) z ≡ true → leZ (pos 1) z ≡ true
 positive-one (pos m) e = le-leb 1 m (ltb-true 0 m e)

@@ -1,7 +1,7 @@
 -- `closing::figures::close` meets its contract: the code tests in the order of the chain of refusals.
 -- Assumes nothing.
 use mathlib.Core.Bool.{true, not}
-use mathlib.Core.Path.{_≡_, refl, sym, ap, ap₂, subst, _∙_}
+use mathlib.Core.Path.{_≡_, sym, ap, ap₂, subst, _∙_}
 use Prim.Native.Nat.{ℕ}
 use native.Mathlib.Omega.{arith}
 use borrow.Author.Needs.{needs}
@@ -17,7 +17,7 @@ use Rattle.rules.specs.Closing.{closingRefusal}
 use Rattle.ledger.specs.Row.{energyIn, distanceIn}
 use Rattle.ledger.proofs.Rows.{energy-sized}
 use Rattle.closing.specs.Answers.{Closable, closedOf}
-use Rattle.closing.proofs.Weights.{Positive, positive, Cast, cast, some, closed-refused}
+use Rattle.closing.proofs.Weights.{Positive, positive, Cast, cast, machine, some, closed-refused}
 use Rattle.closing.proofs.figures.close.Statement.{statement}
 use Rattle.closing.proofs.figures.close.Tie as tie
 
@@ -173,8 +173,8 @@ module _ (c : tie.Else5) where
   natural : Positive 2_000_000_000_000_000 (begin .args .total)
   natural = positive _ _ (begin .pre .2) (some (begin .args .ledger .now) (begin .args .n) closable (begin .args .total) energy-fits)
 
-  total-cast : Cast (begin .args .total) (begin .args .total)
-  total-cast = cast tt (begin .fits .total) refl natural
+  total-cast : Cast (machine (begin .args .total)) (begin .args .total)
+  total-cast = cast tt (read (begin .fits .total)) natural
 
   total-is : pos (natAbs (toZ w64 (ofZ w64 (begin .args .total)))) ≡ begin .args .total
   total-is = ap pos (total-cast .is) ∙ natural .is

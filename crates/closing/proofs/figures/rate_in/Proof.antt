@@ -1,11 +1,12 @@
 -- `closing::figures::rate_in` meets its contract: energy and distance are natural numbers.
 -- Assumes nothing.
-use mathlib.Core.Path.{ap₂}
+use mathlib.Core.Path.{ap₂, _∙_}
+use Rattle.numbers.proofs.Whole.{read}
 use Prim.Native.Nat.{ℕ, _*_, _/_}
 use native.Mathlib.Omega.{arith}
 use borrow.Author.Needs.{needs}
 use Rattle.ledger.specs.Row.{energyIn, distanceIn}
-use Rattle.closing.proofs.Weights.{Positive, Cast, mostDrawn, mostMoved, cast, energy-positive, distance-positive}
+use Rattle.closing.proofs.Weights.{Positive, Cast, machine, mostDrawn, mostMoved, cast, energy-positive, distance-positive}
 use Rattle.closing.proofs.figures.rate_in.Statement.{statement}
 use Rattle.closing.proofs.figures.rate_in.Tie as tie
 
@@ -17,11 +18,11 @@ module _ (a : tie.Start) where
   moved : Positive mostMoved (distanceIn (a .args .ledger .now) (a .args .c))
   moved = distance-positive _ (a .pre .0) _ (a .pre .1) (a .pre .3)
 
-energy : (c : tie.After-energy-in) → (let a = c .before .args in Cast (c .energy-in .result) (energyIn (a .ledger .now) (a .c)))
-energy c = cast tt (record { sfits = c .energy-in .ok }) (c .energy-in .ensures) (drawn (c .before))
+energy : (c : tie.After-energy-in) → (let a = c .before .args in Cast (machine (c .energy-in .result)) (energyIn (a .ledger .now) (a .c)))
+energy c = cast tt (read (record { sfits = c .energy-in .ok }) ∙ c .energy-in .ensures) (drawn (c .before))
 
-distance : (c : tie.After-distance-in) → (let a = c .before .before .args in Cast (c .distance-in .result) (distanceIn (a .ledger .now) (a .c)))
-distance c = cast tt (record { sfits = c .distance-in .ok }) (c .distance-in .ensures) (moved (c .before .before))
+distance : (c : tie.After-distance-in) → (let a = c .before .before .args in Cast (machine (c .distance-in .result)) (distanceIn (a .ledger .now) (a .c)))
+distance c = cast tt (read (record { sfits = c .distance-in .ok }) ∙ c .distance-in .ensures) (moved (c .before .before))
 
 energy-in-requires : tie.Need-energy-in-requires
 energy-in-requires c κs = search needs

@@ -17,7 +17,8 @@ use Rattle.wide.proofs.Answers.{is-quotient, over-quotient}
 use Rattle.rules.specs.Closing.{recharge}
 use Rattle.rules.proofs.Recharge.{twice}
 use Rattle.closing.specs.Answers.{Is, rechargedBy}
-use Rattle.closing.proofs.Grounds.{sum-fits, sum-read, cast-fits, cast-is}
+use Rattle.closing.proofs.Grounds.{sum-fits, sum-read}
+use Rattle.closing.proofs.Weights.{positive, cast}
 use Rattle.closing.proofs.figures.recharged.Statement.{statement}
 use Rattle.closing.proofs.figures.recharged.Tie as tie
 
@@ -53,10 +54,10 @@ unfolding rechargedBy
 returns c = stop _ (tested (c .before) true (c .if1 .taken))
 
 cast-divided : tie.Need-cast-divided
-cast-divided c = let a = c .before in cast-fits tt (a .pre .0 .3) (a .pre .0 .2) (read (a .fits .total))
+cast-divided c = let a = c .before in cast tt (read (a .fits .total)) (positive _ _ (a .pre .0 .3) (a .pre .0 .2)) .fits
 
 cast-divided-2 : tie.Need-cast-divided-2
-cast-divided-2 c = cast-fits tt (sum-sized (c .before)) (some c) (machine-is (c .before))
+cast-divided-2 c = cast tt (machine-is (c .before)) (positive _ _ (sum-sized (c .before)) (some c)) .fits
 
 divided-requires : tie.Need-divided-requires
 divided-requires c κs = search needs
@@ -71,8 +72,8 @@ quotient c =
     let s = c .before .before in
     c .divided .ensures
     ∙ ap₂ (λ (x y : ℕ). ratio (x * s .args .wh * 1000000 / s .args .range) y)
-    (cast-is tt (s .pre .0 .3) (s .pre .0 .2) (read (s .fits .total)))
-    (cast-is tt (sum-sized s) (some (c .before)) (machine-is s))
+    (cast tt (read (s .fits .total)) (positive _ _ (s .pre .0 .3) (s .pre .0 .2)) .is)
+    (cast tt (machine-is s) (positive _ _ (sum-sized s) (some (c .before))) .is)
 
 -- the figure, as the definition has it
 figure : (c : tie.After-r) → (let s = c .before .before .before .before in

@@ -4,11 +4,12 @@ use mathlib.Core.Path.{_≡_, sym, _∙_}
 use native.Mathlib.Omega.{arith}
 use borrow.Author.Needs.{needs}
 use Rattle.numbers.specs.Whole.{up}
+use Rattle.numbers.proofs.Whole.{read}
 use Rattle.rules.specs.Closing.{rateOf, weighing, weight}
 use Rattle.wide.specs.Ratio.{ratio}
 use Rattle.wide.proofs.Answers.{is-quotient}
 use Rattle.ledger.specs.Row.{energyIn, distanceIn}
-use Rattle.closing.proofs.Weights.{Cast, cast, cycle-at, energy-at, rate-at, fits-in, not-over}
+use Rattle.closing.proofs.Weights.{Cast, cast, machine, cycle-at, energy-at, rate-at, fits-in, not-over}
 use Rattle.closing.proofs.figures.weighted_of.Statement.{statement}
 use Rattle.closing.proofs.figures.weighted_of.Tie as tie
 
@@ -19,15 +20,15 @@ energy-in-requires : tie.Need-energy-in-requires
 energy-in-requires c κs = search needs
 
 -- the first two energies, as they are cast
-first : (c : tie.After-energy-in) → Cast (c .energy-in .result) (energyIn (c .before .before .args .ledger .now) 0)
+first : (c : tie.After-energy-in) → Cast (machine (c .energy-in .result)) (energyIn (c .before .before .args .ledger .now) 0)
 first c =
     let g = c .before .before .pre .0 in
-    cast tt (record { sfits = c .energy-in .ok }) (c .energy-in .ensures) (energy-at _ _ g 0 (omega (arith, g .three)))
+    cast tt (read (record { sfits = c .energy-in .ok }) ∙ c .energy-in .ensures) (energy-at _ _ g 0 (omega (arith, g .three)))
 
-second : (c : tie.After-energy-in2) → Cast (c .energy-in2 .result) (energyIn (c .before .before .before .args .ledger .now) 1)
+second : (c : tie.After-energy-in2) → Cast (machine (c .energy-in2 .result)) (energyIn (c .before .before .before .args .ledger .now) 1)
 second c =
     let g = c .before .before .before .pre .0 in
-    cast tt (record { sfits = c .energy-in2 .ok }) (c .energy-in2 .ensures) (energy-at _ _ g 1 (omega (arith, g .three)))
+    cast tt (read (record { sfits = c .energy-in2 .ok }) ∙ c .energy-in2 .ensures) (energy-at _ _ g 1 (omega (arith, g .three)))
 
 cast-e1 : tie.Need-cast-e1
 cast-e1 c = first c .fits
