@@ -1,0 +1,110 @@
+//! The commands of the program.
+
+use crate::ask::questions;
+use crate::bench::answers;
+use crate::compare::{compare, Comparison, Outcome};
+use crate::make::make;
+use crate::sheet::sheet;
+use crate::survey::survey;
+use std::io::{self, Read, Write};
+use std::process::ExitCode;
+
+const USAGE: &str = "second sheet < RECORD
+second make KIND SEED [OPTION..] > RECORD
+second survey KIND COUNT [OPTION..]
+second questions COUNT SEED > FILE
+second answers < FILE
+second compare REPORT KIND COUNT FIRST_SEED [OPTION..]
+
+kinds and options: small, long, full, million [BLOCK_SIZE [SAMPLES]], foreign [BLOCKS]
+";
+
+/// Why a command came to nothing.
+enum Failure {
+    /// The words are no command.
+    Words,
+    /// Reading or writing went wrong.
+    Io(io::Error),
+    /// What the command has to say about it.
+    Said(String),
+}
+
+impl From<io::Error> for Failure {
+    fn from(error: io::Error) -> Failure {
+        Failure::Io(error)
+    }
+}
+
+/// Does what the words ask.
+pub fn obey(words: &[String]) -> ExitCode {
+    let words: Vec<&str> = words.iter().map(String::as_str).collect();
+    match act(&words) {
+        Ok(code) => code,
+        Err(failure) => {
+            let text = match failure {
+                Failure::Words => USAGE.to_string(),
+                Failure::Io(error) => format!("second: {error}\n"),
+                Failure::Said(text) => format!("second: {text}"),
+            };
+            eprint!("{text}");
+            ExitCode::from(2)
+        }
+    }
+}
+
+fn act(words: &[&str]) -> Result<ExitCode, Failure> {
+    match words {
+        ["sheet"] => print(sheet(&read_all()?).as_bytes()),
+        ["make", kind, seed, options @ ..] => {
+            let record = make(kind, number(seed)?, &numbers(options)?).ok_or(Failure::Words)?;
+            print(&record)
+        }
+        ["survey", kind, count, options @ ..] => {
+            let text = survey(kind, number(count)?, &numbers(options)?).ok_or(Failure::Words)?;
+            print(text.as_bytes())
+        }
+        ["questions", count, seed] => print(&questions(number(count)? as usize, number(seed)?)),
+        ["answers"] => {
+            let ended = || Failure::Said("the file ends inside a question\n".to_string());
+            print(answers(&read_all()?).ok_or_else(ended)?.as_bytes())
+        }
+        ["compare", report, kind, count, first_seed, options @ ..] => {
+            let (count, first_seed) = (number(count)?, number(first_seed)?);
+            let options = &numbers(options)?;
+            answer_compare(&Comparison { report, kind, count, first_seed, options })
+        }
+        _ => Err(Failure::Words),
+    }
+}
+
+fn answer_compare(comparison: &Comparison) -> Result<ExitCode, Failure> {
+    match compare(comparison) {
+        Outcome::Same(text) => print(text.as_bytes()),
+        Outcome::Different(text) => {
+            print(text.as_bytes())?;
+            Ok(ExitCode::from(1))
+        }
+        Outcome::Impossible(text) => Err(Failure::Said(text)),
+    }
+}
+
+fn number(word: &str) -> Result<u64, Failure> {
+    word.parse().map_err(|_| Failure::Words)
+}
+
+fn numbers(words: &[&str]) -> Result<Vec<usize>, Failure> {
+    words.iter().map(|word| Ok(number(word)? as usize)).collect()
+}
+
+fn read_all() -> Result<Vec<u8>, Failure> {
+    let mut bytes = Vec::new();
+    io::stdin().lock().read_to_end(&mut bytes)?;
+    Ok(bytes)
+}
+
+fn print(bytes: &[u8]) -> Result<ExitCode, Failure> {
+    let mut out = io::stdout().lock();
+    out.write_all(bytes)?;
+    out.flush()?;
+    Ok(ExitCode::SUCCESS)
+}

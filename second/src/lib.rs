@@ -1,0 +1,35 @@
+//! An independent second program, written from the rules paper alone.
+//!
+//! It holds the whole record in memory, collects all accepted samples first
+//! and only then drives the run over them, cycle by cycle.
+//!
+//! The rules:      `cycle`, `run`, `closing`, `record`, `field`, `sheet`, `bench`.
+//! Made records:   `make` and the modules it calls.
+//! The comparison: `compare`, `survey`.
+
+pub mod bench;
+pub mod closing;
+pub mod cycle;
+pub mod field;
+pub mod record;
+pub mod run;
+pub mod sheet;
+
+pub mod ask;
+pub mod breakage;
+pub mod chance;
+pub mod corners;
+pub mod draft;
+pub mod drive;
+pub mod faults;
+pub mod full;
+pub mod long;
+pub mod make;
+pub mod million;
+pub mod recharge;
+pub mod small;
+pub mod write;
+
+pub mod command;
+pub mod compare;
+pub mod survey;

@@ -1,0 +1,129 @@
+//! Long records: 100,000 samples and more, speeds that follow the cycle with
+//! a lag and some noise, runs that go on, stop, or reach the limit.
+
+use crate::chance::Chance;
+use crate::draft::{sprinkle_foreign, Draft};
+use crate::drive::{sample, Power};
+use crate::write::Raw;
+
+/// The long record of a seed.
+pub fn long(seed: u64) -> Vec<u8> {
+    let chance = &mut Chance::new(seed);
+    let (seconds, count) = some_length(chance);
+    let mut draft = long_draft(chance, seconds);
+    draft.samples = follow(chance, &draft, count);
+    if chance.one_in(3) {
+        leave_the_band(chance, &mut draft);
+    }
+    draft.add_usual_transfers(chance);
+    draft.recharge = draft.recharge.map(|amount| amount * 1000);
+    let mut fields = draft.fields(chance);
+    let blocks = chance.pick(&[0, 1, 50]);
+    sprinkle_foreign(chance, &mut fields, &draft.vehicle, blocks);
+    fields.concat()
+}
+
+/// T and a number of samples: usual, T = 2400, or enough for 64 cycles.
+fn some_length(chance: &mut Chance) -> (usize, usize) {
+    match chance.below(4) {
+        0 => (2400, 144_000 + chance.below(60_000)),
+        1 => {
+            let seconds = 80 + chance.below(30);
+            (seconds, 64 * 20 * seconds + chance.below(5_000))
+        }
+        _ => (300 + chance.below(1200), 100_000 + chance.below(100_000)),
+    }
+}
+
+/// A draft with a walking cycle and usual or wide tolerances.
+pub fn long_draft(chance: &mut Chance, seconds: usize) -> Draft {
+    let tolerances = if chance.one_in(2) {
+        [30, 20, 300]
+    } else {
+        [chance.between16(5, 100), chance.between16(0, 40), chance.between16(50, 1200)]
+    };
+    let points = walk(chance, seconds);
+    Draft::new(chance, points, tolerances)
+}
+
+/// Points that speed up, slow down and stand still, as a truck does.
+fn walk(chance: &mut Chance, seconds: usize) -> Vec<u16> {
+    let (mut speed, mut slope) = (0i64, 0i64);
+    let mut points = Vec::with_capacity(seconds + 1);
+    for _ in 0..=seconds {
+        if chance.one_in(12) {
+            slope = chance.pick(&[-40, -20, -5, 0, 5, 20, 30]);
+        }
+        speed = (speed + slope).clamp(0, 900);
+        points.push(speed as u16);
+    }
+    points
+}
+
+/// Samples that follow the cycle with a fixed lag within the time tolerance
+/// and noise within the speed tolerance, and leave the band now and then.
+pub fn follow(chance: &mut Chance, draft: &Draft, count: usize) -> Vec<Raw> {
+    let targets = whole_targets(draft);
+    let [tolerance, time, allowance] = draft.tolerances.map(i64::from);
+    let lag = chance.between(0, time) as usize;
+    let noise = (tolerance - 1).max(0);
+    let mut excursion = Excursion { allowance, left: 0, spent: 0 };
+    let mut samples = Vec::with_capacity(count);
+    for at in 0..count {
+        let position = at % targets.len();
+        let near = targets[position.saturating_sub(lag)] + chance.between(-noise, noise);
+        let speed = if excursion.on(chance, position) { away(near) } else { near };
+        samples.push(sample(chance, speed.clamp(0, 1500) as u16, Power::Regenerating));
+    }
+    samples
+}
+
+/// Leaving the band for a few samples, never for more of a cycle's samples
+/// than the allowance.
+struct Excursion {
+    allowance: i64,
+    left: i64,
+    spent: i64,
+}
+
+impl Excursion {
+    /// Is the sample at this position away from the band?
+    fn on(&mut self, chance: &mut Chance, position: usize) -> bool {
+        if position == 0 {
+            (self.left, self.spent) = (0, 0);
+        }
+        if self.left == 0 && chance.one_in(3000) {
+            self.left = chance.between(1, 50).min(self.allowance - self.spent);
+        }
+        if self.left == 0 {
+            return false;
+        }
+        self.left -= 1;
+        self.spent += 1;
+        true
+    }
+}
+
+/// The target at every position, rounded to whole speeds.
+fn whole_targets(draft: &Draft) -> Vec<i64> {
+    let cycle = draft.cycle();
+    (0..cycle.positions()).map(|place| (cycle.target(place) as i64 + 10) / 20).collect()
+}
+
+/// A speed far from the one meant; no window reaches so far.
+fn away(speed: i64) -> i64 {
+    if speed > 800 {
+        speed - 500
+    } else {
+        speed + 500
+    }
+}
+
+/// From some sample on, the vehicle is outside longer than the allowance.
+fn leave_the_band(chance: &mut Chance, draft: &mut Draft) {
+    let from = chance.below(draft.samples.len());
+    let until = from + 2 * usize::from(draft.tolerances[2]) + 2;
+    for one in draft.samples.iter_mut().take(until).skip(from) {
+        one.speed = away(one.speed.into()) as u16;
+    }
+}

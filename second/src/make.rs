@@ -1,0 +1,22 @@
+//! Making a record of some kind from a seed.
+
+use crate::full::full;
+use crate::long::long;
+use crate::million::{foreign, million};
+use crate::record::MOST;
+use crate::small::small;
+
+/// The record of a kind and seed; `None` for an unknown kind. Option words:
+/// `million` takes the block size and the number of samples, `foreign` the
+/// number of foreign blocks.
+pub fn make(kind: &str, seed: u64, options: &[usize]) -> Option<Vec<u8>> {
+    let option = |at: usize, usual: usize| options.get(at).copied().unwrap_or(usual);
+    match kind {
+        "small" => Some(small(seed)),
+        "long" => Some(long(seed)),
+        "million" => Some(million(seed, option(0, 200).clamp(1, 200), option(1, MOST))),
+        "foreign" => Some(foreign(seed, option(0, MOST))),
+        "full" => Some(full(seed)),
+        _ => None,
+    }
+}

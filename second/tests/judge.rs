@@ -1,0 +1,164 @@
+//! The run against a naive judge that takes sample after sample and keeps
+//! the paper's nine numbers and its map; and the promise about blocks.
+
+mod common;
+
+use second::chance::Chance;
+use second::cycle::{Cycle, Verdict};
+use second::field::{cut, Cut};
+use second::make::make;
+use second::record::{read, Record};
+use second::run::{End, Finished, Run, Sample};
+use second::sheet::sheet;
+
+/// The state of a naive judge.
+struct Judge {
+    end: End,
+    counted: usize,
+    position: i128,
+    /// Nine numbers a cycle: phase energies, phase distances, outside count.
+    ledger: Vec<[i128; 9]>,
+    map: Vec<bool>,
+    finished: usize,
+}
+
+impl Judge {
+    fn new() -> Judge {
+        let (ledger, map) = (vec![[0; 9]], Vec::new());
+        Judge { end: End::None, counted: 0, position: 0, ledger, map, finished: 0 }
+    }
+
+    fn take(&mut self, record: &Record, sample: &Sample) {
+        if self.end != End::None {
+            return;
+        }
+        if self.position == 0 {
+            self.map = vec![false; record.cycle.positions() as usize];
+            self.ledger.resize(self.finished + 1, [0; 9]);
+        }
+        if self.stops(record, sample) {
+            self.end = End::Stop;
+            return;
+        }
+        self.count(&record.cycle, sample);
+    }
+
+    /// Marks and counts an outside sample; true when the count is above the allowance.
+    fn stops(&mut self, record: &Record, sample: &Sample) -> bool {
+        let tolerances = &record.tolerances;
+        let band = record.cycle.band_by_walking(self.position, tolerances.time);
+        if band.verdict(tolerances.speed, sample.speed.into()) == Verdict::Inside {
+            return false;
+        }
+        let open = self.ledger.last_mut().unwrap();
+        self.map[self.position as usize] = true;
+        open[8] += 1;
+        open[8] > tolerances.allowance
+    }
+
+    fn count(&mut self, cycle: &Cycle, sample: &Sample) {
+        let second = self.position / 20;
+        let phase = cycle.phase_ends.iter().position(|end| second < *end).unwrap();
+        let open = self.ledger.last_mut().unwrap();
+        open[phase] += -(i128::from(sample.voltage) * i128::from(sample.current));
+        open[4 + phase] += i128::from(sample.speed);
+        self.counted += 1;
+        self.position += 1;
+        if self.position == cycle.positions() {
+            self.position = 0;
+            self.finished += 1;
+            if self.finished == 64 {
+                self.end = End::Limit;
+            }
+        }
+    }
+
+    /// The same run in the form of `Run`.
+    fn run(&self) -> Run {
+        let energy = |nine: &[i128; 9]| nine[..4].iter().sum::<i128>();
+        let finished = self.ledger[..self.finished]
+            .iter()
+            .map(|nine| Finished { energy: energy(nine), distance: nine[4..8].iter().sum() });
+        Run {
+            end: self.end,
+            counted: self.counted,
+            outside: self.ledger.iter().map(|nine| nine[8]).sum(),
+            drawn: self.ledger.iter().map(energy).sum(),
+            finished: finished.collect(),
+        }
+    }
+}
+
+#[test]
+fn the_naive_judge_agrees() {
+    for seed in 1..=1500 {
+        let Ok(record) = read(&make("small", seed, &[]).unwrap()) else {
+            continue;
+        };
+        let mut judge = Judge::new();
+        for sample in &record.samples {
+            judge.take(&record, sample);
+            let ones = judge.map.iter().filter(|outside| **outside).count() as i128;
+            assert_eq!(ones, judge.ledger.last().unwrap()[8]);
+        }
+        let run = Run::drive(&record.cycle, &record.tolerances, &record.samples);
+        assert_eq!(run, judge.run(), "seed {seed}");
+    }
+}
+
+/// Cuts every own block of a record into blocks by chance, foreign ones stay.
+fn cut_anew(chance: &mut Chance, record: &[u8]) -> Vec<u8> {
+    let vehicle = &record[10..27];
+    let mut left = record;
+    let mut anew = Vec::new();
+    while let Cut::Whole(field, rest) = cut(left) {
+        if field.tag == 5 && field.value[..17] == *vehicle {
+            let first = u32::from_be_bytes(field.value[17..21].try_into().unwrap());
+            anew.extend(smaller_blocks(chance, vehicle, first, &field.value[21..]));
+        } else {
+            anew.extend(&left[..left.len() - rest.len()]);
+        }
+        left = rest;
+    }
+    anew
+}
+
+fn smaller_blocks(chance: &mut Chance, vehicle: &[u8], first: u32, samples: &[u8]) -> Vec<u8> {
+    let size = 6 * (1 + chance.below(50));
+    let mut blocks = Vec::new();
+    for (at, part) in samples.chunks(size).enumerate() {
+        let number = first + (at * size / 6) as u32;
+        let value = [vehicle, &number.to_be_bytes(), part].concat();
+        blocks.extend(second::write::field(5, &value));
+    }
+    blocks
+}
+
+#[test]
+fn other_blocks_give_the_same_sheet() {
+    let chance = &mut Chance::new(3);
+    for seed in 1..=1500 {
+        let record = make("small", seed, &[]).unwrap();
+        if read(&record).is_ok() {
+            assert_eq!(sheet(&cut_anew(chance, &record)), sheet(&record), "seed {seed}");
+        }
+    }
+}
+
+/// A bad sample behind the stopping one refuses the block entire.
+#[test]
+fn a_bad_sample_behind_the_stop() {
+    use common::{refused, sheet_of, start, BAD, GOOD, OWN};
+    use second::write::{block, tolerances, Raw};
+    let fast = Raw { speed: 131, ..GOOD };
+    let mut fields = start();
+    fields[3] = tolerances([30, 20, 0]);
+    fields.push(block(OWN, 0, &[fast, GOOD, BAD]));
+    assert_eq!(sheet_of(&fields), refused(5, 5));
+    fields[4] = block(OWN, 0, &[fast, GOOD]);
+    assert!(sheet_of(&fields).contains("end stop 0\ncycles 0\noutside 1\n"));
+    fields.push(block(OWN, 2, &[BAD]));
+    assert_eq!(sheet_of(&fields), refused(5, 6));
+    fields[5] = block(OWN, 0, &[GOOD]);
+    assert_eq!(sheet_of(&fields), refused(6, 6));
+}
