@@ -1,20 +1,23 @@
 -- The closing figures of a whole run are those of the rules over its samples.
 -- Assumes nothing.
 use mathlib.Core.Bool.{Bool, true, false, cond}
-use mathlib.Core.List.{List}
+use mathlib.Core.List.{List, _++_}
 use mathlib.Core.Path.{_≡_, refl, sym, ap, ap₂, _∙_}
 use Prim.Native.Nat.{ℕ, _≤_, _<_}
 use lib.Dec.{eqb}
+use native.Mathlib.Omega.{arith}
 use lib.IntN.{ℤ, pos, _+ℤ_}
-use lib.ListN.{length}
+use lib.ListN.{length, length-append, List·getD-append}
 use Rattle.numbers.proofs.Tests.{pass}
 use Rattle.rules.specs.declared.Sample.{Sample}
 use Rattle.rules.specs.declared.Tolerances.{Tolerances}
 use Rattle.rules.specs.declared.Amounts.{Amounts}
 use Rattle.rules.specs.declared.Charge.{Charge}
 use Rattle.rules.specs.declared.Charge.the-variants.{Absent as absent, Wh as wh}
+use Rattle.rules.specs.Bench.{isOpen}
 use Rattle.rules.specs.Closing.{wholeEnergy, areAmounts, weightedFigure, rangeFigure, closingRefusal, rechargeFigure, rechargeRefusal}
 use Rattle.rules.specs.Run.{sampleOf, cycleEnergy, cycleDistance, finishedCycles, over, counted, cycles}
+use Rattle.rules.proofs.Longer.{Stays, ended-stays}
 use Rattle.rules.proofs.Same.{weighted-same, range-same, refusal-same, recharge-same, recharge-refusal-same}
 use Rattle.ledger.specs.Row.{energyIn, distanceIn, energyAll}
 use Rattle.judge.specs.declared.Run.{Run}
@@ -36,6 +39,25 @@ module _ (E : ℤ) (n : ℕ) (e d : ℕ → ℤ) where
 
   abbrev pub rechargeBy : ℤ → Charge → Figure
   rechargeBy F charge = settled (closingRefusal E n e d) (chargedBy F charge) (Refused (closingRefusal E n e d))
+
+-- two closings that are alike in the whole energy, the number of cycles and each cycle
+module _ (E E′ : ℤ) (n n′ : ℕ) (few : n′ ≤ 64) (e d e′ d′ : ℕ → ℤ) (p : E ≡ E′) (q : n ≡ n′)
+    (he : (c : ℕ) → c < 64 → e c ≡ e′ c) (hd : (c : ℕ) → c < 64 → d c ≡ d′ c) where
+  refusal-alike : closingRefusal E n e d ≡ closingRefusal E′ n′ e′ d′
+  refusal-alike = ap₂ (λ (x : ℤ) (y : ℕ). closingRefusal x y e d) p q ∙ refusal-same E′ n′ few e d e′ d′ he hd
+
+  weighted-alike : weightedFigure E n e d ≡ weightedFigure E′ n′ e′ d′
+  weighted-alike = ap₂ (λ (x : ℤ) (y : ℕ). weightedFigure x y e d) p q ∙ weighted-same E′ n′ few e d e′ d′ he hd
+
+  range-alike : rangeFigure E n e d ≡ rangeFigure E′ n′ e′ d′
+  range-alike = ap₂ (λ (x : ℤ) (y : ℕ). rangeFigure x y e d) p q ∙ range-same E′ n′ few e d e′ d′ he hd
+
+  charged-alike : (F : ℤ) (charge : Charge) → chargedBy E n e d F charge ≡ chargedBy E′ n′ e′ d′ F charge
+  charged-alike F absent = refl
+  charged-alike F (wh A) =
+      let k = ap₂ (λ (x : ℤ) (y : ℕ). rechargeRefusal x y e d F A) p q ∙ recharge-refusal-same E′ n′ few e d e′ d′ he hd F A in
+      let f = ap₂ (λ (x : ℤ) (y : ℕ). rechargeFigure x y e d F A) p q ∙ recharge-same E′ n′ few e d e′ d′ he hd F A in
+      λ i. settled (k i) (Is (f i)) (Refused (k i))
 
 -- a figure that is 0 where it is refused
 settled-twice : (k x : ℕ) → settled k (Is (settled k x 0)) (Refused k) ≡ settled k (Is x) (Refused k)
@@ -83,19 +105,13 @@ module _ (b : List ℕ) (t : Tolerances) (l₀ : List ℤ) (m₀ : List ℕ) {xs
   distances = cycle-distances b t l₀ m₀ h
 
   refused-is : closingRefusal E′ n′ (energyIn l) (distanceIn l) ≡ closingRefusal E n e d
-  refused-is =
-      ap₂ (λ (x : ℤ) (y : ℕ). closingRefusal x y (energyIn l) (distanceIn l)) E-is n-is
-      ∙ refusal-same E n few (energyIn l) (distanceIn l) e d energies distances
+  refused-is = refusal-alike E′ E n′ n few (energyIn l) (distanceIn l) e d E-is n-is energies distances
 
   weighted-is : weightedFigure E′ n′ (energyIn l) (distanceIn l) ≡ weightedFigure E n e d
-  weighted-is =
-      ap₂ (λ (x : ℤ) (y : ℕ). weightedFigure x y (energyIn l) (distanceIn l)) E-is n-is
-      ∙ weighted-same E n few (energyIn l) (distanceIn l) e d energies distances
+  weighted-is = weighted-alike E′ E n′ n few (energyIn l) (distanceIn l) e d E-is n-is energies distances
 
   range-is : rangeFigure E′ n′ (energyIn l) (distanceIn l) ≡ rangeFigure E n e d
-  range-is =
-      ap₂ (λ (x : ℤ) (y : ℕ). rangeFigure x y (energyIn l) (distanceIn l)) E-is n-is
-      ∙ range-same E n few (energyIn l) (distanceIn l) e d energies distances
+  range-is = range-alike E′ E n′ n few (energyIn l) (distanceIn l) e d E-is n-is energies distances
 
   -- such a run is refused by the closing's own numbers only
   refusal-is : refusalOf r a b l m ≡ closingRefusal E n e d
@@ -116,11 +132,55 @@ module _ (b : List ℕ) (t : Tolerances) (l₀ : List ℤ) (m₀ : List ℕ) {xs
 
   charged-is : (F : ℤ) (charge : Charge) → rechargedOf l n′ E′ F charge ≡ chargedBy E n e d F charge
   unfolding rechargedOf
-  charged-is F absent = refl
-  charged-is F (wh A) =
-      let k = ap₂ (λ (x : ℤ) (y : ℕ). rechargeRefusal x y (energyIn l) (distanceIn l) F A) E-is n-is ∙ recharge-refusal-same E n few (energyIn l) (distanceIn l) e d energies distances F A in
-      let f = ap₂ (λ (x : ℤ) (y : ℕ). rechargeFigure x y (energyIn l) (distanceIn l) F A) E-is n-is ∙ recharge-same E n few (energyIn l) (distanceIn l) e d energies distances F A in
-      λ i. settled (k i) (Is (f i)) (Refused (k i))
+  charged-is F charge = as-numbers charge ∙ charged-alike E′ E n′ n few (energyIn l) (distanceIn l) e d E-is n-is energies distances F charge
+    where
+      as-numbers : (y : Charge) → rechargedOf l n′ E′ F y ≡ chargedBy E′ n′ (energyIn l) (distanceIn l) F y
+      as-numbers absent = refl
+      as-numbers (wh A) = refl
 
   pub recharge-of-run : rechargeAnswer r a b l m ≡ rechargeBy E n e d (a .after) (a .charge)
   recharge-of-run = λ i. settled (refusal-is i) (charged-is (a .after) (a .charge) i) (Refused (refusal-is i))
+
+-- a run that has ended, and the same run with more samples: every figure is as it was
+module _ (b : List ℕ) (t : Tolerances) (l₀ : List ℤ) (m₀ : List ℕ) (xs ys : List Sample) {r r′ : Run} {l l′ : List ℤ} {m m′ : List ℕ}
+    (h : Reached b t l₀ m₀ xs r l m) (h′ : Reached b t l₀ m₀ (xs ++ ys) r′ l′ m′) (ended : isOpen (r .end) ≡ false) (a : Amounts) (ok : areAmounts a ≡ true) where
+  stays : Stays b t (sampleOf xs) (sampleOf (xs ++ ys)) (length xs) (length (xs ++ ys)) (omega (arith, length-append xs ys)) (List·getD-append xs ys _)
+  stays = ended-stays b t (sampleOf xs) (sampleOf (xs ++ ys)) (length xs) (length (xs ++ ys)) _ _ (ap isOpen (sym (run-shows b t l₀ m₀ h .end-is)) ∙ ended)
+
+  -- E, n, e_c and d_c are the same
+  same-E : E b t l₀ m₀ h′ a ok ≡ E b t l₀ m₀ h a ok
+  same-E = ap (λ (z : ℤ). a .before +ℤ z) (stays .whole)
+
+  same-n : n b t l₀ m₀ h′ a ok ≡ n b t l₀ m₀ h a ok
+  same-n = ap (finishedCycles b) (stays .counted-same)
+
+  abbrev e₁ : ℕ → ℤ
+  e₁ = e b t l₀ m₀ h a ok
+
+  abbrev d₁ : ℕ → ℤ
+  d₁ = d b t l₀ m₀ h a ok
+
+  same-e : (c : ℕ) → c < 64 → e b t l₀ m₀ h′ a ok c ≡ e₁ c
+  same-e c g = stays .energies c
+
+  same-d : (c : ℕ) → c < 64 → d b t l₀ m₀ h′ a ok c ≡ d₁ c
+  same-d c g = ap pos (stays .distances c)
+
+  same-refusal : closingRefusal (E b t l₀ m₀ h′ a ok) (n b t l₀ m₀ h′ a ok) (e b t l₀ m₀ h′ a ok) (d b t l₀ m₀ h′ a ok)
+      ≡ closingRefusal (E b t l₀ m₀ h a ok) (n b t l₀ m₀ h a ok) e₁ d₁
+  same-refusal = refusal-alike _ _ _ _ (few b t l₀ m₀ h a ok) _ _ e₁ d₁ same-E same-n same-e same-d
+
+  pub weighted-stays : weightedAnswer r′ a b l′ m′ ≡ weightedAnswer r a b l m
+  weighted-stays =
+      let w = weighted-alike _ _ _ _ (few b t l₀ m₀ h a ok) _ _ e₁ d₁ same-E same-n same-e same-d in
+      weighted-of-run b t l₀ m₀ h′ a ok ∙ (λ i. settled (same-refusal i) (Is (w i)) (Refused (same-refusal i))) ∙ sym (weighted-of-run b t l₀ m₀ h a ok)
+
+  pub range-stays : rangeAnswer r′ a b l′ m′ ≡ rangeAnswer r a b l m
+  range-stays =
+      let w = range-alike _ _ _ _ (few b t l₀ m₀ h a ok) _ _ e₁ d₁ same-E same-n same-e same-d in
+      range-of-run b t l₀ m₀ h′ a ok ∙ (λ i. settled (same-refusal i) (Is (w i)) (Refused (same-refusal i))) ∙ sym (range-of-run b t l₀ m₀ h a ok)
+
+  pub recharge-stays : rechargeAnswer r′ a b l′ m′ ≡ rechargeAnswer r a b l m
+  recharge-stays =
+      let w = charged-alike _ _ _ _ (few b t l₀ m₀ h a ok) _ _ e₁ d₁ same-E same-n same-e same-d (a .after) (a .charge) in
+      recharge-of-run b t l₀ m₀ h′ a ok ∙ (λ i. settled (same-refusal i) (w i) (Refused (same-refusal i))) ∙ sym (recharge-of-run b t l₀ m₀ h a ok)

@@ -1,6 +1,6 @@
 -- Which samples count, whatever ends the run: what one more sample does to it, and how two runs compare.
 -- Assumes nothing.
-use mathlib.Core.Bool.{Bool, true, false, cond}
+use mathlib.Core.Bool.{Bool, true, false, cond, false≢true}
 use mathlib.Core.Logic.{⊎-elim}
 use mathlib.Core.Path.{_≡_, refl, sym, ap, ap₂, subst, _∙_}
 use Prim.Native.Nat.{ℕ, suc, _+_, _≤_, _<_, suc-le-suc}
@@ -8,12 +8,12 @@ use native.Mathlib.Nat.{le-refl, le-antisymm, add-zero}
 use native.Mathlib.Numerals.{add-one}
 use native.Mathlib.Omega.{arith}
 use lib.Dec.{T, ltb, ltb→lt, le→leb}
-use borrow.Author.Tests.{lt-ltb, le-ltb}
+use borrow.Author.Tests.{lt-ltb, le-ltb, ltb-false}
 use Rattle.numbers.specs.Range.{first}
 use Rattle.numbers.specs.Tests.{bit}
 use Rattle.numbers.proofs.Order.{side}
 use Rattle.numbers.proofs.Range.{gather-le, gather-same, first-le, first-at, first-least, first-later, first-stays, first-next}
-use Rattle.numbers.proofs.Tests.{leb-mono, bit-le}
+use Rattle.numbers.proofs.Tests.{leb-mono, bit-le, true-T}
 use Rattle.rules.specs.Bench.{End, none, stop, limit, isOpen}
 use Rattle.rules.specs.Tally.{outside, over, room, counted, stopped, judged, ending}
 
@@ -138,3 +138,15 @@ module _ (ends ends′ : ℕ → Bool) (most n n′ : ℕ) (more : n ≤ n′) (
       let o = subst T (sym (same (counted ends most n) (omega arith))) (first-at ends (room most n) l) in
       let e = le-antisymm (first-least ends′ (room most n′) (counted ends most n) o) counted-longer in
       (omega (arith, le→leb), e)
+
+  -- and so does any end: what is counted then is all that will be
+  pub ended-longer : isOpen (ending ends most n) ≡ false → counted ends′ most n′ ≡ counted ends most n
+  ended-longer h = go (stopped ends most n) (ltb (counted ends most n) most) refl refl h
+    where
+      go : (x y : Bool) → stopped ends most n ≡ x → ltb (counted ends most n) most ≡ y → isOpen (cond x stop (cond y none limit)) ≡ false
+          → counted ends′ most n′ ≡ counted ends most n
+      go true y e f o = stop-longer (true-T e) .1
+      go false true e f o = absurd (false≢true (sym o))
+      go false false e f o =
+          let l = ltb-false (counted ends most n) most f in
+          omega (arith, counted-longer, counted-le ends most n .1, counted-le ends′ most n′ .1)
