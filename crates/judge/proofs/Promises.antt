@@ -9,10 +9,12 @@ use lib.Dec.{eqb}
 use lib.IntN.{ℤ}
 use Rattle.rules.specs.declared.Sample.{Sample}
 use Rattle.rules.specs.declared.Tolerances.{Tolerances}
-use Rattle.judge.specs.State.{Run}
+use Rattle.judge.specs.State.{Run, ground}
 use Rattle.judge.specs.Step.{startOf, runOf}
-use Rattle.judge.specs.Answers.{settled, answered, startRefusal, started, sampleRefusal, afterSample, blockRefusal, afterBlock}
+use Rattle.judge.specs.Answers.{settled, answered, startRefusal, started, sampleRefusal, afterSample, blockRefusal, afterBlock, countsOf, shownAnswer, sumsOf, totalsAnswer}
 use Rattle.judge.specs.declared.Answer.{Answer}
+use Rattle.judge.specs.declared.ShownAnswer.{ShownAnswer}
+use Rattle.judge.specs.declared.TotalsAnswer.{TotalsAnswer}
 use Rattle.judge.specs.declared.Answer.the-variants.{Taken, Refused}
 
 -- the promise of a call on the memory l and m, with the number n of its refusal and the run r, ledger a and map c that it would leave:
@@ -49,3 +51,11 @@ abbrev pub BlockPromise : Run → List ℕ → List ℤ → List ℕ → ℕ →
 BlockPromise r b l m first q =
     let a = afterBlock r b l m q in
     Promised (blockRefusal r b l m first q) (runOf r a) (a .ledger) (a .map) l m
+
+-- `shown` and `totals` are lent nothing that they could change: their promise is one equation of the answer
+module _ (r : Run) (b : List ℕ) (l : List ℤ) (m : List ℕ) where
+  pub shown-one-answer : (x x′ : ShownAnswer) → x ≡ shownAnswer (ground r b l m 0) (countsOf r b l m) → x′ ≡ shownAnswer (ground r b l m 0) (countsOf r b l m) → x ≡ x′
+  shown-one-answer x x′ p q = p ∙ sym q
+
+  pub totals-one-answer : (x x′ : TotalsAnswer) → x ≡ totalsAnswer (ground r b l m 0) (sumsOf r b l) → x′ ≡ totalsAnswer (ground r b l m 0) (sumsOf r b l) → x ≡ x′
+  totals-one-answer x x′ p q = p ∙ sym q
