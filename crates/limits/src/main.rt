@@ -1,4 +1,4 @@
-// The closing figures at their limits: each is printed, and the gate compares it with what was worked out by hand.
+// The closing figures at their limits: each is printed, and the gate compares it with what a script worked out from document 01's formulas.
 use closing::Figure;
 use judge::Ends;
 use judge::Run;
