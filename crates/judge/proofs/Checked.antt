@@ -93,9 +93,6 @@ limits r e =
       progress = e₅ .1;
     }
 
-pub not-run : (r : Run) → (Limits r → ⊥) → isRun r ≡ false
-not-run r h = refuted (isRun r) (λ e. h (limits r e))
-
 tolerable-by : (t : Tolerances) → Tolerated t → tolerable t ≡ true
 unfolding tolerable
 tolerable-by t h = rw (le-leb _ _ (h .speed), le-leb _ _ (h .time), le-leb _ _ (h .allowance))

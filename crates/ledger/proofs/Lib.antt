@@ -2,4 +2,3 @@
 pub mod Bit
 pub mod Marks
 pub mod Rows
-pub mod Agree

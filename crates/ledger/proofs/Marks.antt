@@ -122,18 +122,7 @@ ones-in-set (suc n) m h =
 pub ones-set : (m : List ℕ) → ((k : ℕ) → getD m k 0 < 2 ^ 64) → onesOf m ≡ sum (λ p. bit (isSet m p)) 48_000
 ones-set m h = ones-in-set 750 m h
 
-pub ones-most : (m : List ℕ) → ((k : ℕ) → getD m k 0 < 2 ^ 64) → onesOf m ≤ 48_000
-ones-most m h = sum-most 64 (λ k. ones (getD m k 0)) 750 (λ k l. ones-le 64 (getD m k 0) (h k))
-
 -- ---- the map before and after a sample at position p
-
-pub opened-first : (m : List ℕ) → opened m 0 ≡ cleared 0 750 m
-unfolding opened
-opened-first m = refl
-
-pub opened-later : (m : List ℕ) (p : ℕ) → (p ≡ 0 → ⊥) → opened m p ≡ m
-unfolding opened
-opened-later m p n = rw (ne-eqb p 0 n)
 
 -- what holds of both outcomes holds of the one that is
 opened-either : (P : List ℕ → Type 0) (m : List ℕ) (p : ℕ) → P (cleared 0 750 m) → P m → P (opened m p)
@@ -143,18 +132,6 @@ opened-either P m p x y = go (eqb p 0)
     go : (b : Bool) → P (cond b (cleared 0 750 m) m)
     go true = x
     go false = y
-
-pub set-markedIf : (m : List ℕ) (p : ℕ) (out : Bool) (q : ℕ) → p / 64 < length m
-    → isSet (markedIf m p out) q ≡ cond (out && eqb q p) true (isSet m q)
-unfolding markedIf
-set-markedIf m p true q h = set-mark m p q h
-set-markedIf m p false q h = refl
-
-pub ones-markedIf : (m : List ℕ) (p : ℕ) (out : Bool) → p < 48_000 → 750 ≤ length m → isSet m p ≡ false
-    → onesOf (markedIf m p out) ≡ onesOf m + bit out
-unfolding markedIf
-ones-markedIf m p true h g e = ones-mark m p h g e
-ones-markedIf m p false h g e = sym (add-zero (onesOf m))
 
 -- the length is kept
 pub length-mark : (m : List ℕ) (p : ℕ) → length (mark m p) ≡ length m

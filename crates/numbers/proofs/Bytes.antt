@@ -16,11 +16,6 @@ unfolding be
 be-most b h zero i = lit< tt
 be-most b h (suc n) i = rw pow-suc (omega (arith, be-most b h n i, h (i + n)))
 
--- one and two bytes
-pub be-one : (b : List ℕ) (i : ℕ) → be 1 b i ≡ getD b i 0
-unfolding be
-be-one b i = rw add-zero (omega arith)
-
 pub be-two : (b : List ℕ) (i : ℕ) → be 2 b i ≡ 256 * getD b i 0 + getD b (i + 1) 0
 unfolding be
 be-two b i = rw add-zero (omega arith)

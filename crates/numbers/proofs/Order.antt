@@ -29,17 +29,6 @@ eqb-shift d a b = go (eqb a b) refl
 pub digits : (n m q r : ℕ) → r < m → n ≡ q * m + r → (r ≡ n % m) × (q ≡ n / m)
 digits n m q r h e = (sym (ap (λ (k : ℕ). k % m) e ∙ digits-mod q h), sym (ap (λ (k : ℕ). k / m) e ∙ digits-div q h))
 
--- the next number's remainder and quotient
-pub next-place : (n m : ℕ) → 0 < m
-    → (cond (ltb (suc (n % m)) m) (suc (n % m)) 0 ≡ suc n % m) × (cond (ltb (suc (n % m)) m) (n / m) (suc (n / m)) ≡ suc n / m)
-next-place n m h =
-    let e = div-add-mod' n m in
-    let l = mod-lt n h in
-    ⊎-elim
-    (λ g. rw (lt-ltb (suc (n % m)) m g) (digits (suc n) m (n / m) (suc (n % m)) g (omega arith)))
-    (λ g. rw (le-ltb (suc (n % m)) m (omega arith)) (digits (suc n) m (suc (n / m)) 0 h (omega arith)))
-    (side (suc (suc (n % m))) m)
-
 -- a quotient below c
 pub ltb-div : (c n m : ℕ) → 0 < m → ltb (n / m) c ≡ ltb n (c * m)
 ltb-div c n m h =
