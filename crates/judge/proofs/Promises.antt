@@ -1,11 +1,12 @@
 -- What the promises of `start`, `sample` and `block` determine: one answer and one memory, and a refusal that changes nothing.
 -- Assumes nothing.
-use mathlib.Core.Bool.{Bool, true, false, cond}
+use mathlib.Core.Bool.{Bool, true, false, cond, false≢true}
 use mathlib.Core.List.{List}
-use mathlib.Core.Path.{_≡_, sym, _∙_}
+use mathlib.Core.Path.{_≡_, refl, sym, _∙_}
 use Prim.Native.Nat.{ℕ}
 use native.Mathlib.Omega.{arith}
 use lib.Dec.{eqb}
+use borrow.Author.Tests.{eqb-true, eqb-false}
 use lib.IntN.{ℤ}
 use Rattle.rules.specs.declared.Sample.{Sample}
 use Rattle.rules.specs.declared.Tolerances.{Tolerances}
@@ -37,6 +38,21 @@ module _ (n : ℕ) (r : Run) (a : List ℤ) (c : List ℕ) (l : List ℤ) (m : L
       go : (y : Bool) → Refused k ≡ cond y (Taken r) (Refused n) → u ≡ cond y a l → v ≡ cond y c m → (n ≡ k) × (u ≡ l) × (v ≡ m)
       go true f g h = absurd (let z : _≡_ {A = ℕ} 0 1 = cc in omega arith)
       go false f g h = (cc, g, h)
+
+-- what an answer says of the refusal's number
+pub answer-refused : (n : ℕ) (r : Run) (k : ℕ) → answered n r ≡ Refused k → (n ≡ k) × (n ≡ 0 → ⊥)
+answer-refused n r k e = go (eqb n 0) refl e
+  where
+    go : (y : Bool) → eqb n 0 ≡ y → cond y (Taken r) (Refused n) ≡ Refused k → (n ≡ k) × (n ≡ 0 → ⊥)
+    go true p f = absurd (false≢true cc)
+    go false p f = (cc, eqb-false n 0 p)
+
+pub answer-taken : (n : ℕ) (r s : Run) → answered n r ≡ Taken s → (n ≡ 0) × (r ≡ s)
+answer-taken n r s e = go (eqb n 0) refl e
+  where
+    go : (y : Bool) → eqb n 0 ≡ y → cond y (Taken r) (Refused n) ≡ Taken s → (n ≡ 0) × (r ≡ s)
+    go true p f = (eqb-true n 0 p, cc)
+    go false p f = absurd (false≢true cc)
 
 -- the three operations
 abbrev pub StartPromise : List ℕ → Tolerances → List ℤ → List ℕ → Answer → List ℤ → List ℕ → Type 0

@@ -1,9 +1,9 @@
 -- Laws of numbers of several bytes, whatever their width.
 -- Assumes nothing.
 use mathlib.Core.List.{List, _++_}
-use mathlib.Core.Path.{_≡_, refl, ap, ap₂, _∙_}
+use mathlib.Core.Path.{_≡_, refl, sym, ap, ap₂, _∙_}
 use Prim.Native.Nat.{ℕ, zero, suc, _+_, _*_, _^_, _≤_, _<_}
-use native.Mathlib.Nat.{pow-suc, add-zero}
+use native.Mathlib.Nat.{pow-suc, add-zero, add-suc, add-assoc}
 use native.Mathlib.Omega.{arith}
 use lib.Dec.{lit<}
 use lib.ListN.{length, getD, List·getD-append}
@@ -19,6 +19,14 @@ be-most b h (suc n) i = rw pow-suc (omega (arith, be-most b h n i, h (i + n)))
 pub be-two : (b : List ℕ) (i : ℕ) → be 2 b i ≡ 256 * getD b i 0 + getD b (i + 1) 0
 unfolding be
 be-two b i = rw add-zero (omega arith)
+
+-- m bytes, and n more
+pub be-more : (m n : ℕ) (b : List ℕ) (i : ℕ) → be (m + n) b i ≡ 256 ^ n * be m b i + be n b (i + m)
+unfolding be
+be-more m zero b i = rw (add-zero m) (omega arith)
+be-more m (suc n) b i =
+    let e : getD b (i + (m + n)) 0 ≡ getD b (i + m + n) 0 = ap (λ (k : ℕ). getD b k 0) (sym (add-assoc i m n)) in
+    rw (add-suc m n, pow-suc) (omega (arith, e, be-more m n b i))
 
 -- of joined bytes
 pub be-left : (n : ℕ) (p q : List ℕ) (i : ℕ) → i + n ≤ length p → be n (p ++ q) i ≡ be n p i

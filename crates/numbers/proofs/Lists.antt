@@ -1,12 +1,12 @@
 -- Lists of any kind: what a store leaves, a list that is cleared from the front, and a part that was lent from the middle. Assumes nothing.
 use mathlib.Core.Path.{_≡_, refl, sym, ap, _∙_}
 use mathlib.Core.List.{List, [], _∷_, _++_}
-use Prim.Native.Nat.{ℕ, zero, suc, _+_, _≤_, _<_}
+use Prim.Native.Nat.{ℕ, zero, suc, _+_, _-_, _≤_, _<_}
 use native.Mathlib.Nat.{zero-add, suc-add, not-suc-le-zero, le-of-suc-le-suc}
 use native.Mathlib.Omega.{arith}
 use native.Mathlib.Numerals.{add-one}
 use lib.ListN.{length, getD, set, take, drop, replicate, length-replicate, length-append, length-drop, getD-replicate, List·getD-append}
-use lib.Seq.{set-append-left, getD-append-add, length-take-le, drop-at}
+use lib.Seq.{set-append-left, getD-append-add, length-take-le, take-all, drop-at}
 use borrow.Rule.Slice.PartMut.{putMid, postOf}
 use Rattle.numbers.specs.Lists.{cleared}
 
@@ -64,3 +64,7 @@ module _ {A : Type 0} where
   pub drop-cleared : (z : A) (n : ℕ) (l : List A) → drop n (cleared z n l) ≡ drop n l
   unfolding cleared
   drop-cleared z n l = drop-at (replicate n z) (drop n l) n (length-replicate n z)
+
+  -- ---- the part from place n on, as a loan writes it
+  pub part-rest : (n : ℕ) (l : List A) → take (length l - n) (drop n l) ≡ drop n l
+  part-rest n l = take-all (length l - n) (drop n l) (omega (arith, length-drop n l))

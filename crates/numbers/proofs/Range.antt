@@ -2,12 +2,12 @@
 -- first number that passes a test.
 -- Assumes nothing.
 use mathlib.Core.Bool.{Bool, true, false, cond, not, _&&_}
-use mathlib.Core.List.{List, [], _∷_, foldl}
+use mathlib.Core.List.{List, [], _∷_, _++_, foldl}
 use mathlib.Core.Logic.{⊎-elim}
 use mathlib.Core.Path.{_≡_, refl, sym, ap, ap₂, subst, _∙_}
 use Prim.Native.Nat.{ℕ, zero, suc, _+_, _-_, _*_, _≤_, _<_, min, max, zero-le, suc-le-suc}
 use native.Mathlib.Decide.{le-ind}
-use native.Mathlib.Nat.{le-refl, le-step, le-trans, le-antisymm, not-suc-le-zero, le-of-suc-le-suc, add-le-add, eq-or-lt-of-le, add-zero, zero-add, mul-add, mul-one, min-le-left, min-le-right, le-max-left, le-max-right, le-min, max-le}
+use native.Mathlib.Nat.{le-refl, le-step, le-trans, le-antisymm, not-suc-le-zero, le-of-suc-le-suc, add-le-add, eq-or-lt-of-le, add-zero, zero-add, suc-add, mul-add, mul-one, min-le-left, min-le-right, le-max-left, le-max-right, le-min, max-le}
 use native.Mathlib.Numerals.{add-one}
 use native.Mathlib.Omega.{arith}
 use lib.Dec.{T, T-not, eqb}
@@ -274,6 +274,20 @@ module _ {A : Type 0} where
   getD-table f zero i d h = absurd (not-suc-le-zero h)
   getD-table f (suc n) zero d h = refl
   getD-table f (suc n) (suc i) d h = getD-table (λ j. f (suc j)) n i d (le-of-suc-le-suc h)
+
+  pub table-same : (f g : ℕ → A) (n : ℕ) → ((k : ℕ) → k < n → f k ≡ g k) → table f n ≡ table g n
+  unfolding table
+  table-same f g zero h = refl
+  table-same f g (suc n) h = ap₂ _∷_ (h 0 (suc-le-suc zero-le)) (table-same (λ j. f (suc j)) (λ j. g (suc j)) n (λ k l. h (suc k) (suc-le-suc l)))
+
+  -- m values, and n more
+  pub table-more : (f : ℕ → A) (m n : ℕ) → table f (m + n) ≡ table f m ++ table (λ j. f (m + j)) n
+  unfolding table
+  table-more f zero n = λ i. table (λ j. f (sym (zero-add j) i)) (zero-add n i)
+  table-more f (suc m) n =
+      ap (table f) (suc-add m n)
+      ∙ ap (λ (r : List A). f 0 ∷ r) (table-more (λ j. f (suc j)) m n)
+      ∙ (λ i. f 0 ∷ (table (λ j. f (suc j)) m ++ table (λ j. f (sym (suc-add m j) i)) n))
 
 -- ---- a fold over a list
 

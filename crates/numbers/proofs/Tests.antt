@@ -2,7 +2,7 @@
 -- Assumes nothing.
 use mathlib.Core.Bool.{Bool, true, false, not, _&&_, false≢true}
 use mathlib.Core.List.{List, [], _∷_, _++_}
-use mathlib.Core.Logic.{⊎-elim}
+use mathlib.Core.Logic.{_⊎_, inl, inr, ⊎-elim}
 use mathlib.Core.Path.{_≡_, refl, sym, ap, ap₂, subst, _∙_}
 use Prim.Native.Nat.{ℕ, zero, suc, _+_, _≤_, _<_, zero-le, suc-le-suc}
 use native.Mathlib.Nat.{le-refl, le-step, le-of-suc-le-suc, not-suc-le-zero, eq-or-lt-of-le}
@@ -136,11 +136,20 @@ pub stop : {A : Type 0} {refusal : A} {b : Bool} (rest : A) → b ≡ false → 
 unfolding unless
 stop rest e = rw e
 
--- a chain of numbers that refuses nothing: its first test passes, and the rest refuses nothing
-pub not-refused : (n : ℕ) (t : Bool) (rest : ℕ) → unless (suc n) t rest ≡ 0 → (t ≡ true) × (rest ≡ 0)
+-- a chain's answer is its first refusal, whose test fails, or that of the rest
+pub first-or-rest : {A : Type 0} (refusal answer : A) (t : Bool) (rest : A) → unless refusal t rest ≡ answer
+    → ((t ≡ false) × (refusal ≡ answer)) ⊎ ((t ≡ true) × (rest ≡ answer))
 unfolding unless
-not-refused n true rest e = (refl, e)
-not-refused n false rest e = absurd (omega arith)
+first-or-rest refusal answer true rest e = inr (refl, e)
+first-or-rest refusal answer false rest e = inl (refl, e)
+
+-- a chain whose answer is not its first refusal: its first test passes, and the rest gives the answer
+pub passed : {A : Type 0} (refusal answer : A) (t : Bool) (rest : A) → (refusal ≡ answer → ⊥) → unless refusal t rest ≡ answer → (t ≡ true) × (rest ≡ answer)
+passed refusal answer t rest h e = ⊎-elim (λ f. absurd (h (f .1))) (λ p. p) (first-or-rest refusal answer t rest e)
+
+-- a chain of numbers that refuses nothing
+pub not-refused : (n : ℕ) (t : Bool) (rest : ℕ) → unless (suc n) t rest ≡ 0 → (t ≡ true) × (rest ≡ 0)
+not-refused n t rest e = passed (suc n) 0 t rest (λ (f : suc n ≡ 0). omega arith) e
 
 -- for `omega`, at a test of numbers
 pub ruleset tests = (arith, lt-ltb, le-ltb, le-leb, lt-leb, eq-eqb)

@@ -20,6 +20,9 @@ pub use Rattle.rules.specs.declared.Amounts.{Amounts}
 abbrev pub mostTransfer : ℕ
 mostTransfer = 10_000_000_000_000
 
+abbrev pub isTransfer : ℤ → Bool
+isTransfer = between (negℤ (pos mostTransfer)) (pos mostTransfer)
+
 abbrev pub isCharge : Charge → Bool
 isCharge absent = true
 isCharge (wh A) = leb 1 A && leb A 2_000_000
@@ -99,7 +102,4 @@ module _ (E : ℤ) (n : ℕ) (e d : ℕ → ℤ) where
 
 -- "drawn energy .. within 10^13 either way", "recharge in Wh .. 1..2,000,000"
 unfoldable pub areAmounts : Amounts → Bool
-areAmounts a =
-    between (negℤ (pos mostTransfer)) (pos mostTransfer) (a .before)
-    && between (negℤ (pos mostTransfer)) (pos mostTransfer) (a .after)
-    && isCharge (a .charge)
+areAmounts a = isTransfer (a .before) && isTransfer (a .after) && isCharge (a .charge)

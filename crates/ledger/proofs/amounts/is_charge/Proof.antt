@@ -1,9 +1,9 @@
--- `closing::checks::is_charge` meets its contract: each answer rewrites with the tests that led there.
+-- `ledger::amounts::is_charge` meets its contract: each answer rewrites with the tests that led there.
 -- Assumes nothing.
 use borrow.Author.Needs.{needs}
 use borrow.Author.Tests.{le-leb, lt-leb}
-use Rattle.closing.proofs.checks.is_charge.Statement.{statement}
-use Rattle.closing.proofs.checks.is_charge.Tie as tie
+use Rattle.ledger.proofs.amounts.is_charge.Statement.{statement}
+use Rattle.ledger.proofs.amounts.is_charge.Tie as tie
 
 enum-told : tie.Need-enum-told
 enum-told c = search needs

@@ -1,41 +1,34 @@
--- `closing::checks::are_amounts` meets its contract: each answer rewrites with the tests that led there.
+-- `ledger::amounts::are_amounts` meets its contract: each answer rewrites with the tests that led there.
 -- Assumes nothing.
-use mathlib.Core.Bool.{Bool}
 use mathlib.Core.Path.{_≡_, ap, sym, _∙_}
 use borrow.Author.Needs.{needs}
 use borrow.Author.Tests.{not-true, not-false}
-use lib.IntN.{ℤ, pos, negℤ}
 use mir.Syntax.{w64}
 use mir.Val.{SFits}
-use Rattle.numbers.specs.Whole.{between}
 use Rattle.numbers.proofs.Whole.{read}
-use Rattle.rules.specs.Closing.{mostTransfer, areAmounts}
-use Rattle.closing.proofs.checks.are_amounts.Statement.{statement}
-use Rattle.closing.proofs.checks.are_amounts.Tie as tie
+use Rattle.rules.specs.Closing.{isTransfer, areAmounts}
+use Rattle.ledger.proofs.amounts.are_amounts.Statement.{statement}
+use Rattle.ledger.proofs.amounts.are_amounts.Tie as tie
 
--- a transfer energy is within its limits
-abbrev fine : ℤ → Bool
-fine = between (negℤ (pos mostTransfer)) (pos mostTransfer)
-
-first : (c : tie.After-is-between) → c .is-between .result ≡ fine (c .before .before .args .a .before)
+first : (c : tie.After-is-transfer) → c .is-transfer .result ≡ isTransfer (c .before .before .args .a .before)
 first c =
     let fits : SFits w64 (c .before .before .args .a .before) = search needs in
-    c .is-between .ensures ∙ ap fine (read fits)
+    c .is-transfer .ensures ∙ ap isTransfer (read fits)
 
-second : (c : tie.After-is-between2) → c .is-between2 .result ≡ fine (c .before .before .before .before .before .args .a .after)
+second : (c : tie.After-is-transfer2) → c .is-transfer2 .result ≡ isTransfer (c .before .before .before .before .before .args .a .after)
 second c =
     let fits : SFits w64 (c .before .before .before .before .before .args .a .after) = search needs in
-    c .is-between2 .ensures ∙ ap fine (read fits)
+    c .is-transfer2 .ensures ∙ ap isTransfer (read fits)
 
-is-between-requires : tie.Need-is-between-requires
-is-between-requires c κs = search needs
+is-transfer-requires : tie.Need-is-transfer-requires
+is-transfer-requires c κs = search needs
 
 returns : tie.Need-returns
 unfolding areAmounts
 returns c = simp (sym (first (c .before)) ∙ not-true _ (c .if1 .taken))
 
-is-between-requires-2 : tie.Need-is-between-requires-2
-is-between-requires-2 c κs = search needs
+is-transfer-requires-2 : tie.Need-is-transfer-requires-2
+is-transfer-requires-2 c κs = search needs
 
 returns-2 : tie.Need-returns-2
 unfolding areAmounts
@@ -62,4 +55,4 @@ returns-3 c =
 pub are-amounts-spec : {M : Type 1} → statement M
 are-amounts-spec =
     tie.close
-    (tie.spec is-between-requires returns is-between-requires-2 returns-2 is-charge-requires returns-3)
+    (tie.spec is-transfer-requires returns is-transfer-requires-2 returns-2 is-charge-requires returns-3)
