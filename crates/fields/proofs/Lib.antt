@@ -1,0 +1,2 @@
+-- The laws of fields that the crates above cite.
+pub mod Fronts
