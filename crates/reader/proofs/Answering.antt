@@ -1,0 +1,84 @@
+-- `read` and `read_all` on a reading with its lent memory: what the tests before a field say, and what is answered after them.
+-- Assumes nothing.
+use mathlib.Core.Bool.{true}
+use mathlib.Core.List.{List}
+use mathlib.Core.Path.{_≡_, refl, sym, ap, subst, subst⁻¹, _∙_}
+use Prim.Native.Nat.{ℕ, _≤_}
+use lib.IntN.{ℤ}
+use lib.ListN.{length}
+use Rattle.numbers.proofs.Tests.{not-refused}
+use Rattle.rules.specs.declared.Tolerances.{Tolerances}
+use Rattle.judge.specs.Step.{State}
+use Rattle.judge.specs.Answers.{settled}
+use Rattle.judge.proofs.Calls.{kept-ground}
+use Rattle.judge.proofs.Checked.{Ground, ground-passed, settled-taken, settled-refused}
+use Rattle.reader.specs.declared.Along.{Along}
+use Rattle.reader.specs.declared.Passage.{Passage}
+use Rattle.reader.specs.declared.ReadAnswer.{ReadAnswer}
+use Rattle.reader.specs.declared.AllAnswer.{AllAnswer}
+use Rattle.reader.specs.declared.Reading.{Reading}
+use Rattle.reader.specs.declared.Step.the-variants.{Refused}
+use Rattle.reader.specs.declared.Stepped.{Stepped}
+use Rattle.reader.specs.Reading.{Answered, Read, fieldAt, fieldsOf}
+use Rattle.reader.specs.Answers.{offeredOf, takeBlock, taleOf, readingOf, readGround, readOf, readAllOf, readAnswer, allAnswer}
+use Rattle.reader.specs.Along.{alongAt, withAlong, frontAs, allAs, steppedOf, passageOf, Ready}
+use Rattle.reader.proofs.Taking.{Took}
+
+-- the passage r and the memory l and m are those of x
+abbrev pub Passed : List ℕ → Read State → Passage → List ℤ → List ℕ → Type 0
+Passed b x r l m = (r ≡ passageOf b x) × ((l ≡ x .tale .run .ledger) × (m ≡ x .tale .run .map))
+
+-- the answer a and the memory are those of x, for one field and for all
+abbrev pub ReadBy : Reading → Answered State → ReadAnswer → List ℤ → List ℕ → Type 0
+ReadBy r x a l m = (a ≡ readAnswer r x) × ((l ≡ x .tale .run .ledger) × (m ≡ x .tale .run .map))
+
+abbrev pub AllBy : Reading → Read State → AllAnswer → List ℤ → List ℕ → Type 0
+AllBy r x a l m = (a ≡ allAnswer r x) × ((l ≡ x .tale .run .ledger) × (m ≡ x .tale .run .map))
+
+module _ (r : Reading) (b : List ℕ) (l : List ℤ) (m : List ℕ) where
+  abbrev t : Tolerances
+  t = r .run .tolerances
+
+  -- ---- the tests passed
+  module _ (e : readGround r b l m ≡ 0) where
+    pub grounded : Ground (r .run) b l m
+    unfolding readGround
+    grounded = ground-passed (not-refused 0 _ _ e .1)
+
+    pub ready-at : 17 ≤ length (r .vehicle) → (k : Along) → k ≡ alongAt r b → Ready (r .vehicle) b t k l m
+    ready-at h k p =
+        subst⁻¹ (λ (y : Along). Ready (r .vehicle) b t y l m) p
+        (record { number = h; kept = kept-ground (r .run) b l m grounded; few = grounded .limits .offered })
+
+    module _ (i : List ℕ) (k : Along) (p : k ≡ alongAt r b) {l′ : List ℤ} {m′ : List ℕ} (y : Reading) where
+      pub read-taken : (x : Stepped) → Took b (frontAs b t k l m (r .vehicle) i) x l′ m′ → y ≡ withAlong r (x .along)
+          → ReadBy r (readOf r b l m i) (record { step = x .step; reading = y }) l′ m′
+      unfolding readOf
+      read-taken x h q =
+          let f : frontAs b t k l m (r .vehicle) i ≡ settled (readGround r b l m) (frontAs b t (alongAt r b) l m (r .vehicle) i) (record { step = Refused (readGround r b l m); tale = taleOf r l m }) =
+          ap (λ (z : Along). frontAs b t z l m (r .vehicle) i) p ∙ sym (settled-taken _ e) in
+          let g = subst (λ (z : Answered State). Took b z x l′ m′) f h in
+          ((λ j. record { step = g .0 j .step; reading = (q ∙ ap (λ (z : Stepped). withAlong r (z .along)) (g .0)) j }), g .1)
+
+      pub all-taken : (x : Passage) → Passed b (allAs b t k l m (r .vehicle) i) x l′ m′ → y ≡ withAlong r (x .along)
+          → AllBy r (readAllOf r b l m i) (record { reading = y; fields = x .fields; used = x .used; last = x .last }) l′ m′
+      unfolding readAllOf
+      all-taken x h q =
+          let f : allAs b t k l m (r .vehicle) i ≡ settled (readGround r b l m) (allAs b t (alongAt r b) l m (r .vehicle) i) (record { tale = taleOf r l m; fields = 0; used = 0; last = Refused (readGround r b l m) }) =
+          ap (λ (z : Along). allAs b t z l m (r .vehicle) i) p ∙ sym (settled-taken _ e) in
+          let g = subst (λ (z : Read State). Passed b z x l′ m′) f h in
+          ((λ j. record { reading = (q ∙ ap (λ (z : Passage). withAlong r (z .along)) (g .0)) j; fields = g .0 j .fields; used = g .0 j .used; last = g .0 j .last }), g .1)
+
+  -- ---- a test refuses
+  module _ (i : List ℕ) (x : ℕ) (e : x ≡ readGround r b l m) (some : x ≡ 0 → ⊥) where
+    pub read-refuses : ReadBy r (readOf r b l m i) (record { step = Refused x; reading = r }) l m
+    unfolding readOf
+    read-refuses =
+        subst⁻¹ (λ (y : Answered State). ReadBy r y (record { step = Refused x; reading = r }) l m) (settled-refused _ (λ z. some (e ∙ z)))
+        ((λ j. record { step = Refused (e j); reading = r }), (refl, refl))
+
+    pub all-refuses : AllBy r (readAllOf r b l m i) (record { reading = r; fields = 0; used = 0; last = Refused x }) l m
+    unfolding readAllOf
+    all-refuses =
+        subst⁻¹ (λ (y : Read State). AllBy r y (record { reading = r; fields = 0; used = 0; last = Refused x }) l m) (settled-refused _ (λ z. some (e ∙ z)))
+        ((λ j. record { reading = r; fields = 0; used = 0; last = Refused (e j) }), (refl, refl))

@@ -1,0 +1,248 @@
+// The reader: a record's fields, in order, to the judge.
+use fields::Front;
+use fields::front_of;
+use judge::Going;
+use judge::Run;
+use rules::Amounts;
+use rules::Charge;
+ghost use mathlib.Core.Path.{_≡_};
+ghost use Rattle.judge.specs.Step.{startOf};
+ghost use Rattle.reader.specs.Answers.{nothing, openOf, openAnswer, memoryAfter, startedReading, readOf, readAnswer, readAllOf, allAnswer, endingOf};
+
+pub mod begin;
+pub mod checks;
+pub mod contents;
+pub mod steps;
+
+// Until the start: how many of the first four fields are accepted, the vehicle, and how many bytes the cycle in the room has.
+pub struct Opening {
+    pub fields: u32,
+    pub vehicle: [u8; 17],
+    pub cycle: usize,
+}
+
+// After the start. Place in the order: 0 after the tolerances, 1 after a 6 before, 2 after an own block, 3 after a 6 after, 4 after a 7.
+pub struct Reading {
+    pub vehicle: [u8; 17],
+    pub place: u32,
+    pub passed: u32,
+    pub amounts: Amounts,
+    pub run: Run,
+}
+
+// What became of a field until the start: taken with so many bytes, taken and the run started, not finished, or the number of a refusal.
+pub enum OpenStep {
+    Taken(usize),
+    Started(usize, Run),
+    Incomplete,
+    Refused(u32),
+}
+
+// What became of a field after the start: taken with so many bytes, passed over, not finished, or the number of a refusal.
+pub enum Step {
+    Taken(usize),
+    Passed(usize),
+    Incomplete,
+    Refused(u32),
+}
+
+// What a field after the start brings: an own block, one to pass over, an amount, or the number of a refusal.
+pub enum Content {
+    Own,
+    Foreign,
+    Before(i64),
+    After(i64),
+    Recharge(u32),
+    Refused(u32),
+}
+
+// Whether the input may end here.
+pub enum Ending {
+    Whole,
+    Refused(u32),
+}
+
+pub struct OpenAnswer {
+    pub step: OpenStep,
+    pub opening: Opening,
+}
+
+pub struct ReadAnswer {
+    pub step: Step,
+    pub reading: Reading,
+}
+
+// How many fields were accepted, how many bytes they took, and the answer after the last of them.
+pub struct AllAnswer {
+    pub reading: Reading,
+    pub fields: usize,
+    pub used: usize,
+    pub last: Step,
+}
+
+// A reading while fields are taken: what changes in it, and where its run stands.
+pub struct Along {
+    pub place: u32,
+    pub passed: u32,
+    pub amounts: Amounts,
+    pub going: Going,
+}
+
+// The answer to a field, and the reading with it.
+pub struct Stepped {
+    pub step: Step,
+    pub along: Along,
+}
+
+// The reading with all fields of an input, how many they are, how many bytes they take, and the answer after the last of them.
+pub struct Passage {
+    pub along: Along,
+    pub fields: usize,
+    pub used: usize,
+    pub last: Step,
+}
+
+// Before the first field: until field 2 the vehicle is seventeen times the character 0.
+pub fn blank() -> Opening
+    ensures { λ r. ⌜ r ≡ nothing ⌝ }
+{
+    Opening {
+        fields: 0,
+        vehicle: [48; 17],
+        cycle: 0,
+    }
+}
+
+// One of the first four fields, at the front of the input.
+pub fn open(
+    opening: Opening,
+    input: &[u8],
+    room: &mut [u8],
+    ledger: &mut [i64],
+    map: &mut [u64],
+) -> OpenAnswer
+    ensures { λ r. ⌜ r ≡ openAnswer (openOf opening (now (room .entry)) (now (ledger .entry)) (now (map .entry)) (now (input .entry))) ⌝ }
+    ensures { λ _. ⌜ now (room .exit) ≡ openOf opening (now (room .entry)) (now (ledger .entry)) (now (map .entry)) (now (input .entry)) .begun .kept .room ⌝ }
+    ensures { λ _. ⌜ now (ledger .exit) ≡ memoryAfter (openOf opening (now (room .entry)) (now (ledger .entry)) (now (map .entry)) (now (input .entry)) .step) (startOf (now (ledger .entry)) (now (map .entry)) .ledger) (now (ledger .entry)) ⌝ }
+    ensures { λ _. ⌜ now (map .exit) ≡ memoryAfter (openOf opening (now (room .entry)) (now (ledger .entry)) (now (map .entry)) (now (input .entry)) .step) (startOf (now (ledger .entry)) (now (map .entry)) .map) (now (map .entry)) ⌝ }
+{
+    let a = begin::open_refusal(opening, &room[..]);
+    if a != 0 {
+        return begin::refused_at(opening, a);
+    }
+    let front = front_of(input);
+    match front {
+        Front::Incomplete => OpenAnswer {
+            step: OpenStep::Incomplete,
+            opening,
+        },
+        Front::Impossible => begin::refused_at(opening, 8),
+        Front::Field(tag, n) => begin::open_whole(
+            opening,
+            &mut *room,
+            &mut *ledger,
+            &mut *map,
+            tag,
+            &input[3..3 + n],
+        ),
+    }
+}
+
+// The reading that starts with the run, for the opening's vehicle.
+pub fn reading_of(opening: Opening, run: Run) -> Reading
+    ensures { λ r. ⌜ r ≡ startedReading (opening .vehicle) run ⌝ }
+{
+    let vehicle = opening.vehicle;
+    Reading {
+        vehicle,
+        place: 0,
+        passed: 0,
+        amounts: Amounts {
+            before: 0,
+            after: 0,
+            charge: Charge::Absent,
+        },
+        run,
+    }
+}
+
+// The field at the front of the input.
+pub fn read(
+    reading: Reading,
+    input: &[u8],
+    b: &[u8],
+    ledger: &mut [i64],
+    map: &mut [u64],
+) -> ReadAnswer
+    ensures { λ r. ⌜ r ≡ readAnswer reading (readOf reading (now (b .entry)) (now (ledger .entry)) (now (map .entry)) (now (input .entry))) ⌝ }
+    ensures { λ _. ⌜ now (ledger .exit) ≡ readOf reading (now (b .entry)) (now (ledger .entry)) (now (map .entry)) (now (input .entry)) .tale .run .ledger ⌝ }
+    ensures { λ _. ⌜ now (map .exit) ≡ readOf reading (now (b .entry)) (now (ledger .entry)) (now (map .entry)) (now (input .entry)) .tale .run .map ⌝ }
+{
+    let a = checks::read_refusal(reading, b, &ledger[..], &map[..]);
+    if a != 0 {
+        return ReadAnswer {
+            step: Step::Refused(a),
+            reading,
+        };
+    }
+    let me = reading.vehicle;
+    let run = reading.run;
+    let t = run.tolerances;
+    let k = checks::along_at(reading, b);
+    let x = steps::one_field(&me[..], b, t, k, &mut *ledger, &mut *map, input);
+    let on = x.along;
+    let step = x.step;
+    ReadAnswer {
+        step,
+        reading: checks::with_along(reading, on),
+    }
+}
+
+// All whole fields of the input: memory, state and cycle are tested once.
+pub fn read_all(
+    reading: Reading,
+    input: &[u8],
+    b: &[u8],
+    ledger: &mut [i64],
+    map: &mut [u64],
+) -> AllAnswer
+    ensures { λ r. ⌜ r ≡ allAnswer reading (readAllOf reading (now (b .entry)) (now (ledger .entry)) (now (map .entry)) (now (input .entry))) ⌝ }
+    ensures { λ _. ⌜ now (ledger .exit) ≡ readAllOf reading (now (b .entry)) (now (ledger .entry)) (now (map .entry)) (now (input .entry)) .tale .run .ledger ⌝ }
+    ensures { λ _. ⌜ now (map .exit) ≡ readAllOf reading (now (b .entry)) (now (ledger .entry)) (now (map .entry)) (now (input .entry)) .tale .run .map ⌝ }
+{
+    let a = checks::read_refusal(reading, b, &ledger[..], &map[..]);
+    if a != 0 {
+        return AllAnswer {
+            reading,
+            fields: 0,
+            used: 0,
+            last: Step::Refused(a),
+        };
+    }
+    let me = reading.vehicle;
+    let run = reading.run;
+    let t = run.tolerances;
+    let k = checks::along_at(reading, b);
+    let x = steps::all_fields(&me[..], b, t, k, &mut *ledger, &mut *map, input);
+    let on = x.along;
+    let last = x.last;
+    AllAnswer {
+        reading: checks::with_along(reading, on),
+        fields: x.fields,
+        used: x.used,
+        last,
+    }
+}
+
+// Whether the input may end where the run has started or not, with so many bytes of an unfinished field left.
+pub fn ended(started: bool, left: usize) -> Ending
+    ensures { λ r. ⌜ r ≡ endingOf started left ⌝ }
+{
+    if !started {
+        return Ending::Refused(15);
+    }
+    if left != 0 {
+        return Ending::Refused(15);
+    }
+    Ending::Whole
+}
