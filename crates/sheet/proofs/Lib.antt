@@ -1,0 +1,6 @@
+-- The laws of what is printed.
+pub mod Digits
+pub mod Signs
+pub mod Laid
+pub mod Promises
+pub mod Rows

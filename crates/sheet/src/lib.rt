@@ -1,0 +1,53 @@
+// The bytes that the report prints.
+use closing::Figure;
+use rules::End;
+ghost use mathlib.Core.Path.{_≡_};
+ghost use lib.Dec.{leb};
+ghost use lib.ListN.{length};
+ghost use Rattle.numbers.specs.Tests.{unless};
+ghost use Rattle.sheet.specs.Laid.{laid};
+ghost use Rattle.sheet.specs.Text.{mostSheet, sheetText, refusalText};
+
+mod lines;
+mod text;
+
+// What the report prints of a record that was read to its end.
+pub struct Figures {
+    pub vehicle: [u8; 17],
+    pub end: End,
+    pub counted: u32,
+    pub cycles: u32,
+    pub outside: i64,
+    pub passed: u32,
+    pub drawn: i64,
+    pub weighted: Figure,
+    pub range: Figure,
+    pub ac: Figure,
+}
+
+// The sheet of a record, from the start of out; how many bytes it has. Where out is too short, 0, and nothing is written.
+pub fn sheet_lines(f: Figures, out: &mut [u8]) -> usize
+    ensures { λ r. ⌜ r ≡ unless 0 (leb mostSheet (length (now (out .entry)))) (length (sheetText f)) ⌝ }
+    ensures { λ _. ⌜ now (out .exit) ≡ unless (now (out .entry)) (leb mostSheet (length (now (out .entry)))) (laid (now (out .entry)) 0 (sheetText f)) ⌝ }
+{
+    if out.len() < 512 {
+        return 0;
+    }
+    let head = lines::head_lines(&mut *out, 0, f);
+    let body = lines::count_lines(&mut *out, head, f);
+    lines::closing_lines(&mut *out, body, f)
+}
+
+// The line of a refused field, likewise.
+pub fn refusal_line(number: u32, field: u64, out: &mut [u8]) -> usize
+    ensures { λ r. ⌜ r ≡ unless 0 (leb mostSheet (length (now (out .entry)))) (length (refusalText number field)) ⌝ }
+    ensures { λ _. ⌜ now (out .exit) ≡ unless (now (out .entry)) (leb mostSheet (length (now (out .entry)))) (laid (now (out .entry)) 0 (refusalText number field)) ⌝ }
+{
+    if out.len() < 512 {
+        return 0;
+    }
+    let n = number as u64;
+    let word = text::put_text(&mut *out, 0, b"refused", 32);
+    let next = text::put_number(&mut *out, word, n, 32);
+    lines::number_line(&mut *out, next, b"field", field)
+}
