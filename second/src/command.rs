@@ -5,6 +5,7 @@ use crate::bench::answers;
 use crate::compare::{compare, Comparison, Outcome};
 use crate::make::make;
 use crate::sheet::sheet;
+use crate::stream::{agree, sheets, stream};
 use crate::survey::survey;
 use std::io::{self, Read, Write};
 use std::process::ExitCode;
@@ -15,8 +16,11 @@ second survey KIND COUNT [OPTION..]
 second questions COUNT SEED > FILE
 second answers < FILE
 second compare REPORT KIND COUNT FIRST_SEED [OPTION..]
+second stream KIND COUNT FIRST_SEED [OPTION..] > STREAM
+second sheets < STREAM > SHEETS
+second agree KIND COUNT FIRST_SEED [OPTION..] < SHEETS
 
-kinds and options: small, long, full, million [BLOCK_SIZE [SAMPLES]], foreign [BLOCKS]
+kinds and options: small, long, full, prefix, change, million [BLOCK_SIZE [SAMPLES]], foreign [BLOCKS]
 ";
 
 /// Why a command came to nothing.
@@ -72,6 +76,25 @@ fn act(words: &[&str]) -> Result<ExitCode, Failure> {
             let (count, first_seed) = (number(count)?, number(first_seed)?);
             let options = &numbers(options)?;
             answer_compare(&Comparison { report, kind, count, first_seed, options })
+        }
+        ["stream", kind, count, first_seed, options @ ..] => {
+            let made = stream(kind, number(count)?, number(first_seed)?, &numbers(options)?);
+            print(&made.ok_or(Failure::Words)?)
+        }
+        ["sheets"] => {
+            let ended = || Failure::Said("the stream ends inside a record\n".to_string());
+            print(sheets(&read_all()?).ok_or_else(ended)?.as_bytes())
+        }
+        ["agree", kind, count, first_seed, options @ ..] => {
+            let text = String::from_utf8_lossy(&read_all()?).into_owned();
+            let found = agree(&text, kind, number(count)?, number(first_seed)?, &numbers(options)?);
+            match found.ok_or(Failure::Words)? {
+                Ok(text) => print(text.as_bytes()),
+                Err(text) => {
+                    print(text.as_bytes())?;
+                    Ok(ExitCode::from(1))
+                }
+            }
         }
         _ => Err(Failure::Words),
     }

@@ -26,10 +26,12 @@ pub mod full;
 pub mod long;
 pub mod make;
 pub mod million;
+pub mod nearby;
 pub mod recharge;
 pub mod small;
 pub mod write;
 
 pub mod command;
 pub mod compare;
+pub mod stream;
 pub mod survey;

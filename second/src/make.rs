@@ -3,10 +3,12 @@
 use crate::full::full;
 use crate::long::long;
 use crate::million::{foreign, million};
+use crate::nearby::{change, prefix};
 use crate::record::MOST;
 use crate::small::small;
 
-/// The record of a kind and seed; `None` for an unknown kind. Option words:
+/// The record of a kind and seed; `None` for an unknown kind. `prefix` and
+/// `change` take as seed the number of bytes and of the change. Option words:
 /// `million` takes the block size and the number of samples, `foreign` the
 /// number of foreign blocks.
 pub fn make(kind: &str, seed: u64, options: &[usize]) -> Option<Vec<u8>> {
@@ -17,6 +19,8 @@ pub fn make(kind: &str, seed: u64, options: &[usize]) -> Option<Vec<u8>> {
         "million" => Some(million(seed, option(0, 200).clamp(1, 200), option(1, MOST))),
         "foreign" => Some(foreign(seed, option(0, MOST))),
         "full" => Some(full(seed)),
+        "prefix" => Some(prefix(seed)),
+        "change" => Some(change(seed)),
         _ => None,
     }
 }
