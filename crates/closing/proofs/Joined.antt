@@ -23,22 +23,7 @@ use Rattle.ledger.specs.Row.{energyIn, distanceIn, energyAll}
 use Rattle.judge.specs.declared.Run.{Run}
 use Rattle.judge.specs.Answers.{settled}
 use Rattle.judge.proofs.Runs.{Reached, run-shows, cycle-energies, cycle-distances, few-cycles, never-refused}
-use Rattle.closing.specs.Answers.{Figure, Is, Absent, Refused, closedOf, refusalOf, weightedAnswer, rangeAnswer, rechargedOf, rechargeAnswer}
-
--- the answers, of the whole energy E and n finished cycles of energies e and distances d
-module _ (E : ℤ) (n : ℕ) (e d : ℕ → ℤ) where
-  abbrev pub weightedBy : Figure
-  weightedBy = settled (closingRefusal E n e d) (Is (weightedFigure E n e d)) (Refused (closingRefusal E n e d))
-
-  abbrev pub rangeBy : Figure
-  rangeBy = settled (closingRefusal E n e d) (Is (rangeFigure E n e d)) (Refused (closingRefusal E n e d))
-
-  abbrev pub chargedBy : ℤ → Charge → Figure
-  chargedBy F absent = Absent
-  chargedBy F (wh A) = settled (rechargeRefusal E n e d F A) (Is (rechargeFigure E n e d F A)) (Refused (rechargeRefusal E n e d F A))
-
-  abbrev pub rechargeBy : ℤ → Charge → Figure
-  rechargeBy F charge = settled (closingRefusal E n e d) (chargedBy F charge) (Refused (closingRefusal E n e d))
+use Rattle.closing.specs.Answers.{Figure, Is, Absent, Refused, weightedBy, rangeBy, chargedBy, rechargeBy, closedOf, refusalOf, weightedAnswer, rangeAnswer, rechargedOf, rechargeAnswer}
 
 -- two closings that are alike in the whole energy, the number of cycles and each cycle
 module _ (E E′ : ℤ) (n n′ : ℕ) (few : n′ ≤ 64) (e d e′ d′ : ℕ → ℤ) (p : E ≡ E′) (q : n ≡ n′)

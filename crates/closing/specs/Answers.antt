@@ -22,6 +22,31 @@ pub use Rattle.closing.specs.declared.Figure.{Figure}
 pub use Rattle.closing.specs.declared.Figure.the-variants.{Is, Absent, Refused}
 pub use Rattle.closing.specs.declared.Closed.{Closed}
 
+-- ---- by the rules alone
+
+-- "A closing refusal gives `refused N` in place of `weighted`, a recharge refusal in place of `ac`": the number of a refusal, or the figure
+abbrev pub figureOr : ℕ → Figure → Figure
+figureOr n f = settled n f (Refused n)
+
+-- n finished cycles of energies e and distances d, the whole energy E
+module _ (E : ℤ) (n : ℕ) (e d : ℕ → ℤ) where
+  abbrev pub weightedBy : Figure
+  weightedBy = figureOr (closingRefusal E n e d) (Is (weightedFigure E n e d))
+
+  abbrev pub rangeBy : Figure
+  rangeBy = figureOr (closingRefusal E n e d) (Is (rangeFigure E n e d))
+
+  -- "A missing 7 gives the recharge figure "absent".": with F and the recharge
+  abbrev pub chargedBy : ℤ → Charge → Figure
+  chargedBy F absent = Absent
+  chargedBy F (wh A) = figureOr (rechargeRefusal E n e d F A) (Is (rechargeFigure E n e d F A))
+
+  -- "Recharge: whatever closing refuses, then absent, 14, 12."
+  abbrev pub rechargeBy : ℤ → Charge → Figure
+  rechargeBy F charge = figureOr (closingRefusal E n e d) (chargedBy F charge)
+
+-- ---- read off a ledger
+
 -- the two figures of n finished cycles with the whole energy E, or the number of the refusal
 unfoldable pub closedOf : List ℤ → ℕ → ℤ → Closed
 closedOf l n E =

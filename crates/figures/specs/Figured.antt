@@ -1,0 +1,102 @@
+-- The figures that the report prints: read off a started run and its memory, and by the rules alone from the samples of a record.
+-- Assumes nothing.
+use mathlib.Core.List.{List}
+use Prim.Native.Nat.{ℕ}
+use lib.IntN.{ℤ, pos}
+use lib.ListN.{length, replicate}
+use Rattle.numbers.specs.Range.{sum}
+use Rattle.rules.specs.declared.Amounts.{Amounts}
+use Rattle.rules.specs.declared.End.the-variants.{None as none}
+use Rattle.rules.specs.declared.Sample.{Sample}
+use Rattle.rules.specs.declared.Tolerances.{Tolerances}
+use Rattle.rules.specs.Bench.{mostCycles}
+use Rattle.rules.specs.Run.{sampleOf, cycleEnergy, cycleDistance, energy, outside, counted, judged, ending, cycles}
+use Rattle.rules.specs.Closing.{wholeEnergy}
+use Rattle.judge.specs.declared.Run.{Run}
+use Rattle.judge.specs.declared.Sums.{Sums}
+use Rattle.judge.specs.Answers.{settled, sumsOf}
+use Rattle.closing.specs.declared.Figure.the-variants.{Absent}
+use Rattle.closing.specs.Answers.{weightedBy, rangeBy, rechargeBy, grounds, weightedAnswer, rangeAnswer, rechargeAnswer}
+use Rattle.sheet.specs.declared.Figures.{Figures}
+pub use Rattle.figures.specs.declared.Found.{Found}
+
+-- ---- of a started run and its memory
+
+-- where a run is refused: seventeen times the character 0, and no figure
+abbrev pub blank : Figures
+blank = record {
+  vehicle = replicate 17 48;
+  end = none;
+  counted = 0;
+  cycles = 0;
+  outside = pos 0;
+  passed = 0;
+  drawn = pos 0;
+  weighted = Absent;
+  range = Absent;
+  ac = Absent;
+}
+
+abbrev pub nothing : ℕ → Found
+nothing n = record { refusal = n; figures = blank }
+
+module _ (vehicle : List ℕ) (passed : ℕ) (a : Amounts) (r : Run) (b : List ℕ) (l : List ℤ) (m : List ℕ) where
+  -- the sums of the run, and its closing figures
+  abbrev pub withSums : Sums → Figures
+  withSums sums = record {
+    vehicle = vehicle;
+    end = sums .end;
+    counted = sums .counted;
+    cycles = sums .cycles;
+    outside = sums .outside;
+    passed = passed;
+    drawn = sums .drawn;
+    weighted = weightedAnswer r a b l m;
+    range = rangeAnswer r a b l m;
+    ac = rechargeAnswer r a b l m;
+  }
+
+  -- 1 and 2 before all else, as in every closing
+  abbrev pub foundOf : Found
+  foundOf =
+      let refusal = grounds r a b l m 0 in
+      record { refusal = refusal; figures = settled refusal (withSums (sumsOf r b l)) blank }
+
+-- ---- by the rules alone
+
+-- the samples of a record, by its cycle and tolerances
+module _ (b : List ℕ) (t : Tolerances) (xs : List Sample) where
+  -- how many count
+  abbrev pub countedIn : ℕ
+  countedIn = counted b t (sampleOf xs) (length xs)
+
+  -- "e_c and d_c are a finished cycle's energy and distance (c from 1)": place 0 is cycle 1
+  abbrev pub energies : ℕ → ℤ
+  energies c = cycleEnergy b (sampleOf xs) c countedIn
+
+  abbrev pub distances : ℕ → ℤ
+  distances c = pos (cycleDistance b (sampleOf xs) c countedIn)
+
+  -- "`outside` total over all cycles, open one included": of the samples judged, the stopping one among them
+  abbrev pub outsideTotal : ℕ
+  outsideTotal = sum (λ c. outside b t (sampleOf xs) c (judged b t (sampleOf xs) (length xs))) mostCycles
+
+-- "`run` vehicle number; `end` none, stop or limit with the number of counted samples; `cycles` n; `outside` ..; `passed` blocks passed over;
+-- `drawn` energy of counted samples; `weighted`; `range`; `ac` figure or `-`"
+abbrev pub figuresBy : List ℕ → ℕ → Amounts → List ℕ → Tolerances → List Sample → Figures
+figuresBy vehicle passed a b t xs =
+    let s = sampleOf xs in
+    let E = wholeEnergy (a .before) b t s (length xs) in
+    let n = cycles b t s (length xs) in
+    record {
+      vehicle = vehicle;
+      end = ending b t s (length xs);
+      counted = countedIn b t xs;
+      cycles = n;
+      outside = pos (outsideTotal b t xs);
+      passed = passed;
+      drawn = energy s (countedIn b t xs);
+      weighted = weightedBy E n (energies b t xs) (distances b t xs);
+      range = rangeBy E n (energies b t xs) (distances b t xs);
+      ac = rechargeBy E n (energies b t xs) (distances b t xs) (a .after) (a .charge);
+    }

@@ -1,0 +1,2 @@
+-- What the report prints of a started run.
+pub mod Figured

@@ -1,0 +1,100 @@
+// The figures that the report prints of a started run.
+use closing::Figure;
+use judge::Run;
+use judge::Sums;
+use judge::TotalsAnswer;
+use ledger::amounts::are_amounts;
+use rules::Amounts;
+use rules::End;
+use sheet::Figures;
+ghost use mathlib.Core.Path.{_≡_};
+ghost use Rattle.figures.specs.Figured.{blank, nothing, withSums, foundOf};
+
+// The figures, or the number of a refusal, 1 or 2, beside which they are blank.
+pub struct Found {
+    pub refusal: u32,
+    pub figures: Figures,
+}
+
+// Seventeen times the character 0, and no figure.
+fn blank_figures() -> Figures
+    ensures { λ r. ⌜ r ≡ blank ⌝ }
+{
+    Figures {
+        vehicle: [48; 17],
+        end: End::None,
+        counted: 0,
+        cycles: 0,
+        outside: 0,
+        passed: 0,
+        drawn: 0,
+        weighted: Figure::Absent,
+        range: Figure::Absent,
+        ac: Figure::Absent,
+    }
+}
+
+fn refused(refusal: u32) -> Found
+    ensures { λ r. ⌜ r ≡ nothing refusal ⌝ }
+{
+    Found {
+        refusal,
+        figures: blank_figures(),
+    }
+}
+
+// The sums of a run, with the closing figures beside them.
+fn figures_with(
+    sums: Sums,
+    vehicle: [u8; 17],
+    passed: u32,
+    amounts: Amounts,
+    run: Run,
+    b: &[u8],
+    ledger: &[i64],
+    map: &[u64],
+) -> Figures
+    ensures { λ r. ⌜ r ≡ withSums vehicle passed amounts run (now (b .entry)) (now (ledger .entry)) (now (map .entry)) sums ⌝ }
+{
+    let end = sums.end;
+    let weighted = closing::weighted(run, amounts, b, ledger, map);
+    let range = closing::range(run, amounts, b, ledger, map);
+    let ac = closing::recharge(run, amounts, b, ledger, map);
+    Figures {
+        vehicle,
+        end,
+        counted: sums.counted,
+        cycles: sums.cycles,
+        outside: sums.outside,
+        passed,
+        drawn: sums.drawn,
+        weighted,
+        range,
+        ac,
+    }
+}
+
+// The figures of a started run of this vehicle, with so many blocks passed over and these amounts.
+pub fn figures_of(
+    vehicle: [u8; 17],
+    passed: u32,
+    amounts: Amounts,
+    run: Run,
+    b: &[u8],
+    ledger: &[i64],
+    map: &[u64],
+) -> Found
+    ensures { λ r. ⌜ r ≡ foundOf vehicle passed amounts run (now (b .entry)) (now (ledger .entry)) (now (map .entry)) ⌝ }
+{
+    if !are_amounts(amounts) {
+        return refused(1);
+    }
+    let answer = judge::totals(run, b, ledger, map);
+    match answer {
+        TotalsAnswer::Refused(n) => refused(n),
+        TotalsAnswer::Summed(sums) => Found {
+            refusal: 0,
+            figures: figures_with(sums, vehicle, passed, amounts, run, b, ledger, map),
+        },
+    }
+}
