@@ -1,0 +1,78 @@
+-- A record's bytes as a program reads them: what is left over stands before the bytes that follow. This is what its loop keeps.
+-- Assumes nothing.
+use mathlib.Core.Bool.{true, false, false≢true}
+use mathlib.Core.List.{List, [], _++_, append-assoc}
+use mathlib.Core.Path.{_≡_, refl, sym, ap, subst, _∙_}
+use Prim.Native.Nat.{ℕ, suc, _-_, _<_}
+use native.Mathlib.Omega.{arith}
+use lib.ListN.{length, take, drop, length-drop, take-append-drop}
+use lib.Dec.{lit<}
+use Rattle.numbers.specs.Tests.{unless}
+use Rattle.reader.specs.declared.Ending.the-variants as ended
+use Rattle.reader.specs.Opening.{OpenRead}
+use Rattle.reader.specs.Answers.{endingOf}
+use Rattle.reader.specs.Records.{refused, blank, startRefused, begunBy, sheetOf}
+use Rattle.reader.proofs.Openings.{no-bytes}
+use Rattle.reader.proofs.Calls.{Lent}
+use Rattle.reader.proofs.Records.{Handed}
+use Rattle.desk.specs.declared.Outcome.the-variants.{More, Refused}
+use Rattle.desk.specs.Feeding.{Laid, laidOf, emptyDesk, cycleOf, feedOf}
+use Rattle.desk.proofs.Short.{longest}
+use Rattle.desk.proofs.Feeds.{Stands, stands-empty, stands-on, feed-refused, feed-more-short, feed-ended-refused, feed-ended-whole}
+
+-- no bytes: "Empty input: `refused 15 field 1`"
+pub sheet-empty : sheetOf [] ≡ refused 15 1
+unfolding sheetOf
+sheet-empty = ap (λ (x : OpenRead (List ℕ)). begunBy (x .last) (x .begun) (drop (x .used) [])) (no-bytes (λ _ v. v) (λ b. b) startRefused 4 blank)
+
+module _ (lent : Lent) where
+  -- the bytes w have arrived; the desk x has taken all but the rest
+  pub record Arrived (w : List ℕ) (x : Laid) (rest : List ℕ) : Type 0 where
+    pub taken : List ℕ
+    pub stands : Stands lent taken x
+    pub bytes : taken ++ rest ≡ w
+    -- so a buffer that is as long as the longest field has place for more
+    pub short : length rest < longest
+    -- what `reader::ended` says here is what becomes of a record that ends here
+    pub ends-refused : (k : ℕ) → endingOf (x .desk .started) (length rest) ≡ ended.Refused k → sheetOf w ≡ refused k (suc (x .desk .fields))
+    pub ends-whole : endingOf (x .desk .started) (length rest) ≡ ended.Whole → Handed lent w (cycleOf x) (x .desk .reading) (x .ledger) (x .map)
+
+  pub arrived-none : Arrived [] (laidOf emptyDesk (lent .room₀) (lent .l₀) (lent .m₀)) []
+  unfolding endingOf unless
+  arrived-none = record {
+    taken = [];
+    stands = stands-empty lent;
+    bytes = refl;
+    short = lit< tt;
+    ends-refused = λ k e. let same : 15 ≡ k = cc in sheet-empty ∙ ap (λ (n : ℕ). refused n 1) same;
+    ends-whole = λ e. absurd (false≢true cc);
+  }
+
+  module _ {w rest : List ℕ} {x : Laid} (h : Arrived w x rest) (new : List ℕ) where
+    abbrev input : List ℕ
+    input = rest ++ new
+
+    whole : h .taken ++ input ≡ w ++ new
+    whole = sym (append-assoc (h .taken) rest new) ∙ ap (λ (q : List ℕ). q ++ new) (h .bytes)
+
+    -- new bytes, and more are wanted
+    pub arrived-more : feedOf x input .outcome ≡ More → Arrived (w ++ new) (feedOf x input .laid) (drop (feedOf x input .used) input)
+    arrived-more m =
+        let y = feedOf x input in
+        let left : length (drop (y .used) input) ≡ length input - y .used = length-drop (y .used) input in
+        record {
+          taken = h .taken ++ take (y .used) input;
+          stands = stands-on lent (h .stands) input;
+          bytes = append-assoc (h .taken) (take (y .used) input) (drop (y .used) input) ∙ ap (λ (q : List ℕ). h .taken ++ q) (take-append-drop (y .used) input) ∙ whole;
+          short = omega (arith, left, feed-more-short lent (h .stands) input m);
+          ends-refused = λ k e. ap sheetOf (sym whole) ∙ feed-ended-refused lent (h .stands) input m k (ap (endingOf (y .laid .desk .started)) (sym left) ∙ e);
+          ends-whole =
+              λ e.
+              subst (λ (q : List ℕ). Handed lent q (cycleOf (y .laid)) (y .laid .desk .reading) (y .laid .ledger) (y .laid .map)) whole
+              (feed-ended-whole lent (h .stands) input (ap (endingOf (y .laid .desk .started)) (sym left) ∙ e));
+        }
+
+    -- new bytes, and a refusal: it is the record's, whatever follows
+    pub arrived-refused : (k : ℕ) → feedOf x input .outcome ≡ Refused k → (q : List ℕ) → sheetOf ((w ++ new) ++ q) ≡ refused k (suc (feedOf x input .laid .desk .fields))
+    arrived-refused k e q =
+        ap sheetOf (ap (λ (r : List ℕ). r ++ q) (sym whole) ∙ append-assoc (h .taken) input q) ∙ feed-refused lent (h .stands) input k e q

@@ -1,0 +1,7 @@
+-- The laws of a desk that is fed.
+pub mod Turns
+pub mod Short
+pub mod Few
+pub mod Feeds
+pub mod Arriving
+pub mod Promises

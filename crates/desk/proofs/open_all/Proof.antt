@@ -1,0 +1,156 @@
+-- `desk::open_all` meets its contract. The loop's invariant: what is left to open is what the desk, as it is now, has to open of the rest.
+-- Assumes nothing.
+use mathlib.Core.Path.{_≡_, refl, _∙_}
+use Prim.Native.Nat.{_+_, _≤_, zero-le}
+use native.Mathlib.Omega.{arith}
+use borrow.Author.Needs.{needs}
+use lib.ListN.{length, drop}
+use Rattle.desk.specs.Feeding.{laidOf, behind, openUpto, mostFields}
+use Rattle.desk.proofs.Turns.{left-of, before-all, turn, turn-end, turn-size, turn-started, no-turn}
+use Rattle.desk.proofs.open_all.Statement.{statement}
+use Rattle.desk.proofs.open_all.Tie as tie
+
+abbrev Inv-loop : tie.InvT-loop
+Inv-loop input room₀ ledger₀ map₀ on₀ used₀ left₀ room ledger map on used left =
+    ((used ≤ length input) × (on .fields + left ≤ mostFields + 4) × (length room ≡ length room₀) × (length ledger ≡ length ledger₀) × (length map ≡ length map₀))
+    × (openUpto 4 (laidOf on₀ room₀ ledger₀ map₀) input ≡ behind used (openUpto left (laidOf on room ledger map) (drop used input)))
+
+abbrev μ-loop : tie.MeasureT-loop
+μ-loop input room₀ ledger₀ map₀ on₀ used₀ left₀ room ledger map on used left = left
+
+-- the turn of the loop
+abbrev tested : tie.After-on Inv-loop μ-loop → tie.Else1 Inv-loop μ-loop
+tested c = c .before .before .before .before .before .before .before .before .before .before .before
+
+abbrev inside : tie.After-on Inv-loop μ-loop → tie.In-loop Inv-loop μ-loop
+inside c = tested c .before
+
+abbrev place : tie.After-on Inv-loop μ-loop → tie.At-loop Inv-loop μ-loop
+place c = inside c .before
+
+abbrev entry : tie.After-on Inv-loop μ-loop → tie.Start Inv-loop μ-loop
+entry c = place c .before .before .before .before
+
+sized : (c : tie.After-on Inv-loop μ-loop)
+    → (let at = place c in
+    let r = c .before .before .before .before .before .before .open-one .result in
+    (at .loop .used + r .used ≤ length (entry c .args .input .now)) × (r .desk .fields ≤ at .loop .on .fields + 1))
+sized c =
+    let at = place c in
+    let a = entry c .args in
+    turn-size (at .loop .on) (at .loop .room) (at .loop .ledger) (at .loop .map) (a .input .now) (at .loop .used) _ _ _ _ (c .before .before .before .before .before .before .open-one .ensures) (at .loop .inv .0 .0)
+
+loop-holds : tie.Need-loop-holds Inv-loop μ-loop
+loop-holds c =
+    let s = c .before .before .before in
+    ((zero-le, omega (arith, s .pre), refl, refl, refl), before-all _)
+
+same-length : tie.Need-same-length Inv-loop μ-loop
+same-length c = search needs
+
+same-length-2 : tie.Need-same-length-2 Inv-loop μ-loop
+same-length-2 c = search needs
+
+same-length-3 : tie.Need-same-length-3 Inv-loop μ-loop
+same-length-3 c = search needs
+
+returns : tie.Need-returns Inv-loop μ-loop
+returns c =
+    let at = c .before .before in
+    left-of _ (at .loop .on) (at .loop .room) (at .loop .ledger) (at .loop .map) (at .loop .used) _
+    (at .loop .inv .1 ∙ turn-started (at .loop .left) (at .loop .on) (at .loop .room) (at .loop .ledger) (at .loop .map) _ (at .loop .used) (c .if1 .taken))
+
+sub-open-one : tie.Need-sub-open-one Inv-loop μ-loop
+sub-open-one c = c .before .before .loop .inv .0 .0
+
+part-open-one-start : tie.Need-part-open-one-start Inv-loop μ-loop
+part-open-one-start c = c .before .before .loop .inv .0 .0
+
+part-open-one-end : tie.Need-part-open-one-end Inv-loop μ-loop
+part-open-one-end c = search needs
+
+open-one-requires : tie.Need-open-one-requires Inv-loop μ-loop
+open-one-requires c κs = let at = c .before .before .before .before .before .before in omega (arith, at .loop .inv .0 .1)
+
+add-used : tie.Need-add-used Inv-loop μ-loop
+add-used c = let s = sized c in omega (arith, s .0, entry c .good .1 .0 .0)
+
+sub-left : tie.Need-sub-left Inv-loop μ-loop
+sub-left c = let f = inside c in omega (arith, f .loop-test .taken)
+
+same-length-4 : tie.Need-same-length-4 Inv-loop μ-loop
+same-length-4 c = search needs
+
+same-length-5 : tie.Need-same-length-5 Inv-loop μ-loop
+same-length-5 c = search needs
+
+same-length-6 : tie.Need-same-length-6 Inv-loop μ-loop
+same-length-6 c = search needs
+
+returns-2 : tie.Need-returns-2 Inv-loop μ-loop
+returns-2 c =
+    let f = c .before in
+    let at = place f in
+    let a = entry f .args in
+    let x = f .before .before .before .before .before .before in
+    left-of _ _ _ _ _ _ _
+    (at .loop .inv .1
+    ∙ turn-end (at .loop .on) (at .loop .room) (at .loop .ledger) (at .loop .map) (a .input .now) (at .loop .used) _ _ _ _ (x .open-one .ensures) (at .loop .left) (inside f .loop-test .taken) (tested f .if1 .left) (c .if2 .taken))
+
+loop-less : tie.Need-loop-less Inv-loop μ-loop
+loop-less c = let f = c .before in omega (arith, inside f .loop-test .taken)
+
+loop-again : tie.Need-loop-again Inv-loop μ-loop
+loop-again c =
+    let f = c .before in
+    let at = place f in
+    let a = entry f .args in
+    let x = f .before .before .before .before .before .before in
+    let s = sized f in (
+      (s .0, omega (arith, s .1, at .loop .inv .0 .1, inside f .loop-test .taken), search needs, search needs, search needs),
+      at .loop .inv .1
+          ∙ turn (at .loop .on) (at .loop .room) (at .loop .ledger) (at .loop .map) (a .input .now) (at .loop .used) _ _ _ _ (x .open-one .ensures) (at .loop .left) (inside f .loop-test .taken) (tested f .if1 .left) (c .if2 .left),
+    )
+
+same-length-7 : tie.Need-same-length-7 Inv-loop μ-loop
+same-length-7 c = search needs
+
+same-length-8 : tie.Need-same-length-8 Inv-loop μ-loop
+same-length-8 c = search needs
+
+same-length-9 : tie.Need-same-length-9 Inv-loop μ-loop
+same-length-9 c = search needs
+
+returns-3 : tie.Need-returns-3 Inv-loop μ-loop
+returns-3 c =
+    let at = c .before in
+    left-of _ (at .loop .on) (at .loop .room) (at .loop .ledger) (at .loop .map) (at .loop .used) _
+    (at .loop .inv .1 ∙ no-turn (at .loop .on) (at .loop .room) (at .loop .ledger) (at .loop .map) _ (at .loop .used) (at .loop .left) (c .loop-test .left))
+
+pub open-all-spec : {M : Type 1} → statement M
+open-all-spec =
+    tie.close
+    (tie.spec
+    Inv-loop
+    μ-loop
+    loop-holds
+    same-length
+    same-length-2
+    same-length-3
+    returns
+    sub-open-one
+    part-open-one-start
+    part-open-one-end
+    open-one-requires
+    add-used
+    sub-left
+    same-length-4
+    same-length-5
+    same-length-6
+    returns-2
+    loop-less
+    loop-again
+    same-length-7
+    same-length-8
+    same-length-9
+    returns-3)

@@ -1,0 +1,154 @@
+-- A record's bytes as they arrive: a desk on its lent memory, and what feeding it takes of the input.
+-- Assumes nothing.
+use mathlib.Core.Bool.{true, false, cond}
+use mathlib.Core.List.{List}
+use Prim.Native.Nat.{ℕ, zero, suc, _+_}
+use lib.Dec.{leb, eqb}
+use lib.IntN.{ℤ}
+use lib.ListN.{length, take, drop}
+use Rattle.numbers.specs.Tests.{unless}
+use Rattle.rules.specs.declared.End.the-variants.{None as none}
+use Rattle.judge.specs.declared.Run.{Run}
+use Rattle.judge.specs.Step.{State, startOf}
+use Rattle.reader.specs.declared.Opening.{Opening}
+use Rattle.reader.specs.declared.Step.{Step}
+use Rattle.reader.specs.declared.Step.the-variants as step
+use Rattle.reader.specs.declared.OpenStep.{OpenStep}
+use Rattle.reader.specs.declared.OpenStep.the-variants as opening
+use Rattle.reader.specs.Reading.{Read}
+use Rattle.reader.specs.Opening.{Opened}
+use Rattle.reader.specs.Answers.{Held, nothing, openingOf, openOf, memoryAfter, startedReading, readingOf, readAllOf}
+pub use Rattle.desk.specs.declared.Desk.{Desk}
+pub use Rattle.desk.specs.declared.Outcome.{Outcome}
+pub use Rattle.desk.specs.declared.Outcome.the-variants.{More, Refused}
+pub use Rattle.desk.specs.declared.Fed.{Fed}
+
+-- a desk on its lent room, ledger and map
+pub record Laid : Type 0 where
+  pub desk : Desk
+  pub room : List ℕ
+  pub ledger : List ℤ
+  pub map : List ℕ
+
+-- what was taken of the input: what is left of desk and memory, how many bytes, and what became of them
+pub record Taken : Type 0 where
+  pub laid : Laid
+  pub used : ℕ
+  pub outcome : Outcome
+
+abbrev pub laidOf : Desk → List ℕ → List ℤ → List ℕ → Laid
+laidOf d room l m = record { desk = d; room = room; ledger = l; map = m }
+
+abbrev pub fedOf : Taken → Fed
+fedOf y = record { outcome = y .outcome; used = y .used; desk = y .laid .desk }
+
+-- ---- before the first byte
+
+-- no run: until the start the reading holds it
+abbrev pub noRun : Run
+noRun = record {
+  seconds = 0;
+  ends = record { first = 0; second = 0; third = 0; fourth = 0 };
+  tolerances = record { speed = 0; time = 0; allowance = 0 };
+  offered = 0;
+  counted = 0;
+  end = none;
+}
+
+abbrev pub emptyDesk : Desk
+emptyDesk = record { started = false; opening = nothing; reading = startedReading (nothing .vehicle) noRun; fields = 0 }
+
+-- ---- what is taken
+
+-- nothing
+abbrev pub stops : Laid → Outcome → Taken
+stops x o = record { laid = x; used = 0; outcome = o }
+
+-- n bytes more, before those of y
+abbrev pub behind : ℕ → Taken → Taken
+behind n y = record { laid = y .laid; used = n + y .used; outcome = y .outcome }
+
+-- ---- until the start
+
+-- the answer s to a field until the start, which left the opening o
+abbrev pub opensAs : Desk → OpenStep → Opening → Fed
+opensAs d (opening.Taken n) o = record { outcome = More; used = n; desk = record { started = false; opening = o; reading = d .reading; fields = d .fields + 1 } }
+opensAs d (opening.Started n r) o = record { outcome = More; used = n; desk = record { started = true; opening = o; reading = startedReading (o .vehicle) r; fields = d .fields + 1 } }
+opensAs d opening.Incomplete o = record { outcome = More; used = 0; desk = d }
+opensAs d (opening.Refused k) o = record { outcome = Refused k; used = 0; desk = d }
+
+abbrev pub opensTo : Laid → Opened Held → Taken
+opensTo x y =
+    let z = opensAs (x .desk) (y .step) (openingOf (y .begun)) in
+    record {
+      laid = record {
+        desk = z .desk;
+        room = y .begun .kept .room;
+        ledger = memoryAfter (y .step) (startOf (x .ledger) (x .map) .ledger) (x .ledger);
+        map = memoryAfter (y .step) (startOf (x .ledger) (x .map) .map) (x .map);
+      };
+      used = z .used;
+      outcome = z .outcome;
+    }
+
+-- the field at the front of the input
+unfoldable pub openOne : Laid → List ℕ → Taken
+openOne x i = opensTo x (openOf (x .desk .opening) (x .room) (x .ledger) (x .map) i)
+
+-- y is the end where it took nothing; else what follows it
+abbrev pub goOn : Taken → Taken → Taken
+goOn y next = cond (eqb (y .used) 0) y (behind (y .used) next)
+
+-- at most n fields, one after another, until the start
+unfoldable pub openUpto : ℕ → Laid → List ℕ → Taken
+openUpto zero x i = stops x More
+openUpto (suc n) x i =
+    let y = openOne x i in
+    cond (x .desk .started) (stops x More) (goOn y (openUpto n (y .laid) (drop (y .used) i)))
+
+-- ---- after it
+
+abbrev pub outcomeOf : Step → Outcome
+outcomeOf (step.Taken n) = More
+outcomeOf (step.Passed n) = More
+outcomeOf step.Incomplete = More
+outcomeOf (step.Refused k) = Refused k
+
+abbrev pub readTo : Laid → Read State → Taken
+readTo x y = record {
+  laid = record {
+    desk = record {
+      started = x .desk .started;
+      opening = x .desk .opening;
+      reading = readingOf (x .desk .reading) (y .tale);
+      fields = x .desk .fields + y .fields;
+    };
+    room = x .room;
+    ledger = y .tale .run .ledger;
+    map = y .tale .run .map;
+  };
+  used = y .used;
+  outcome = outcomeOf (y .last);
+}
+
+-- the cycle in the room
+abbrev pub cycleOf : Laid → List ℕ
+cycleOf x = take (x .desk .opening .cycle) (x .room)
+
+-- all whole fields of the input; 1 where the room is too short for the cycle
+unfoldable pub readOn : Laid → List ℕ → Taken
+readOn x i = unless (stops x (Refused 1)) (leb (x .desk .opening .cycle) (length (x .room))) (readTo x (readAllOf (x .desk .reading) (cycleOf x) (x .ledger) (x .map) i))
+
+-- ---- both
+
+-- no record has more fields: four until the start, 4,000,000 own blocks of a sample each, as many passed over, and three amounts
+abbrev pub mostFields : ℕ
+mostFields = 8_000_008
+
+-- after the fields until the start
+abbrev pub thenRead : Taken → List ℕ → Taken
+thenRead y i = cond (y .laid .desk .started) (behind (y .used) (readOn (y .laid) (drop (y .used) i))) y
+
+-- "works through its bytes field by field": until the start and after it
+unfoldable pub feedOf : Laid → List ℕ → Taken
+feedOf x i = unless (stops x (Refused 1)) (leb (x .desk .fields) mostFields) (thenRead (openUpto 4 x i) i)

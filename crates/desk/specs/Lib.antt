@@ -1,0 +1,2 @@
+-- What becomes of a record's bytes as they arrive.
+pub mod Feeding

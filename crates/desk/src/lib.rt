@@ -1,0 +1,232 @@
+// A record's bytes as they arrive: every whole field goes to the reader, what is left over waits for more.
+use judge::Ends;
+use judge::Run;
+use reader::OpenAnswer;
+use reader::OpenStep;
+use reader::Opening;
+use reader::Reading;
+use reader::Step;
+use reader::blank;
+use reader::open;
+use reader::read_all;
+use reader::reading_of;
+use rules::End;
+use rules::Tolerances;
+ghost use mathlib.Core.Path.{_≡_};
+ghost use Prim.Native.Nat.{_+_, _≤_};
+ghost use Rattle.desk.specs.Feeding.{emptyDesk, laidOf, fedOf, outcomeOf, opensAs, openOne, openUpto, readOn, feedOf, mostFields};
+
+// A record as far as it was read: until the start the opening, after it the reading; and how many fields were accepted.
+pub struct Desk {
+    pub started: bool,
+    pub opening: Opening,
+    pub reading: Reading,
+    pub fields: u64,
+}
+
+// What became of the bytes: all whole fields are taken and more bytes are wanted, or the number of a refusal.
+pub enum Outcome {
+    More,
+    Refused(u32),
+}
+
+// How many bytes were taken, and the desk with them.
+pub struct Fed {
+    pub outcome: Outcome,
+    pub used: usize,
+    pub desk: Desk,
+}
+
+// Before the first byte. The reading is none until the start: it has a run of no cycle.
+pub fn empty() -> Desk
+    ensures { λ r. ⌜ r ≡ emptyDesk ⌝ }
+{
+    let opening = blank();
+    let run = Run {
+        seconds: 0,
+        ends: Ends {
+            first: 0,
+            second: 0,
+            third: 0,
+            fourth: 0,
+        },
+        tolerances: Tolerances {
+            speed: 0,
+            time: 0,
+            allowance: 0,
+        },
+        offered: 0,
+        counted: 0,
+        end: End::None,
+    };
+    Desk {
+        started: false,
+        opening,
+        reading: reading_of(opening, run),
+        fields: 0,
+    }
+}
+
+// Nothing was taken.
+fn stopped(desk: Desk, outcome: Outcome) -> Fed
+    ensures { λ r. ⌜ r ≡ record { outcome = outcome; used = 0; desk = desk } ⌝ }
+{
+    Fed {
+        outcome,
+        used: 0,
+        desk,
+    }
+}
+
+// The answer to a field until the start.
+fn opened(desk: Desk, answer: OpenAnswer) -> Fed
+    requires { ⌜ desk .fields ≤ mostFields + 4 ⌝ }
+    ensures { λ r. ⌜ r ≡ opensAs desk (answer .step) (answer .opening) ⌝ }
+{
+    let step = answer.step;
+    let opening = answer.opening;
+    let reading = desk.reading;
+    match step {
+        OpenStep::Taken(n) => Fed {
+            outcome: Outcome::More,
+            used: n,
+            desk: Desk {
+                started: false,
+                opening,
+                reading,
+                fields: desk.fields + 1,
+            },
+        },
+        OpenStep::Started(n, run) => Fed {
+            outcome: Outcome::More,
+            used: n,
+            desk: Desk {
+                started: true,
+                opening,
+                reading: reading_of(opening, run),
+                fields: desk.fields + 1,
+            },
+        },
+        OpenStep::Incomplete => stopped(desk, Outcome::More),
+        OpenStep::Refused(number) => stopped(desk, Outcome::Refused(number)),
+    }
+}
+
+// The field at the front of the input, until the start.
+fn open_one(desk: Desk, input: &[u8], room: &mut [u8], ledger: &mut [i64], map: &mut [u64]) -> Fed
+    requires { ⌜ desk .fields ≤ mostFields + 4 ⌝ }
+    ensures { λ r. ⌜ r ≡ fedOf (openOne (laidOf desk (now (room .entry)) (now (ledger .entry)) (now (map .entry))) (now (input .entry))) ⌝ }
+    ensures { λ _. ⌜ now (room .exit) ≡ openOne (laidOf desk (now (room .entry)) (now (ledger .entry)) (now (map .entry))) (now (input .entry)) .laid .room ⌝ }
+    ensures { λ _. ⌜ now (ledger .exit) ≡ openOne (laidOf desk (now (room .entry)) (now (ledger .entry)) (now (map .entry))) (now (input .entry)) .laid .ledger ⌝ }
+    ensures { λ _. ⌜ now (map .exit) ≡ openOne (laidOf desk (now (room .entry)) (now (ledger .entry)) (now (map .entry))) (now (input .entry)) .laid .map ⌝ }
+{
+    let opening = desk.opening;
+    let answer = open(opening, input, &mut *room, &mut *ledger, &mut *map);
+    opened(desk, answer)
+}
+
+// The fields until the start, of which there are at most four.
+fn open_all(desk: Desk, input: &[u8], room: &mut [u8], ledger: &mut [i64], map: &mut [u64]) -> Fed
+    requires { ⌜ desk .fields ≤ mostFields ⌝ }
+    ensures { λ r. ⌜ r ≡ fedOf (openUpto 4 (laidOf desk (now (room .entry)) (now (ledger .entry)) (now (map .entry))) (now (input .entry))) ⌝ }
+    ensures { λ _. ⌜ now (room .exit) ≡ openUpto 4 (laidOf desk (now (room .entry)) (now (ledger .entry)) (now (map .entry))) (now (input .entry)) .laid .room ⌝ }
+    ensures { λ _. ⌜ now (ledger .exit) ≡ openUpto 4 (laidOf desk (now (room .entry)) (now (ledger .entry)) (now (map .entry))) (now (input .entry)) .laid .ledger ⌝ }
+    ensures { λ _. ⌜ now (map .exit) ≡ openUpto 4 (laidOf desk (now (room .entry)) (now (ledger .entry)) (now (map .entry))) (now (input .entry)) .laid .map ⌝ }
+{
+    let mut on = desk;
+    let mut used = 0;
+    let mut left: u32 = 4;
+    while left != 0 {
+        if on.started {
+            return Fed {
+                outcome: Outcome::More,
+                used,
+                desk: on,
+            };
+        }
+        let x = open_one(on, &input[used..], &mut *room, &mut *ledger, &mut *map);
+        on = x.desk;
+        let outcome = x.outcome;
+        let n = x.used;
+        used += n;
+        left -= 1;
+        if n == 0 {
+            return Fed {
+                outcome,
+                used,
+                desk: on,
+            };
+        }
+    }
+    Fed {
+        outcome: Outcome::More,
+        used,
+        desk: on,
+    }
+}
+
+// What the answer after the last accepted field says of the bytes.
+fn outcome_of(step: Step) -> Outcome
+    ensures { λ r. ⌜ r ≡ outcomeOf step ⌝ }
+{
+    match step {
+        Step::Taken(_) => Outcome::More,
+        Step::Passed(_) => Outcome::More,
+        Step::Incomplete => Outcome::More,
+        Step::Refused(number) => Outcome::Refused(number),
+    }
+}
+
+// All whole fields after the start, with the cycle in the room.
+fn read_on(desk: Desk, input: &[u8], room: &[u8], ledger: &mut [i64], map: &mut [u64]) -> Fed
+    requires { ⌜ desk .fields ≤ mostFields + 4 ⌝ }
+    ensures { λ r. ⌜ r ≡ fedOf (readOn (laidOf desk (now (room .entry)) (now (ledger .entry)) (now (map .entry))) (now (input .entry))) ⌝ }
+    ensures { λ _. ⌜ now (ledger .exit) ≡ readOn (laidOf desk (now (room .entry)) (now (ledger .entry)) (now (map .entry))) (now (input .entry)) .laid .ledger ⌝ }
+    ensures { λ _. ⌜ now (map .exit) ≡ readOn (laidOf desk (now (room .entry)) (now (ledger .entry)) (now (map .entry))) (now (input .entry)) .laid .map ⌝ }
+{
+    let opening = desk.opening;
+    let size = opening.cycle;
+    if room.len() < size {
+        return stopped(desk, Outcome::Refused(1));
+    }
+    let before = desk.reading;
+    let x = read_all(before, input, &room[..size], &mut *ledger, &mut *map);
+    let reading = x.reading;
+    let last = x.last;
+    Fed {
+        outcome: outcome_of(last),
+        used: x.used,
+        desk: Desk {
+            started: desk.started,
+            opening,
+            reading,
+            fields: desk.fields + x.fields as u64,
+        },
+    }
+}
+
+// All whole fields of the input: until the start by `open`, after it by one `read_all` on the rest.
+pub fn feed(desk: Desk, input: &[u8], room: &mut [u8], ledger: &mut [i64], map: &mut [u64]) -> Fed
+    ensures { λ r. ⌜ r ≡ fedOf (feedOf (laidOf desk (now (room .entry)) (now (ledger .entry)) (now (map .entry))) (now (input .entry))) ⌝ }
+    ensures { λ _. ⌜ now (room .exit) ≡ feedOf (laidOf desk (now (room .entry)) (now (ledger .entry)) (now (map .entry))) (now (input .entry)) .laid .room ⌝ }
+    ensures { λ _. ⌜ now (ledger .exit) ≡ feedOf (laidOf desk (now (room .entry)) (now (ledger .entry)) (now (map .entry))) (now (input .entry)) .laid .ledger ⌝ }
+    ensures { λ _. ⌜ now (map .exit) ≡ feedOf (laidOf desk (now (room .entry)) (now (ledger .entry)) (now (map .entry))) (now (input .entry)) .laid .map ⌝ }
+{
+    if 8_000_008 < desk.fields {
+        return stopped(desk, Outcome::Refused(1));
+    }
+    let x = open_all(desk, input, &mut *room, &mut *ledger, &mut *map);
+    let on = x.desk;
+    if !on.started {
+        return x;
+    }
+    let used = x.used;
+    let y = read_on(on, &input[used..], &room[..], &mut *ledger, &mut *map);
+    let outcome = y.outcome;
+    let desk = y.desk;
+    Fed {
+        outcome,
+        used: used + y.used,
+        desk,
+    }
+}

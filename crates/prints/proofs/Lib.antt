@@ -1,0 +1,2 @@
+-- What the report prints of a desk.
+pub mod Texts

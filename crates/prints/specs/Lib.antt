@@ -1,0 +1,2 @@
+-- What the report prints.
+pub mod Printed

@@ -1,0 +1,53 @@
+-- What the report prints: of a desk, and of a record by the rules alone.
+-- Assumes nothing.
+use mathlib.Core.Bool.{cond}
+use mathlib.Core.List.{List}
+use Prim.Native.Nat.{ℕ, _+_}
+use lib.Dec.{leb, ltb, eqb}
+use lib.ListN.{length, take}
+use Rattle.judge.specs.Answers.{settled}
+use Rattle.reader.specs.declared.Ending.{Ending}
+use Rattle.reader.specs.declared.Ending.the-variants as ending
+use Rattle.reader.specs.Answers.{endingOf}
+use Rattle.reader.specs.Records.{Sheet, told, refused}
+use Rattle.sheet.specs.Text.{sheetText, refusalText}
+use Rattle.figures.specs.declared.Found.{Found}
+use Rattle.figures.specs.Figured.{foundOf, figuresBy}
+use Rattle.desk.specs.Feeding.{Laid}
+
+-- ---- of a desk
+
+-- "K is the number of accepted fields, passed-over ones among them, plus one": as far as 64 bits go
+abbrev pub nextField : ℕ → ℕ
+nextField fields = cond (ltb fields 18_446_744_073_709_551_615) (fields + 1) fields
+
+-- "A refused field gives only `refused N field K`"
+abbrev pub refuseText : Laid → ℕ → List ℕ
+refuseText x number = refusalText number (nextField (x .desk .fields))
+
+-- the figures of the run on the desk
+abbrev pub foundOn : Laid → Found
+foundOn x =
+    let r = x .desk .reading in
+    foundOf (r .vehicle) (r .passed) (r .amounts) (r .run) (take (x .desk .opening .cycle) (x .room)) (x .ledger) (x .map)
+
+abbrev pub foundText : Laid → Found → List ℕ
+foundText x f = settled (f .refusal) (sheetText (f .figures)) (refuseText x (f .refusal))
+
+-- a record that was read to its end; a cycle longer than the room is a state out of bounds
+unfoldable pub runText : Laid → List ℕ
+runText x = cond (leb (x .desk .opening .cycle) (length (x .room))) (foundText x (foundOn x)) (refuseText x 1)
+
+abbrev pub textBy : Ending → Laid → List ℕ
+textBy ending.Whole x = runText x
+textBy (ending.Refused number) x = refuseText x number
+
+-- where the input ends, with so many bytes of an unfinished field left over
+unfoldable pub closeText : Laid → ℕ → List ℕ
+closeText x left = textBy (endingOf (x .desk .started) left) x
+
+-- ---- of a record, by the rules alone
+
+abbrev pub printed : Sheet → List ℕ
+printed (told x) = sheetText (figuresBy (x .vehicle) (x .tale .passed) (x .tale .amounts) (x .cycle) (x .tolerances) (x .tale .run))
+printed (refused number field) = refusalText number field
