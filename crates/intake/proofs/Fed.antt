@@ -1,0 +1,51 @@
+-- Laws of a turn: what the desk took stands in the input, and what is moved to the front was not overwritten before.
+-- Assumes nothing.
+use mathlib.Core.Bool.{Bool, true, false, cond}
+use mathlib.Core.List.{List}
+use mathlib.Core.Path.{_≡_, refl, sym, ap, _∙_}
+use Prim.Native.Nat.{ℕ, suc, _+_, _≤_, _<_, zero-le}
+use native.Mathlib.Nat.{zero-add, add-comm}
+use native.Mathlib.Numerals.{add-one}
+use native.Mathlib.Omega.{arith}
+use lib.Dec.{leb}
+use lib.ListN.{length, getD, set, drop, length-drop}
+use lib.Seq.{paste, paste-suc, drop-paste, getD-drop}
+use Rattle.numbers.specs.Tests.{unless}
+use Rattle.desk.specs.declared.Outcome.the-variants.{Refused as refused}
+use Rattle.desk.specs.Feeding.{Laid, Taken, stops, openUpto, readOn, thenRead, mostFields, feedOf}
+use Rattle.desk.proofs.Turns.{upto-within, read-room}
+
+pub feed-used : (x : Laid) (i : List ℕ) → feedOf x i .used ≤ length i
+unfolding feedOf unless
+feed-used x i = go (leb (x .desk .fields) mostFields)
+  where
+    y : Taken
+    y = openUpto 4 x i
+
+    fed : (t : Bool) → cond t (record { laid = readOn (y .laid) (drop (y .used) i) .laid; used = y .used + readOn (y .laid) (drop (y .used) i) .used; outcome = readOn (y .laid) (drop (y .used) i) .outcome }) y .used ≤ length i
+    fed true = omega (arith, upto-within 4 x i .used, read-room (y .laid) (drop (y .used) i) .1, length-drop (y .used) i)
+    fed false = upto-within 4 x i .used
+
+    go : (t : Bool) → unless (stops x (refused 1)) t (thenRead y i) .used ≤ length i
+    go true = fed (y .laid .desk .started)
+    go false = zero-le
+
+-- the bytes from place `from` on are copied to the front, k of them so far: the next one is still as it was
+pub moved : (d : List ℕ) (from k : ℕ) → k ≤ length d → k ≤ length (drop from d) → getD (paste d 0 (drop from d) k) (from + k) 0 ≡ getD (drop from d) k 0
+moved d from k h g =
+    ap (λ (j : ℕ). getD (paste d 0 (drop from d) k) j 0) (add-comm from k)
+    ∙ sym (getD-drop k (paste d 0 (drop from d) k) from 0)
+    ∙ ap (λ (l : List ℕ). getD l from 0) (ap (λ (j : ℕ). drop j (paste d 0 (drop from d) k)) (sym (zero-add k)) ∙ drop-paste d 0 (drop from d) k zero-le g)
+    ∙ ap (λ (j : ℕ). getD (drop j d) from 0) (zero-add k)
+    ∙ getD-drop k d from 0
+    ∙ ap (λ (j : ℕ). getD d j 0) (add-comm k from)
+    ∙ sym (getD-drop from d k 0)
+
+pub moved-more : (d : List ℕ) (from k : ℕ) → k < length d → k < length (drop from d)
+    → set (paste d 0 (drop from d) k) k (getD (paste d 0 (drop from d) k) (from + k) 0) ≡ paste d 0 (drop from d) (k + 1)
+moved-more d from k h g =
+    let p = paste d 0 (drop from d) k in
+    ap (set p k) (moved d from k (omega arith) (omega arith))
+    ∙ ap (λ (j : ℕ). set p j (getD (drop from d) k 0)) (sym (zero-add k))
+    ∙ paste-suc d 0 (drop from d) k 0 (omega arith) g
+    ∙ ap (paste d 0 (drop from d)) (sym (add-one k))

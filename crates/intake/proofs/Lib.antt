@@ -1,0 +1,2 @@
+-- Laws of a turn of reading.
+pub mod Fed

@@ -1,0 +1,86 @@
+-- `intake::digest` meets its contract: what the desk took stands in the bytes lent, and the rest is moved.
+-- Assumes nothing.
+use mathlib.Core.Path.{sym, ap}
+use native.Mathlib.Omega.{arith}
+use lib.ListN.{take}
+use lib.Seq.{length-take-le}
+use Rattle.desk.specs.declared.Fed.{Fed}
+use Rattle.desk.specs.Feeding.{laidOf}
+use Rattle.intake.proofs.Fed.{feed-used}
+use borrow.Author.Needs.{needs}
+use Rattle.intake.proofs.digest.Statement.{statement}
+use Rattle.intake.proofs.digest.Tie as tie
+
+slice-reshare-prefix-feed : tie.Need-slice-reshare-prefix-feed
+slice-reshare-prefix-feed c = search needs
+
+slice-aggregate-feed : tie.Need-slice-aggregate-feed
+slice-aggregate-feed c = let s = c .before .before .before .before in sym (length-take-le (s .args .upto) (s .args .buffer .now) (s .pre))
+
+feed-requires : tie.Need-feed-requires
+feed-requires c κs = search needs
+
+enum-known-outcome : tie.Need-enum-known-outcome
+enum-known-outcome c = search needs
+
+enum-told : tie.Need-enum-told
+enum-told c = search needs
+
+to-front-requires : tie.Need-to-front-requires
+to-front-requires c κs =
+    let fed = c .before .before .before .before .before .before .before .before .before in
+    let s = fed .before .before .before .before .before .before .before .before in
+    let used = ap (λ (x : Fed). x .used) (fed .feed .ensures .0) in
+    let most = feed-used (laidOf (s .args .desk) (s .args .room .now) (s .args .ledger .now) (s .args .map .now)) (take (s .args .upto) (s .args .buffer .now)) in
+    (omega (arith, used, most, length-take-le (s .args .upto) (s .args .buffer .now) (s .pre)), s .pre)
+
+same-length : tie.Need-same-length
+same-length c = search needs
+
+same-length-2 : tie.Need-same-length-2
+same-length-2 c = search needs
+
+same-length-3 : tie.Need-same-length-3
+same-length-3 c = search needs
+
+same-length-4 : tie.Need-same-length-4
+same-length-4 c = search needs
+
+returns : tie.Need-returns
+returns c = search needs
+
+same-length-5 : tie.Need-same-length-5
+same-length-5 c = search needs
+
+same-length-6 : tie.Need-same-length-6
+same-length-6 c = search needs
+
+same-length-7 : tie.Need-same-length-7
+same-length-7 c = search needs
+
+same-length-8 : tie.Need-same-length-8
+same-length-8 c = search needs
+
+returns-2 : tie.Need-returns-2
+returns-2 c = search needs
+
+pub digest-spec : {M : Type 1} → statement M
+digest-spec =
+    tie.close
+    (tie.spec
+    slice-reshare-prefix-feed
+    slice-aggregate-feed
+    feed-requires
+    enum-known-outcome
+    enum-told
+    to-front-requires
+    same-length
+    same-length-2
+    same-length-3
+    same-length-4
+    returns
+    same-length-5
+    same-length-6
+    same-length-7
+    same-length-8
+    returns-2)

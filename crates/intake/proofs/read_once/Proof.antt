@@ -1,0 +1,136 @@
+-- `intake::read_once` meets its contract: what is read stands in the buffer and belongs to the record.
+-- Assumes nothing.
+use mathlib.Core.Bool.{false≢true}
+use mathlib.Core.Path.{_≡_, sym, ap, subst, _∙_}
+use Prim.Native.Nat.{ℕ, _+_, _-_, _≤_}
+use native.Mathlib.Omega.{arith}
+use lib.ListN.{length, take, drop, length-take}
+use Rattle.intake.specs.Turns.{Within}
+use borrow.Author.Needs.{needs}
+use Rattle.intake.proofs.read_once.Statement.{statement}
+use Rattle.intake.proofs.read_once.Tie as tie
+
+sub-space : tie.Need-sub-space
+sub-space c = search needs
+
+at-most-requires : tie.Need-at-most-requires
+at-most-requires c κs = search needs
+
+add-end : tie.Need-add-end
+add-end c = search needs
+
+sub-fill : tie.Need-sub-fill
+sub-fill c = search needs
+
+part-fill-start : tie.Need-part-fill-start
+part-fill-start c = search needs
+
+part-fill-end : tie.Need-part-fill-end
+part-fill-end c = search needs
+
+fill-requires : tie.Need-fill-requires
+fill-requires c κs = search needs
+
+enum-known-got : tie.Need-enum-known-got
+enum-known-got c = search needs
+
+-- so many bytes were read: as many as the part has at most
+abbrev answer : tie.After-got → tie.After-fill
+answer c = c .before .before .before .before
+
+abbrev entry : tie.After-got → tie.Start
+entry c = answer c .before .before .before .before .before .before
+
+came : (c : tie.After-got) → (1 ≤ c .got .given .0 .0) × (c .got .given .0 .0 ≤ answer c .before .before .at-most .result)
+came c =
+    let s = entry c in
+    let n = answer c .before .before .at-most .result in
+    let h = subst (Within _) (c .got .given .1) (answer c .fill .ensures) in
+    let size : s .args .held + n - s .args .held ≡ n = omega arith in
+    let few = answer c .before .before .at-most .ensures .0 in
+    (h .0, omega (arith, h .1, size, length-take (s .args .held + n - s .args .held) (drop (s .args .held) (s .args .buffer .now))))
+
+-- they end within the buffer, and within the record
+within : (c : tie.After-got) → (entry c .args .held + c .got .given .0 .0 ≤ length (entry c .args .buffer .now)) × (c .got .given .0 .0 ≤ entry c .args .left)
+within c =
+    let s = entry c in
+    let most = answer c .before .before .at-most .ensures in
+    (omega (arith, came c, most .0, s .pre), omega (arith, came c, most .1))
+
+add-digest : tie.Need-add-digest
+add-digest c = omega (arith, within (c .before .before), entry (c .before .before) .good .1 .1 .1 .1 .0 .0)
+
+sub-digest : tie.Need-sub-digest
+sub-digest c = within (c .before .before) .1
+
+digest-requires : tie.Need-digest-requires
+digest-requires c κs =
+    let known = c .before .before .before .before .before in
+    omega (arith, within known, answer known .before .before .at-most .ensures, known .before .before .before .buffer .given .1)
+
+enum-told : tie.Need-enum-told
+enum-told c = search needs
+
+enum-told-2 : tie.Need-enum-told-2
+enum-told-2 c = search needs
+
+same-length : tie.Need-same-length
+same-length c = search needs
+
+same-length-2 : tie.Need-same-length-2
+same-length-2 c = search needs
+
+same-length-3 : tie.Need-same-length-3
+same-length-3 c = search needs
+
+same-length-4 : tie.Need-same-length-4
+same-length-4 c = search needs
+
+returns : tie.Need-returns
+returns c =
+    let taken = c .before .before .before .before .before .before .before in
+    let known = taken .before .before .before .before .before .before in
+    let e = taken .digest .ensures in
+    record {
+      held = omega (arith, within known, e .0);
+      falls = λ _. omega (arith, came known, within known, e .1);
+    }
+
+same-length-5 : tie.Need-same-length-5
+same-length-5 c = search needs
+
+returns-2 : tie.Need-returns-2
+returns-2 c = record { held = c .before .before .before .before .before .before .before .before .before .before .pre; falls = λ e. absurd (false≢true e) }
+
+same-length-6 : tie.Need-same-length-6
+same-length-6 c = search needs
+
+returns-3 : tie.Need-returns-3
+returns-3 c = record { held = c .before .before .before .before .before .before .before .before .before .before .pre; falls = λ e. absurd (false≢true e) }
+
+pub read-once-spec : {M : Type 1} → statement M
+read-once-spec =
+    tie.close
+    (tie.spec
+    sub-space
+    at-most-requires
+    add-end
+    sub-fill
+    part-fill-start
+    part-fill-end
+    fill-requires
+    enum-known-got
+    add-digest
+    sub-digest
+    digest-requires
+    enum-told
+    enum-told-2
+    same-length
+    same-length-2
+    same-length-3
+    same-length-4
+    returns
+    same-length-5
+    returns-2
+    same-length-6
+    returns-3)

@@ -1,0 +1,103 @@
+-- `intake::read_through` is safe and ends: each turn that goes on leaves fewer bytes of the record to read.
+-- Assumes nothing.
+use mathlib.Core.Path.{_≡_, refl, sym, _∙_}
+use Prim.Native.Nat.{_≤_, zero-le}
+use native.Mathlib.Omega.{arith}
+use borrow.Author.Needs.{needs}
+use borrow.Author.Tests.{not-false}
+use lib.ListN.{length}
+use Rattle.intake.proofs.read_through.Statement.{statement}
+use Rattle.intake.proofs.read_through.Tie as tie
+
+abbrev Inv-loop : tie.InvT-loop
+Inv-loop fd most buffer₀ room₀ ledger₀ map₀ desk₀ held₀ left₀ buffer room ledger map desk held left =
+    (held ≤ length buffer₀)
+    × ((length buffer ≡ length buffer₀) × ((length room ≡ length room₀) × ((length ledger ≡ length ledger₀) × (length map ≡ length map₀))))
+
+abbrev μ-loop : tie.MeasureT-loop
+μ-loop fd most buffer₀ room₀ ledger₀ map₀ desk₀ held₀ left₀ buffer room ledger map desk held left = left
+
+-- the turn, and the loop's place before it
+abbrev turn : tie.After-goes-on Inv-loop μ-loop → tie.After-read-once Inv-loop μ-loop
+turn c = c .before .before .before .before .before .before .before .before
+
+abbrev place : tie.After-goes-on Inv-loop μ-loop → tie.At-loop Inv-loop μ-loop
+place c = turn c .before .before .before .before .before .before
+
+empty-requires : tie.Need-empty-requires Inv-loop μ-loop
+empty-requires c κs = search needs
+
+loop-holds : tie.Need-loop-holds Inv-loop μ-loop
+loop-holds c = (zero-le, (refl, (refl, (refl, refl))))
+
+read-once-requires : tie.Need-read-once-requires Inv-loop μ-loop
+read-once-requires c κs = let at = c .before .before .before .before .before in omega (arith, at .loop .inv .0, at .loop .inv .1 .0)
+
+goes-on-requires : tie.Need-goes-on-requires Inv-loop μ-loop
+goes-on-requires c κs = search needs
+
+same-length : tie.Need-same-length Inv-loop μ-loop
+same-length c = turn (c .before) .read-once .kept .1 .1 .1 .1 .0 ∙ place (c .before) .loop .inv .1 .0
+
+same-length-2 : tie.Need-same-length-2 Inv-loop μ-loop
+same-length-2 c = turn (c .before) .read-once .kept .1 .1 .1 .1 .1 .0 ∙ place (c .before) .loop .inv .1 .1 .0
+
+same-length-3 : tie.Need-same-length-3 Inv-loop μ-loop
+same-length-3 c = turn (c .before) .read-once .kept .1 .1 .1 .1 .1 .1 .0 ∙ place (c .before) .loop .inv .1 .1 .1 .0
+
+same-length-4 : tie.Need-same-length-4 Inv-loop μ-loop
+same-length-4 c = turn (c .before) .read-once .kept .1 .1 .1 .1 .1 .1 .1 .0 ∙ place (c .before) .loop .inv .1 .1 .1 .1
+
+returns : tie.Need-returns Inv-loop μ-loop
+returns c = search needs
+
+loop-less : tie.Need-loop-less Inv-loop μ-loop
+loop-less c =
+    let f = c .before .before in
+    turn f .read-once .ensures .falls (sym (f .goes-on .ensures) ∙ not-false _ (c .before .if1 .left))
+
+loop-again : tie.Need-loop-again Inv-loop μ-loop
+loop-again c =
+    let f = c .before .before in
+    let k = turn f .read-once .kept .1 .1 .1 .1 in
+    let i = place f .loop .inv in
+    let held = turn f .read-once .ensures .held in
+    (omega (arith, held, i .1 .0), (k .0 ∙ i .1 .0, (k .1 .0 ∙ i .1 .1 .0, (k .1 .1 .0 ∙ i .1 .1 .1 .0, k .1 .1 .1 .0 ∙ i .1 .1 .1 .1))))
+
+same-length-5 : tie.Need-same-length-5 Inv-loop μ-loop
+same-length-5 c = c .before .loop .inv .1 .0
+
+same-length-6 : tie.Need-same-length-6 Inv-loop μ-loop
+same-length-6 c = c .before .loop .inv .1 .1 .0
+
+same-length-7 : tie.Need-same-length-7 Inv-loop μ-loop
+same-length-7 c = c .before .loop .inv .1 .1 .1 .0
+
+same-length-8 : tie.Need-same-length-8 Inv-loop μ-loop
+same-length-8 c = c .before .loop .inv .1 .1 .1 .1
+
+returns-2 : tie.Need-returns-2 Inv-loop μ-loop
+returns-2 c = search needs
+
+pub read-through-spec : {M : Type 1} → statement M
+read-through-spec =
+    tie.close
+    (tie.spec
+    Inv-loop
+    μ-loop
+    empty-requires
+    loop-holds
+    read-once-requires
+    goes-on-requires
+    same-length
+    same-length-2
+    same-length-3
+    same-length-4
+    returns
+    loop-less
+    loop-again
+    same-length-5
+    same-length-6
+    same-length-7
+    same-length-8
+    returns-2)

@@ -1,0 +1,2 @@
+-- What a turn of reading leaves.
+pub mod Turns

@@ -1,0 +1,266 @@
+// A record from an open file, through the field buffer: what is read goes to the desk, and what is left of it waits at the front for more.
+use desk::Desk;
+use desk::Outcome;
+use desk::empty;
+use desk::feed;
+use prints::close;
+use prints::refuse;
+ghost use mathlib.Core.Path.{_≡_};
+ghost use Prim.Native.Nat.{_+_, _-_, _≤_, _<_};
+ghost use lib.ListN.{length, drop};
+ghost use lib.Seq.{paste};
+ghost use Rattle.intake.specs.Turns.{Within, isOn, Goes};
+
+// What became of a turn: bytes were taken, the input ended, reading failed, or a field was refused.
+pub enum Turned {
+    On,
+    Ended,
+    Failed,
+    Refused(u32),
+}
+
+// What one reading gave: so many bytes, the end of the input, or a fault.
+pub enum Got {
+    Bytes(usize),
+    End,
+    Failed,
+}
+
+// The desk, how many bytes of an unfinished field stand at the front of the buffer, and how many bytes of the record are still to be read.
+pub struct Turn {
+    pub turned: Turned,
+    pub desk: Desk,
+    pub held: usize,
+    pub left: u64,
+}
+
+// How many bytes of the lines to print, how many of the record were not read, and whether reading failed.
+pub struct Intake {
+    pub printed: usize,
+    pub left: u64,
+    pub failed: bool,
+}
+
+// The smaller of the two.
+fn at_most(space: usize, left: u64) -> usize
+    ensures { λ r. ⌜ (r ≤ space) × (r ≤ left) ⌝ }
+{
+    if left < space as u64 {
+        return left as usize;
+    }
+    space
+}
+
+// The bytes from place `from` up to place `upto` move to the front: how many they are.
+fn to_front(buffer: &mut [u8], from: usize, upto: usize) -> usize
+    requires { ⌜ (from ≤ upto) × (upto ≤ length (now buffer)) ⌝ }
+    ensures { λ r. ⌜ r ≡ upto - from ⌝ }
+    ensures { λ _. ⌜ now (buffer .exit) ≡ paste (now (buffer .entry)) 0 (drop from (now (buffer .entry))) (upto - from) ⌝ }
+{
+    let n = upto - from;
+    let mut k = 0;
+    while k < n {
+        buffer[k] = buffer[from + k];
+        k += 1;
+    }
+    n
+}
+
+// The whole fields of the first `upto` bytes go to the desk; the rest moves to the front.
+fn digest(
+    desk: Desk,
+    buffer: &mut [u8],
+    upto: usize,
+    left: u64,
+    room: &mut [u8],
+    ledger: &mut [i64],
+    map: &mut [u64],
+) -> Turn
+    requires { ⌜ upto ≤ length (now buffer) ⌝ }
+    ensures { λ r. ⌜ (r .held ≤ upto) × (r .left ≡ left) ⌝ }
+{
+    let x = feed(desk, &buffer[..upto], &mut *room, &mut *ledger, &mut *map);
+    let on = x.desk;
+    let used = x.used;
+    let outcome = x.outcome;
+    match outcome {
+        Outcome::Refused(number) => Turn {
+            turned: Turned::Refused(number),
+            desk: on,
+            held: 0,
+            left,
+        },
+        Outcome::More => Turn {
+            turned: Turned::On,
+            desk: on,
+            held: to_front(&mut *buffer, used, upto),
+            left,
+        },
+    }
+}
+
+// Reads once.
+fn fill(fd: i32, part: &mut [u8]) -> Got
+    ensures { λ r. ⌜ Within (length (now (part .entry))) r ⌝ }
+{
+    let got = libc::read(fd, &mut *part);
+    if got < 0 {
+        return Got::Failed;
+    }
+    let n = io::count(got, &part[..]);
+    if n == 0 {
+        return Got::End;
+    }
+    Got::Bytes(n)
+}
+
+// Reads once behind the bytes held, as far as the buffer and the record go, and digests what came.
+fn read_once(
+    fd: i32,
+    desk: Desk,
+    held: usize,
+    left: u64,
+    buffer: &mut [u8],
+    room: &mut [u8],
+    ledger: &mut [i64],
+    map: &mut [u64],
+) -> Turn
+    requires { ⌜ held ≤ length (now buffer) ⌝ }
+    ensures { λ r. ⌜ Goes (length (now (buffer .entry))) left r ⌝ }
+{
+    let space = buffer.len() - held;
+    let end = held + at_most(space, left);
+    let got = fill(fd, &mut buffer[held..end]);
+    match got {
+        Got::Bytes(n) => digest(
+            desk,
+            &mut *buffer,
+            held + n,
+            left - n as u64,
+            &mut *room,
+            &mut *ledger,
+            &mut *map,
+        ),
+        Got::End => Turn {
+            turned: Turned::Ended,
+            desk,
+            held,
+            left,
+        },
+        Got::Failed => Turn {
+            turned: Turned::Failed,
+            desk,
+            held,
+            left,
+        },
+    }
+}
+
+// Whether another turn follows.
+fn goes_on(turned: Turned) -> bool
+    ensures { λ r. ⌜ r ≡ isOn turned ⌝ }
+{
+    match turned {
+        Turned::On => true,
+        Turned::Ended => false,
+        Turned::Failed => false,
+        Turned::Refused(_) => false,
+    }
+}
+
+// Turn after turn, to the end of a record of at most so many bytes.
+fn read_through(
+    fd: i32,
+    most: u64,
+    buffer: &mut [u8],
+    room: &mut [u8],
+    ledger: &mut [i64],
+    map: &mut [u64],
+) -> Turn {
+    let mut desk = empty();
+    let mut held = 0;
+    let mut left = most;
+    while left > 0 {
+        let t = read_once(
+            fd,
+            desk,
+            held,
+            left,
+            &mut *buffer,
+            &mut *room,
+            &mut *ledger,
+            &mut *map,
+        );
+        let turned = t.turned;
+        if !goes_on(turned) {
+            return t;
+        }
+        desk = t.desk;
+        held = t.held;
+        left = t.left;
+    }
+    Turn {
+        turned: Turned::Ended,
+        desk,
+        held,
+        left: 0,
+    }
+}
+
+// A record of at most so many bytes: what is printed of it stands in the lines.
+pub fn take_record(
+    fd: i32,
+    most: u64,
+    buffer: &mut [u8],
+    room: &mut [u8],
+    ledger: &mut [i64],
+    map: &mut [u64],
+    lines: &mut [u8],
+) -> Intake {
+    let t = read_through(fd, most, &mut *buffer, &mut *room, &mut *ledger, &mut *map);
+    let desk = t.desk;
+    let turned = t.turned;
+    match turned {
+        Turned::Failed => Intake {
+            printed: 0,
+            left: 0,
+            failed: true,
+        },
+        Turned::Refused(number) => Intake {
+            printed: refuse(desk, number, &mut *lines),
+            left: t.left,
+            failed: false,
+        },
+        Turned::On => Intake {
+            printed: close(desk, t.held, &room[..], &ledger[..], &map[..], &mut *lines),
+            left: 0,
+            failed: false,
+        },
+        Turned::Ended => Intake {
+            printed: close(desk, t.held, &room[..], &ledger[..], &map[..], &mut *lines),
+            left: 0,
+            failed: false,
+        },
+    }
+}
+
+// The bytes of a record that are not looked at.
+pub fn skip(fd: i32, most: u64, buffer: &mut [u8]) {
+    let mut left = most;
+    while left > 0 {
+        let end = at_most(buffer.len(), left);
+        let got = fill(fd, &mut buffer[..end]);
+        let Got::Bytes(n) = got else {
+            return;
+        };
+        left -= n as u64;
+    }
+}
+
+// The first bytes of the lines, so many of them, go out.
+pub fn print(fd: i32, lines: &[u8], n: usize) -> bool {
+    if lines.len() < n {
+        return false;
+    }
+    io::write_all(fd, &lines[..n])
+}

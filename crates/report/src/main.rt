@@ -1,0 +1,28 @@
+// The report: a record from standard input, its sheet to standard output.
+use intake::print;
+use intake::take_record;
+use libc::STDERR_FILENO;
+use libc::STDIN_FILENO;
+use libc::STDOUT_FILENO;
+
+fn main() {
+    let mut buffer = [0u8; 4864];
+    let mut room = [0u8; 4811];
+    let mut ledger = [0i64; 576];
+    let mut map = [0u64; 750];
+    let mut lines = [0u8; 512];
+    let x = take_record(
+        STDIN_FILENO,
+        18_446_744_073_709_551_615,
+        &mut buffer[..],
+        &mut room[..],
+        &mut ledger[..],
+        &mut map[..],
+        &mut lines[..],
+    );
+    if x.failed {
+        io::write_all(STDERR_FILENO, b"report: the input could not be read\n");
+        return;
+    }
+    print(STDOUT_FILENO, &lines[..], x.printed);
+}
