@@ -1,2 +1,3 @@
--- What the report prints of a desk.
+-- What the report prints of a desk, and of a record.
 pub mod Texts
+pub mod Printing

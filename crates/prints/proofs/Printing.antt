@@ -1,0 +1,92 @@
+-- What the report prints is what the rules say of the record, however its bytes arrive.
+-- Assumes nothing.
+use mathlib.Core.Bool.{Bool, true, false, _&&_, false≢true}
+use mathlib.Core.List.{List, _++_}
+use mathlib.Core.Path.{_≡_, refl, sym, ap, subst, _∙_}
+use Prim.Native.Nat.{ℕ, suc, _+_, _≤_}
+use native.Mathlib.Numerals.{add-one}
+use native.Mathlib.Omega.{arith}
+use borrow.Author.Tests.{lt-ltb, le-leb}
+use lib.Dec.{leb}
+use lib.IntN.{ℤ}
+use lib.ListN.{length}
+use Rattle.numbers.specs.Tests.{unless}
+use Rattle.numbers.proofs.Tests.{both, not-refused}
+use Rattle.rules.specs.Bench.{mostPassed}
+use Rattle.rules.specs.Closing.{areAmounts}
+use Rattle.fields.specs.Values.{isNumber}
+use Rattle.judge.specs.declared.Run.{Run}
+use Rattle.reader.specs.declared.Ending.{Ending}
+use Rattle.reader.specs.declared.Ending.the-variants as ending
+use Rattle.reader.specs.declared.Reading.{Reading}
+use Rattle.reader.specs.Answers.{isReading, readGround, endingOf}
+use Rattle.reader.specs.Records.{sheetOf}
+use Rattle.reader.proofs.Calls.{Lent}
+use Rattle.reader.proofs.Records.{Handed}
+use Rattle.sheet.specs.Text.{sheetText, refusalText}
+use Rattle.figures.specs.declared.Found.{Found}
+use Rattle.figures.specs.Figured.{foundOf, figuresBy}
+use Rattle.figures.proofs.OfRun.{figures-of-run}
+use Rattle.desk.specs.declared.Outcome.the-variants.{Refused}
+use Rattle.desk.specs.Feeding.{Laid, cycleOf, feedOf, mostFields}
+use Rattle.desk.proofs.Feeds.{Stands, opens, reads, stands-few, stands-on}
+use Rattle.desk.proofs.Arriving.{Arrived, arrived-refused}
+use Rattle.prints.specs.Printed.{nextField, refuseText, foundOn, foundText, runText, textBy, closeText, printed}
+
+-- the number of the next field, of which there are not too many
+next : (n : ℕ) → n ≤ mostFields → nextField n ≡ suc n
+next n h = rw (lt-ltb n 18_446_744_073_709_551_615 (omega arith)) (add-one n)
+
+amounts-tested : (r : Reading) → isReading r ≡ true → areAmounts (r .amounts) ≡ true
+unfolding isReading
+amounts-tested r e =
+    let place = leb (r .place) 4 in
+    let passed = leb (r .passed) mostPassed in
+    both (place && passed) (areAmounts (r .amounts)) (both (place && passed && areAmounts (r .amounts)) (isNumber (r .vehicle)) e .0) .1
+
+amounts-in-limits : (r : Reading) (b : List ℕ) (l : List ℤ) (m : List ℕ) → readGround r b l m ≡ 0 → areAmounts (r .amounts) ≡ true
+unfolding readGround
+amounts-in-limits r b l m e = amounts-tested r (not-refused 0 _ _ e .0)
+
+-- the input may end only after the start
+started-whole : (s : Bool) (n : ℕ) → endingOf s n ≡ ending.Whole → s ≡ true
+unfolding endingOf unless
+started-whole true n e = refl
+started-whole false n e = absurd (false≢true cc)
+
+module _ (lent : Lent) where
+  -- a started desk has room for its cycle
+  cycle-fits : {p : List ℕ} {x : Laid} → Stands lent p x → x .desk .started ≡ true → x .desk .opening .cycle ≤ length (x .room)
+  cycle-fits (opens e u n) s = absurd (false≢true (sym e ∙ s))
+  cycle-fits (reads e h n) s = h
+
+  module _ {w rest : List ℕ} {x : Laid} (h : Arrived lent w x rest) where
+    refusal-printed : (k : ℕ) → endingOf (x .desk .started) (length rest) ≡ ending.Refused k → refuseText x k ≡ printed (sheetOf w)
+    refusal-printed k e =
+        ap (refusalText k) (next (x .desk .fields) (stands-few lent (h .stands))) ∙ ap printed (sym (h .ends-refused k e))
+
+    sheet-printed : endingOf (x .desk .started) (length rest) ≡ ending.Whole → x .desk .started ≡ true → runText x ≡ printed (sheetOf w)
+    unfolding runText
+    sheet-printed e s =
+        let y = h .ends-whole e in
+        let r = x .desk .reading in
+        let found : foundOn x ≡ record { refusal = 0; figures = figuresBy (r .vehicle) (r .passed) (r .amounts) (cycleOf x) (r .run .tolerances) (y .samples) } =
+        figures-of-run (cycleOf x) (r .run .tolerances) (lent .l₀) (lent .m₀) (y .reached) (r .vehicle) (r .passed) (r .amounts)
+            (amounts-in-limits r (cycleOf x) (x .ledger) (x .map) (y .ground)) in
+        rw (le-leb (x .desk .opening .cycle) (length (x .room)) (cycle-fits (h .stands) s)) (ap (foundText x) found ∙ ap printed (sym (y .tells)))
+
+    -- "Every figure equals the rules of document 01": where the input ends, the bytes printed are those that the rules give for the bytes read
+    pub report-prints : closeText x (length rest) ≡ printed (sheetOf w)
+    unfolding closeText
+    report-prints = go (endingOf (x .desk .started) (length rest)) refl
+      where
+        go : (y : Ending) → endingOf (x .desk .started) (length rest) ≡ y → textBy y x ≡ printed (sheetOf w)
+        go ending.Whole e = sheet-printed e (started-whole (x .desk .started) (length rest) e)
+        go (ending.Refused k) e = refusal-printed k e
+
+    -- and where a field is refused, whatever would follow it
+    pub refusal-prints : (new : List ℕ) (k : ℕ) → feedOf x (rest ++ new) .outcome ≡ Refused k → (q : List ℕ)
+        → refuseText (feedOf x (rest ++ new) .laid) k ≡ printed (sheetOf ((w ++ new) ++ q))
+    refusal-prints new k e q =
+        ap (refusalText k) (next (feedOf x (rest ++ new) .laid .desk .fields) (stands-few lent (stands-on lent (h .stands) (rest ++ new))))
+        ∙ ap printed (sym (arrived-refused lent h new k e q))
