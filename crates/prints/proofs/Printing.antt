@@ -72,7 +72,7 @@ module _ (lent : Lent) where
         let r = x .desk .reading in
         let found : foundOn x ≡ record { refusal = 0; figures = figuresBy (r .vehicle) (r .passed) (r .amounts) (cycleOf x) (r .run .tolerances) (y .samples) } =
         figures-of-run (cycleOf x) (r .run .tolerances) (lent .l₀) (lent .m₀) (y .reached) (r .vehicle) (r .passed) (r .amounts)
-            (amounts-in-limits r (cycleOf x) (x .ledger) (x .map) (y .ground)) in
+        (amounts-in-limits r (cycleOf x) (x .ledger) (x .map) (y .ground)) in
         rw (le-leb (x .desk .opening .cycle) (length (x .room)) (cycle-fits (h .stands) s)) (ap (foundText x) found ∙ ap printed (sym (y .tells)))
 
     -- "Every figure equals the rules of document 01": where the input ends, the bytes printed are those that the rules give for the bytes read

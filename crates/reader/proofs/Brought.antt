@@ -53,7 +53,7 @@ module _ (me : List ℕ) (passed offered tag : ℕ) (v : List ℕ) where
       tested 4 (isNumber v) _ λ number.
       chosen (sameNumber me v) _ _
       (λ same.
-      tested 6 (eqb (firstIn v) offered) _ λ first.
+      tested _ (eqb (firstIn v) offered) _ λ first.
       tested 7 (leb (offered + samplesIn (samplesOf v)) mostOffered) _ λ room.
       tested 5 (areSamples (samplesOf v) (samplesIn (samplesOf v))) Own λ samples.
       (e, record { number = number; same = same; first = eqb-true _ _ first; room = leb-true _ _ room; samples = samples }))
