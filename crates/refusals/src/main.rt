@@ -1,0 +1,368 @@
+// Refusals that no record brings, each by itself and beside its neighbour in document 01's order: 1 and 2 of lent memory, state and cycle, and 7.
+use judge::Ends;
+use judge::Run;
+use libc::STDOUT_FILENO;
+use reader::OpenStep;
+use reader::Opening;
+use reader::Reading;
+use reader::Step;
+use reader::blank;
+use reader::open;
+use reader::read;
+use reader::reading_of;
+use rules::End;
+use rules::Tolerances;
+
+// T = 2 and T = 3, one phase, points of 100.
+const CYCLE: [u8; 9] = [1, 0, 2, 0, 100, 0, 100, 0, 100];
+
+const OTHER_CYCLE: [u8; 11] = [1, 0, 3, 0, 100, 0, 100, 0, 100, 0, 100];
+
+const UNKNOWN: [u8; 1] = [8];
+// A field 4 with a speed tolerance of 101.
+const WIDE: [u8; 9] = [4, 0, 6, 0, 101, 0, 20, 1, 44];
+// Blocks of one sample that begin at sample 4,000,000: a good one, one that begins at sample 0, one with a speed of 1501, another vehicle's.
+const NEXT: [u8; 30] = [
+    5,
+    0,
+    27,
+    48,
+    48,
+    48,
+    48,
+    48,
+    48,
+    48,
+    48,
+    48,
+    48,
+    48,
+    48,
+    48,
+    48,
+    48,
+    48,
+    48,
+    0,
+    61,
+    9,
+    0,
+    0,
+    100,
+    23,
+    112,
+    255,
+    136,
+];
+
+const AGAIN: [u8; 30] = [
+    5,
+    0,
+    27,
+    48,
+    48,
+    48,
+    48,
+    48,
+    48,
+    48,
+    48,
+    48,
+    48,
+    48,
+    48,
+    48,
+    48,
+    48,
+    48,
+    48,
+    0,
+    0,
+    0,
+    0,
+    0,
+    100,
+    23,
+    112,
+    255,
+    136,
+];
+
+const FAST: [u8; 30] = [
+    5,
+    0,
+    27,
+    48,
+    48,
+    48,
+    48,
+    48,
+    48,
+    48,
+    48,
+    48,
+    48,
+    48,
+    48,
+    48,
+    48,
+    48,
+    48,
+    48,
+    0,
+    61,
+    9,
+    0,
+    5,
+    221,
+    23,
+    112,
+    255,
+    136,
+];
+
+const FOREIGN: [u8; 30] = [
+    5,
+    0,
+    27,
+    49,
+    48,
+    48,
+    48,
+    48,
+    48,
+    48,
+    48,
+    48,
+    48,
+    48,
+    48,
+    48,
+    48,
+    48,
+    48,
+    48,
+    0,
+    0,
+    0,
+    0,
+    5,
+    221,
+    23,
+    112,
+    255,
+    136,
+];
+
+// A run of 64 finished cycles to which so many samples were offered.
+fn ended_run(offered: u32) -> Run {
+    Run {
+        seconds: 2,
+        ends: Ends {
+            first: 2,
+            second: 0,
+            third: 0,
+            fourth: 0,
+        },
+        tolerances: Tolerances {
+            speed: 30,
+            time: 20,
+            allowance: 300,
+        },
+        offered,
+        counted: 2560,
+        end: End::Limit,
+    }
+}
+
+// Its reading, with so many blocks passed over.
+fn reading_with(offered: u32, passed: u32) -> Reading {
+    let mut r = reading_of(blank(), ended_run(offered));
+    r.passed = passed;
+    r
+}
+
+// The number of a refusal; 0 where a field is taken, 100 where it is passed over, 200 where it is not finished.
+fn number_of(step: Step) -> u32 {
+    match step {
+        Step::Taken(_) => 0,
+        Step::Passed(_) => 100,
+        Step::Incomplete => 200,
+        Step::Refused(n) => n,
+    }
+}
+
+fn open_number_of(step: OpenStep) -> u32 {
+    match step {
+        OpenStep::Taken(_) => 0,
+        OpenStep::Started(_, _) => 0,
+        OpenStep::Incomplete => 200,
+        OpenStep::Refused(n) => n,
+    }
+}
+
+fn say(what: &[u8], number: u32) {
+    io::write_all(STDOUT_FILENO, what);
+    io::write_all(STDOUT_FILENO, b": ");
+    io::print_decimal(STDOUT_FILENO, number as u64);
+    io::write_all(STDOUT_FILENO, b"\n");
+}
+
+// On a ledger of so many numbers and a map of so many words, all zero.
+fn try_read(what: &[u8], r: Reading, input: &[u8], b: &[u8], numbers: usize, words: usize) {
+    let mut ledger = [0i64; 576];
+    let mut map = [0u64; 750];
+    if 576 < numbers {
+        return;
+    }
+    if 750 < words {
+        return;
+    }
+    let x = read(r, input, b, &mut ledger[..numbers], &mut map[..words]);
+    let step = x.step;
+    say(what, number_of(step));
+}
+
+// On a room of so many bytes too.
+fn try_open(what: &[u8], o: Opening, input: &[u8], bytes: usize, numbers: usize) {
+    let mut room = [0u8; 4811];
+    let mut ledger = [0i64; 576];
+    let mut map = [0u64; 750];
+    if 4811 < bytes {
+        return;
+    }
+    if 576 < numbers {
+        return;
+    }
+    let x = open(
+        o,
+        input,
+        &mut room[..bytes],
+        &mut ledger[..numbers],
+        &mut map[..],
+    );
+    let step = x.step;
+    say(what, open_number_of(step));
+}
+
+// An opening at the tolerances, with so many bytes of a cycle in the room.
+fn at_tolerances(fields: u32, cycle: usize) -> Opening {
+    let mut o = blank();
+    o.fields = fields;
+    o.cycle = cycle;
+    o
+}
+
+fn openings() {
+    try_open(
+        b"open, room too short, unknown tag",
+        blank(),
+        &UNKNOWN[..],
+        4810,
+        576,
+    );
+    try_open(b"open, unknown tag", blank(), &UNKNOWN[..], 4811, 576);
+    try_open(
+        b"open, four fields before it",
+        at_tolerances(4, 9),
+        &UNKNOWN[..],
+        4811,
+        576,
+    );
+    try_open(
+        b"start, ledger too short, no cycle, wide",
+        at_tolerances(3, 9),
+        &WIDE[..],
+        4811,
+        575,
+    );
+    try_open(
+        b"start, no cycle, wide",
+        at_tolerances(3, 9),
+        &WIDE[..],
+        4811,
+        576,
+    );
+}
+
+fn grounds() {
+    let r = reading_with(2560, 0);
+    let beyond = reading_with(2560, 4_000_001);
+    try_read(
+        b"read, ledger too short, other cycle",
+        r,
+        &UNKNOWN[..],
+        &OTHER_CYCLE[..],
+        575,
+        750,
+    );
+    try_read(
+        b"read, map too short, other cycle",
+        r,
+        &UNKNOWN[..],
+        &OTHER_CYCLE[..],
+        576,
+        749,
+    );
+    try_read(
+        b"read, state out of bounds, other cycle",
+        beyond,
+        &UNKNOWN[..],
+        &OTHER_CYCLE[..],
+        576,
+        750,
+    );
+    try_read(
+        b"read, other cycle, unknown tag",
+        r,
+        &UNKNOWN[..],
+        &OTHER_CYCLE[..],
+        576,
+        750,
+    );
+    try_read(b"read, unknown tag", r, &UNKNOWN[..], &CYCLE[..], 576, 750);
+}
+
+fn counts() {
+    let full = reading_with(4_000_000, 4_000_000);
+    let almost = reading_with(4_000_000, 3_999_999);
+    try_read(b"read, offered full", full, &NEXT[..], &CYCLE[..], 576, 750);
+    try_read(
+        b"read, offered full, first number wrong",
+        full,
+        &AGAIN[..],
+        &CYCLE[..],
+        576,
+        750,
+    );
+    try_read(
+        b"read, offered full, sample too fast",
+        full,
+        &FAST[..],
+        &CYCLE[..],
+        576,
+        750,
+    );
+    try_read(
+        b"read, passed over full",
+        full,
+        &FOREIGN[..],
+        &CYCLE[..],
+        576,
+        750,
+    );
+    try_read(
+        b"read, one more passed over",
+        almost,
+        &FOREIGN[..],
+        &CYCLE[..],
+        576,
+        750,
+    );
+}
+
+fn main() {
+    openings();
+    grounds();
+    counts();
+}
