@@ -3,7 +3,7 @@
 use mathlib.Core.Bool.{Bool, true, false, cond}
 use mathlib.Core.List.{List}
 use mathlib.Core.Path.{_≡_, refl, sym, ap, _∙_}
-use Prim.Native.Nat.{ℕ, suc, _+_, _≤_, _<_, zero-le}
+use Prim.Native.Nat.{ℕ, _+_, _-_, _≤_, _<_, zero-le}
 use native.Mathlib.Nat.{zero-add, add-comm}
 use native.Mathlib.Numerals.{add-one}
 use native.Mathlib.Omega.{arith}
@@ -11,9 +11,14 @@ use lib.Dec.{leb}
 use lib.ListN.{length, getD, set, drop, length-drop}
 use lib.Seq.{paste, paste-suc, drop-paste, getD-drop}
 use Rattle.numbers.specs.Tests.{unless}
-use Rattle.desk.specs.declared.Outcome.the-variants.{Refused as refused}
-use Rattle.desk.specs.Feeding.{Laid, Taken, stops, openUpto, readOn, thenRead, mostFields, feedOf}
+use Rattle.desk.specs.declared.Fed.{Fed}
+use Rattle.desk.specs.declared.Outcome.{Outcome}
+use Rattle.desk.specs.declared.Outcome.the-variants.{More, Refused as refused}
+use Rattle.desk.specs.Feeding.{Laid, Taken, fedOf, stops, openUpto, readOn, thenRead, mostFields, feedOf}
 use Rattle.desk.proofs.Turns.{upto-within, read-room}
+use Rattle.intake.specs.declared.Turn.{Turn}
+use Rattle.intake.specs.declared.Turned.the-variants.{On, Refused}
+use Rattle.intake.specs.Turns.{turnedBy, heldBy, turnOf, bufferBy, bufferAfter}
 
 pub feed-used : (x : Laid) (i : List ℕ) → feedOf x i .used ≤ length i
 unfolding feedOf unless
@@ -49,3 +54,25 @@ moved-more d from k h g =
     ∙ ap (λ (j : ℕ). set p j (getD (drop from d) k 0)) (sym (zero-add k))
     ∙ paste-suc d 0 (drop from d) k 0 (omega arith) g
     ∙ ap (paste d 0 (drop from d)) (sym (add-one k))
+
+-- ---- the desk answered f, which is what y says
+module _ (y : Taken) (f : Fed) (e : f ≡ fedOf y) (upto left : ℕ) (buffer : List ℕ) where
+  by : (o : Outcome) → f .outcome ≡ o → o ≡ y .outcome
+  by o p = sym p ∙ ap (λ (x : Fed). x .outcome) e
+
+  -- with a refusal: nothing is held, and nothing moves
+  pub refused-turn : (k : ℕ) → f .outcome ≡ refused k
+      → (_≡_ {A = Turn} (record { turned = Refused k; desk = f .desk; held = 0; left = left }) (turnOf y upto left)) × (buffer ≡ bufferAfter y upto buffer)
+  refused-turn k p = (
+    (λ i. record { turned = turnedBy (by (refused k) p i); desk = e i .desk; held = heldBy (by (refused k) p i) (e i .used) upto; left = left }),
+    (λ i. bufferBy (by (refused k) p i) (e i .used) upto buffer),
+  )
+
+  -- else the rest is held, at the front
+  pub more-turn : f .outcome ≡ More → (h : ℕ) (b : List ℕ) → h ≡ upto - f .used → b ≡ paste buffer 0 (drop (f .used) buffer) (upto - f .used)
+      → (_≡_ {A = Turn} (record { turned = On; desk = f .desk; held = h; left = left }) (turnOf y upto left)) × (b ≡ bufferAfter y upto buffer)
+  more-turn p h b q r = (
+    (λ i. record { turned = On; desk = f .desk; held = q i; left = left })
+        ∙ (λ i. record { turned = turnedBy (by More p i); desk = e i .desk; held = heldBy (by More p i) (e i .used) upto; left = left }),
+    r ∙ (λ i. bufferBy (by More p i) (e i .used) upto buffer),
+  )

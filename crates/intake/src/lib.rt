@@ -7,9 +7,10 @@ use prints::close;
 use prints::refuse;
 ghost use mathlib.Core.Path.{_≡_};
 ghost use Prim.Native.Nat.{_+_, _-_, _≤_, _<_};
-ghost use lib.ListN.{length, drop};
+ghost use lib.ListN.{length, take, drop};
 ghost use lib.Seq.{paste};
-ghost use Rattle.intake.specs.Turns.{Within, isOn, Goes};
+ghost use Rattle.desk.specs.Feeding.{laidOf, feedOf};
+ghost use Rattle.intake.specs.Turns.{Within, turnOf, bufferAfter, isOn, Goes};
 
 // What became of a turn: bytes were taken, the input ended, reading failed, or a field was refused.
 pub enum Turned {
@@ -78,6 +79,11 @@ fn digest(
 ) -> Turn
     requires { ⌜ upto ≤ length (now buffer) ⌝ }
     ensures { λ r. ⌜ (r .held ≤ upto) × (r .left ≡ left) ⌝ }
+    ensures { λ r. ⌜ r ≡ turnOf (feedOf (laidOf desk (now (room .entry)) (now (ledger .entry)) (now (map .entry))) (take upto (now (buffer .entry)))) upto left ⌝ }
+    ensures { λ _. ⌜ now (buffer .exit) ≡ bufferAfter (feedOf (laidOf desk (now (room .entry)) (now (ledger .entry)) (now (map .entry))) (take upto (now (buffer .entry)))) upto (now (buffer .entry)) ⌝ }
+    ensures { λ _. ⌜ now (room .exit) ≡ feedOf (laidOf desk (now (room .entry)) (now (ledger .entry)) (now (map .entry))) (take upto (now (buffer .entry))) .laid .room ⌝ }
+    ensures { λ _. ⌜ now (ledger .exit) ≡ feedOf (laidOf desk (now (room .entry)) (now (ledger .entry)) (now (map .entry))) (take upto (now (buffer .entry))) .laid .ledger ⌝ }
+    ensures { λ _. ⌜ now (map .exit) ≡ feedOf (laidOf desk (now (room .entry)) (now (ledger .entry)) (now (map .entry))) (take upto (now (buffer .entry))) .laid .map ⌝ }
 {
     let x = feed(desk, &buffer[..upto], &mut *room, &mut *ledger, &mut *map);
     let on = x.desk;

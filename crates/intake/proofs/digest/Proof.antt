@@ -1,15 +1,26 @@
 -- `intake::digest` meets its contract: what the desk took stands in the bytes lent, and the rest is moved.
 -- Assumes nothing.
-use mathlib.Core.Path.{sym, ap}
+use mathlib.Core.Path.{refl, sym, ap}
+use Prim.Native.Nat.{zero-le}
 use native.Mathlib.Omega.{arith}
 use lib.ListN.{take}
 use lib.Seq.{length-take-le}
 use Rattle.desk.specs.declared.Fed.{Fed}
-use Rattle.desk.specs.Feeding.{laidOf}
-use Rattle.intake.proofs.Fed.{feed-used}
+use Rattle.desk.specs.Feeding.{Laid, Taken, laidOf, feedOf}
+use Rattle.intake.proofs.Fed.{feed-used, refused-turn, more-turn}
 use borrow.Author.Needs.{needs}
 use Rattle.intake.proofs.digest.Statement.{statement}
 use Rattle.intake.proofs.digest.Tie as tie
+
+-- the desk on its memory, and what it takes of the bytes lent
+abbrev entry : tie.After-feed → tie.Start
+entry c = c .before .before .before .before .before .before .before .before
+
+abbrev laid : tie.Start → Laid
+laid s = laidOf (s .args .desk) (s .args .room .now) (s .args .ledger .now) (s .args .map .now)
+
+abbrev taken : tie.Start → Taken
+taken s = feedOf (laid s) (take (s .args .upto) (s .args .buffer .now))
 
 slice-reshare-prefix-feed : tie.Need-slice-reshare-prefix-feed
 slice-reshare-prefix-feed c = search needs
@@ -29,9 +40,9 @@ enum-told c = search needs
 to-front-requires : tie.Need-to-front-requires
 to-front-requires c κs =
     let fed = c .before .before .before .before .before .before .before .before .before in
-    let s = fed .before .before .before .before .before .before .before .before in
+    let s = entry fed in
     let used = ap (λ (x : Fed). x .used) (fed .feed .ensures .0) in
-    let most = feed-used (laidOf (s .args .desk) (s .args .room .now) (s .args .ledger .now) (s .args .map .now)) (take (s .args .upto) (s .args .buffer .now)) in
+    let most = feed-used (laid s) (take (s .args .upto) (s .args .buffer .now)) in
     (omega (arith, used, most, length-take-le (s .args .upto) (s .args .buffer .now) (s .pre)), s .pre)
 
 same-length : tie.Need-same-length
@@ -47,7 +58,13 @@ same-length-4 : tie.Need-same-length-4
 same-length-4 c = search needs
 
 returns : tie.Need-returns
-returns c = search needs
+returns c =
+    let known = c .before in
+    let fed = known .before .before .before .before .before .before .before .before in
+    let s = entry fed in
+    let e = fed .feed .ensures in
+    let t = refused-turn (taken s) _ (e .0) (s .args .upto) (s .args .left) (s .args .buffer .now) (known .outcome .given .0 .0) (known .outcome .given .1) in
+    ((zero-le, refl), (t .0, (t .1, e .1)))
 
 same-length-5 : tie.Need-same-length-5
 same-length-5 c = search needs
@@ -62,7 +79,15 @@ same-length-8 : tie.Need-same-length-8
 same-length-8 c = search needs
 
 returns-2 : tie.Need-returns-2
-returns-2 c = search needs
+returns-2 c =
+    let moved = c .before .before in
+    let told = moved .before .before in
+    let fed = told .before .before .before .before .before .before .before .before in
+    let s = entry fed in
+    let e = fed .feed .ensures in
+    let m = moved .to-front .ensures in
+    let t = more-turn (taken s) _ (e .0) (s .args .upto) (s .args .left) (s .args .buffer .now) (told .enum-told .given .1) _ _ (m .0) (m .1) in
+    ((omega (arith, m .0), refl), (t .0, (t .1, e .1)))
 
 pub digest-spec : {M : Type 1} → statement M
 digest-spec =

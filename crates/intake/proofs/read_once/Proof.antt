@@ -90,7 +90,7 @@ returns : tie.Need-returns
 returns c =
     let taken = c .before .before .before .before .before .before .before in
     let known = taken .before .before .before .before .before .before in
-    let e = taken .digest .ensures in
+    let e = taken .digest .ensures .0 in
     record {
       held = omega (arith, within known, e .0);
       falls = λ _. omega (arith, came known, within known, e .1);
