@@ -141,7 +141,7 @@ readOn x i = unless (stops x (Refused 1)) (leb (x .desk .opening .cycle) (length
 
 -- ---- both
 
--- no record has more fields: four until the start, 4,000,000 own blocks of a sample each, as many passed over, and three amounts
+-- no record has more fields: four until the start, and each later one raises the samples offered, the blocks passed over or the place in the order
 abbrev pub mostFields : ℕ
 mostFields = 8_000_008
 
