@@ -2,7 +2,7 @@
 -- Assumes nothing.
 use mathlib.Core.Bool.{Bool, true, false, _&&_, false≢true}
 use mathlib.Core.List.{List, _++_}
-use mathlib.Core.Path.{_≡_, refl, sym, ap, subst, _∙_}
+use mathlib.Core.Path.{_≡_, refl, sym, ap, _∙_}
 use Prim.Native.Nat.{ℕ, suc, _+_, _≤_}
 use native.Mathlib.Numerals.{add-one}
 use native.Mathlib.Omega.{arith}
@@ -15,17 +15,14 @@ use Rattle.numbers.proofs.Tests.{both, not-refused}
 use Rattle.rules.specs.Bench.{mostPassed}
 use Rattle.rules.specs.Closing.{areAmounts}
 use Rattle.fields.specs.Values.{isNumber}
-use Rattle.judge.specs.declared.Run.{Run}
 use Rattle.reader.specs.declared.Ending.{Ending}
 use Rattle.reader.specs.declared.Ending.the-variants as ending
 use Rattle.reader.specs.declared.Reading.{Reading}
 use Rattle.reader.specs.Answers.{isReading, readGround, endingOf}
 use Rattle.reader.specs.Records.{sheetOf}
 use Rattle.reader.proofs.Calls.{Lent}
-use Rattle.reader.proofs.Records.{Handed}
-use Rattle.sheet.specs.Text.{sheetText, refusalText}
-use Rattle.figures.specs.declared.Found.{Found}
-use Rattle.figures.specs.Figured.{foundOf, figuresBy}
+use Rattle.sheet.specs.Text.{refusalText}
+use Rattle.figures.specs.Figured.{figuresBy}
 use Rattle.figures.proofs.OfRun.{figures-of-run}
 use Rattle.desk.specs.declared.Outcome.the-variants.{Refused}
 use Rattle.desk.specs.Feeding.{Laid, cycleOf, feedOf, mostFields}

@@ -1,6 +1,5 @@
 -- `read` and `read_all` on a reading with its lent memory: what the tests before a field say, and what is answered after them.
 -- Assumes nothing.
-use mathlib.Core.Bool.{true}
 use mathlib.Core.List.{List}
 use mathlib.Core.Path.{_≡_, refl, sym, ap, subst, subst⁻¹, _∙_}
 use Prim.Native.Nat.{ℕ, _≤_}
@@ -19,9 +18,9 @@ use Rattle.reader.specs.declared.AllAnswer.{AllAnswer}
 use Rattle.reader.specs.declared.Reading.{Reading}
 use Rattle.reader.specs.declared.Step.the-variants.{Refused}
 use Rattle.reader.specs.declared.Stepped.{Stepped}
-use Rattle.reader.specs.Reading.{Answered, Read, fieldAt, fieldsOf}
-use Rattle.reader.specs.Answers.{offeredOf, takeBlock, taleOf, readingOf, readGround, readOf, readAllOf, readAnswer, allAnswer}
-use Rattle.reader.specs.Along.{alongAt, withAlong, frontAs, allAs, steppedOf, passageOf, Ready}
+use Rattle.reader.specs.Reading.{Answered, Read}
+use Rattle.reader.specs.Answers.{taleOf, readGround, readOf, readAllOf, readAnswer, allAnswer}
+use Rattle.reader.specs.Along.{alongAt, withAlong, frontAs, allAs, passageOf, Ready}
 use Rattle.reader.proofs.Taking.{Took}
 
 -- the passage r and the memory l and m are those of x

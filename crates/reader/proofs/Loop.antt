@@ -1,6 +1,5 @@
 -- All fields of an input, one after another, by a reading on its lent memory: what every turn of the loop keeps.
 -- Assumes nothing.
-use mathlib.Core.Bool.{true}
 use mathlib.Core.List.{List}
 use mathlib.Core.Path.{_≡_, refl, sym, ap, subst, subst⁻¹, _∙_}
 use Prim.Native.Nat.{ℕ, suc, _+_, _-_, _≤_}
@@ -26,7 +25,7 @@ use Rattle.reader.specs.Reading.{Tale, Answered, Read, bytesOf, taleAfte
 use Rattle.reader.specs.Answers.{offeredOf, takeBlock}
 use Rattle.reader.specs.declared.Along.{Along}
 use Rattle.reader.specs.declared.Stepped.{Stepped}
-use Rattle.reader.specs.Along.{taleAlong, alongOf, passageOf, frontAs, allAs, Ready}
+use Rattle.reader.specs.Along.{taleAlong, passageOf, frontAs, allAs, Ready}
 use Rattle.reader.proofs.Accepted.{no-bytes}
 use Rattle.reader.proofs.Brought.{Says, says}
 use Rattle.reader.proofs.Cuts.{field-size, unrolled, first-then}

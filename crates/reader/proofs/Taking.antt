@@ -3,7 +3,7 @@
 use mathlib.Core.Bool.{true}
 use mathlib.Core.List.{List}
 use mathlib.Core.Path.{_≡_, refl, sym, ap, subst, subst⁻¹, _∙_}
-use Prim.Native.Nat.{ℕ, _+_, _-_, _≤_}
+use Prim.Native.Nat.{ℕ, _+_, _-_}
 use lib.IntN.{ℤ}
 use lib.ListN.{length, take, drop}
 use Rattle.rules.specs.declared.Amounts.{Amounts}
@@ -20,11 +20,11 @@ use Rattle.reader.specs.declared.Content.the-variants.{Own}
 use Rattle.reader.specs.declared.Step.{Step}
 use Rattle.reader.specs.declared.Step.the-variants as step
 use Rattle.reader.specs.Content.{contentOf}
-use Rattle.reader.specs.Reading.{Tale, Answered, byFront, fieldAt}
+use Rattle.reader.specs.Reading.{Answered, byFront, fieldAt}
 use Rattle.reader.specs.Answers.{offeredOf, takeBlock}
 use Rattle.reader.specs.declared.Along.{Along}
 use Rattle.reader.specs.declared.Stepped.{Stepped}
-use Rattle.reader.specs.Along.{taleAlong, alongOf, steppedOf, withOwn, takenAs, wholeAs, frontAs, Brought, Ready}
+use Rattle.reader.specs.Along.{taleAlong, steppedOf, withOwn, takenAs, wholeAs, frontAs, Brought, Ready}
 use Rattle.reader.proofs.Brought.{OwnBlock, Says, says, own-block}
 
 -- the answer r and the memory l and m are those of x

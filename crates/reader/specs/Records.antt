@@ -1,6 +1,6 @@
 -- A record as a whole: working through its bytes field by field gives what the record tells, or the refusal with its field's number.
 -- Assumes nothing.
-use mathlib.Core.Bool.{true, false}
+use mathlib.Core.Bool.{true}
 use mathlib.Core.List.{List, [], _++_}
 use Prim.Native.Nat.{ℕ, suc, _+_, _-_}
 use lib.ListN.{length, drop, replicate}
@@ -10,7 +10,6 @@ use Rattle.rules.specs.declared.Sample.{Sample}
 use Rattle.rules.specs.declared.Tolerances.{Tolerances}
 use Rattle.rules.specs.Bench.{tolerable}
 use Rattle.rules.specs.Cycle.{valid}
-use Rattle.judge.specs.declared.Run.{Run}
 use Rattle.judge.specs.Answers.{sampleAt, samplesIn}
 use Rattle.reader.specs.Reading.{Tale, Read, Step, fieldsOf}
 use Rattle.reader.specs.Opening.{Begun, OpenRead, OpenStep, openUpto}

@@ -1,6 +1,6 @@
 -- `card::all_records` is safe and ends. The measure is the number of turns that are left.
 -- Assumes nothing.
-use mathlib.Core.Path.{_≡_, refl, _∙_}
+use mathlib.Core.Path.{_≡_, refl}
 use borrow.Author.Needs.{needs}
 use lib.ListN.{length}
 use Rattle.card.proofs.all_records.Statement.{statement}

@@ -1,6 +1,6 @@
 -- `intake::skip` is safe and ends: each turn leaves fewer bytes of the record.
 -- Assumes nothing.
-use mathlib.Core.Path.{_≡_, refl, sym, subst}
+use mathlib.Core.Path.{_≡_, sym, subst}
 use Prim.Native.Nat.{_≤_}
 use native.Mathlib.Omega.{arith}
 use Rattle.intake.specs.Turns.{Within}

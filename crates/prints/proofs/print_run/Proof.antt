@@ -1,7 +1,6 @@
 -- `prints::print_run` meets its contract: the lines are those of the figures, or of the refusal.
 -- Assumes nothing.
 use mathlib.Core.Path.{sym}
-use native.Mathlib.Omega.{arith}
 use borrow.Author.Needs.{needs}
 use lib.ListN.{length}
 use lib.Seq.{length-take-le}

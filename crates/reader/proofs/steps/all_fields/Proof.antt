@@ -1,14 +1,13 @@
 -- `reader::steps::all_fields` meets its contract. The loop's invariant: the fields of the first `used` bytes are taken, and what is left to read is
 -- what the reading, as it is now, has to read of the rest.
 -- Assumes nothing.
-use mathlib.Core.Path.{_≡_, refl, sym, ap, _∙_}
+use mathlib.Core.Path.{_≡_, refl, ap, _∙_}
 use Prim.Native.Nat.{_+_, _-_, _≤_, zero-le}
 use native.Mathlib.Omega.{arith}
 use borrow.Author.Needs.{needs}
 use lib.ListN.{length, drop}
-use Rattle.judge.specs.Step.{State}
 use Rattle.reader.specs.Reading.{Read}
-use Rattle.reader.specs.Along.{allAs, passageOf, Ready}
+use Rattle.reader.specs.Along.{allAs, Ready}
 use Rattle.reader.proofs.Loop.{behind, before-all, turn, turn-end, turn-ready, turn-size, nothing-left, passage}
 use Rattle.reader.proofs.steps.all_fields.Statement.{statement}
 use Rattle.reader.proofs.steps.all_fields.Tie as tie
