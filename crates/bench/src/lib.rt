@@ -23,7 +23,7 @@ pub extern "C" fn paperwhelk_verdict(
     if !cycle::is_cycle(cycle) {
         return -2;
     }
-    if !cycle::is_tolerable(t) {
+    if !values::is_tolerable(t) {
         return -3;
     }
     if 20 * cycle::seconds_of(cycle) <= position {
@@ -32,5 +32,5 @@ pub extern "C" fn paperwhelk_verdict(
     if 1500 < speed {
         return -5;
     }
-    cycle::verdict_at(cycle, t, position, speed) as i32
+    band::verdict_at(cycle, t, position, speed) as i32
 }

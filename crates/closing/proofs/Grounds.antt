@@ -2,20 +2,20 @@
 -- Assumes nothing.
 use mathlib.Core.Bool.{Bool, true, false, cond}
 use mathlib.Core.List.{List}
-use mathlib.Core.Path.{_≡_, refl, sym, ap, ap₂, _∙_, subst}
+use mathlib.Core.Path.{_≡_, refl, sym, ap, _∙_, subst}
 use Prim.Native.Nat.{ℕ, _+_, _*_, _/_, _^_, _≤_, _<_}
 use native.Mathlib.Nat.{div-div-eq-div-mul, div-le-self, div-le-of-le-mul, div-mul-le-self}
 use native.Mathlib.Omega.{arith}
 use borrow.Author.Tests.{le-leb, leb-true}
-use lib.Dec.{T, leb, ltb, eqb}
+use lib.Dec.{leb, eqb}
 use lib.IntN.{ℤ, pos, negsuc, _+ℤ_}
 use lib.Signed.{leZ}
 use mir.Syntax.{w64}
 use mir.Val.{SFits, toZ, ofZ}
-use Rattle.numbers.specs.Tests.{unless}
+use Rattle.numbers.specs.Tests.{unless, settled}
 use Rattle.numbers.specs.Whole.{up, Sized}
-use Rattle.numbers.proofs.Tests.{not-refused, both, pass}
-use Rattle.numbers.proofs.Whole.{abs-is, sized-add, sized-between, weaken, sfits, read}
+use Rattle.numbers.proofs.Tests.{not-refused, both, pass, settled-taken, settled-refused}
+use Rattle.numbers.proofs.Whole.{sum-fits, sum-read, abs-is, sized-add, sized-between, weaken}
 use Rattle.rules.specs.declared.Charge.the-variants.{Wh as wh}
 use Rattle.rules.specs.declared.Amounts.{Amounts}
 use Rattle.rules.specs.Closing.{mostRate, isCharge, areAmounts, weightedFigure, rangeFigure, closingRefusal, rechargeFigure, rechargeRefusal}
@@ -23,11 +23,13 @@ use Rattle.rules.proofs.Closes.{closes, some-energy}
 use Rattle.rules.specs.Run.{finishedCycles}
 use Rattle.ledger.specs.Row.{energyIn, distanceIn, energyAll}
 use Rattle.ledger.proofs.Rows.{energy-all-sized}
-use Rattle.judge.specs.declared.Run.{Run}
-use Rattle.judge.specs.State.{ground}
-use Rattle.judge.specs.Answers.{settled}
-use Rattle.judge.proofs.Checked.{settled-taken, settled-refused, Ground, ground-passed, ground-zero, ground-on, ground-off, progress-most}
-use Rattle.closing.specs.Answers.{Figure, Is, Refused, closedOf, grounds, whole, closed, refusalOf, closingOf, rechargedOf, rechargedBy}
+use Rattle.state.specs.declared.Run.{Run}
+use Rattle.state.specs.State.{ground}
+use Rattle.state.proofs.Checked.{Ground, ground-passed, ground-zero, ground-on, ground-off, progress-most}
+use Rattle.consumption.specs.declared.Figure.{Figure}
+use Rattle.consumption.specs.declared.Figure.the-variants.{Is, Refused}
+use Rattle.consumption.specs.Figures.{closedOf, rechargedOf, rechargedBy}
+use Rattle.closing.specs.Answers.{grounds, whole, closed, refusalOf, closingOf}
 
 -- ---- an answer by the number of its refusal
 
@@ -43,21 +45,6 @@ settled-again n x = go (eqb n 0)
     go : (t : Bool) → cond t (cond t x 0) 0 ≡ cond t x 0
     go true = refl
     go false = refl
-
--- ---- signed sums and casts, as the machine forms them
-
-module _ {m n : ℕ} {x y : ℤ} (t : T (ltb (m + n) (2 ^ 63))) (s : Sized m x) (u : Sized n y) where
-  sum-parts : toZ w64 (ofZ w64 x) +ℤ toZ w64 (ofZ w64 y) ≡ x +ℤ y
-  sum-parts =
-      let v : Sized (m + n) x = weaken (omega arith) s in
-      let w : Sized (m + n) y = weaken (omega arith) u in
-      ap₂ _+ℤ_ (read (sfits w64 t v)) (read (sfits w64 t w))
-
-  pub sum-fits : SFits w64 (toZ w64 (ofZ w64 x) +ℤ toZ w64 (ofZ w64 y))
-  sum-fits = subst (λ (z : ℤ). SFits w64 z) (sym sum-parts) (sfits w64 t (sized-add s u))
-
-  pub sum-read : toZ w64 (ofZ w64 (toZ w64 (ofZ w64 x) +ℤ toZ w64 (ofZ w64 y))) ≡ x +ℤ y
-  sum-read = read sum-fits ∙ sum-parts
 
 -- ---- the ground
 
@@ -135,10 +122,10 @@ module _ (r : Run) (a : Amounts) (b : List ℕ) (l : List ℤ) (m : List ℕ) wh
 -- E as the machine forms it, of the sum z that it has of the ledger
 module _ {r : Run} {a : Amounts} {b : List ℕ} {l : List ℤ} {m : List ℕ} (s : Standing r a b l m) (z : ℤ) (e : z ≡ energyAll l) where
   pub whole-fits : SFits w64 (toZ w64 (ofZ w64 (a .before)) +ℤ toZ w64 (ofZ w64 z))
-  whole-fits = rw e (sum-fits tt (s .before) (energy-all-sized l (s .ground .bounded)))
+  whole-fits = rw e (sum-fits w64 tt (s .before) (energy-all-sized l (s .ground .bounded)))
 
   pub whole-read : toZ w64 (ofZ w64 (toZ w64 (ofZ w64 (a .before)) +ℤ toZ w64 (ofZ w64 z))) ≡ a .before +ℤ energyAll l
-  whole-read = rw e (sum-read tt (s .before) (energy-all-sized l (s .ground .bounded)))
+  whole-read = rw e (sum-read w64 tt (s .before) (energy-all-sized l (s .ground .bounded)))
 
 -- ---- a closing that refuses nothing
 

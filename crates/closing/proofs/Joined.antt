@@ -16,14 +16,16 @@ use Rattle.rules.specs.declared.Charge.{Charge}
 use Rattle.rules.specs.declared.Charge.the-variants.{Absent as absent, Wh as wh}
 use Rattle.rules.specs.Bench.{isOpen}
 use Rattle.rules.specs.Closing.{wholeEnergy, areAmounts, weightedFigure, rangeFigure, closingRefusal, rechargeFigure, rechargeRefusal}
-use Rattle.rules.specs.Run.{sampleOf, cycleEnergy, cycleDistance, finishedCycles, over, counted, cycles}
+use Rattle.rules.specs.Run.{sampleOf, cycleEnergy, cycleDistance, finishedCycles, counted, cycles}
 use Rattle.rules.proofs.Longer.{Stays, ended-stays}
 use Rattle.rules.proofs.Same.{weighted-same, range-same, refusal-same, recharge-same, recharge-refusal-same}
 use Rattle.ledger.specs.Row.{energyIn, distanceIn, energyAll}
-use Rattle.judge.specs.declared.Run.{Run}
-use Rattle.judge.specs.Answers.{settled}
+use Rattle.state.specs.declared.Run.{Run}
+use Rattle.numbers.specs.Tests.{settled}
 use Rattle.judge.proofs.Runs.{Reached, run-shows, cycle-energies, cycle-distances, few-cycles, never-refused}
-use Rattle.closing.specs.Answers.{Figure, Is, Absent, Refused, weightedBy, rangeBy, chargedBy, rechargeBy, closedOf, refusalOf, weightedAnswer, rangeAnswer, rechargedOf, rechargeAnswer}
+use Rattle.consumption.specs.declared.Figure.the-variants.{Is, Refused}
+use Rattle.consumption.specs.Figures.{weightedBy, rangeBy, chargedBy, rechargeBy, closedOf, rechargedOf}
+use Rattle.closing.specs.Answers.{refusalOf, weightedAnswer, rangeAnswer, rechargeAnswer}
 
 -- two closings that are alike in the whole energy, the number of cycles and each cycle
 module _ (E E′ : ℤ) (n n′ : ℕ) (few : n′ ≤ 64) (e d e′ d′ : ℕ → ℤ) (p : E ≡ E′) (q : n ≡ n′)

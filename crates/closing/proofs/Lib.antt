@@ -1,4 +1,3 @@
--- The laws of the closing figures.
-pub mod Weights
+-- The laws of the closing figures, and the join with the rules.
 pub mod Grounds
 pub mod Joined

@@ -1,61 +1,19 @@
 -- The closing figures of a started run, read off its ledger.
 -- Assumes nothing.
 use mathlib.Core.List.{List}
-use mathlib.Core.Bool.{true}
-use mathlib.Core.Path.{_≡_}
-use Prim.Native.Nat.{ℕ, _≤_}
-use lib.Dec.{leb}
-use lib.IntN.{ℤ, pos, _+ℤ_}
-use lib.Signed.{leZ, ltZ}
-use Rattle.numbers.specs.Tests.{allBelow, unless}
-use Rattle.numbers.specs.Whole.{up}
-use Rattle.rules.specs.declared.Charge.{Charge}
-use Rattle.rules.specs.declared.Charge.the-variants.{Absent as absent, Wh as wh}
+use Prim.Native.Nat.{ℕ}
+use lib.IntN.{ℤ, _+ℤ_}
+use Rattle.numbers.specs.Tests.{unless, settled}
 use Rattle.rules.specs.declared.Amounts.{Amounts}
-use Rattle.rules.specs.Closing.{mostRate, isRate, rateOf, recharge, areAmounts, weightedFigure, rangeFigure, closingRefusal, rechargeFigure, rechargeRefusal}
+use Rattle.rules.specs.Closing.{areAmounts}
 use Rattle.rules.specs.Run.{finishedCycles}
-use Rattle.ledger.specs.Row.{bounded, energyIn, distanceIn, energyAll}
-use Rattle.judge.specs.declared.Run.{Run}
-use Rattle.judge.specs.State.{ground}
-use Rattle.judge.specs.Answers.{settled}
-pub use Rattle.closing.specs.declared.Figure.{Figure}
-pub use Rattle.closing.specs.declared.Figure.the-variants.{Is, Absent, Refused}
-pub use Rattle.closing.specs.declared.Closed.{Closed}
-
--- ---- by the rules alone
-
--- "A closing refusal gives `refused N` in place of `weighted`, a recharge refusal in place of `ac`": the number of a refusal, or the figure
-abbrev pub figureOr : ℕ → Figure → Figure
-figureOr n f = settled n f (Refused n)
-
--- n finished cycles of energies e and distances d, the whole energy E
-module _ (E : ℤ) (n : ℕ) (e d : ℕ → ℤ) where
-  abbrev pub weightedBy : Figure
-  weightedBy = figureOr (closingRefusal E n e d) (Is (weightedFigure E n e d))
-
-  abbrev pub rangeBy : Figure
-  rangeBy = figureOr (closingRefusal E n e d) (Is (rangeFigure E n e d))
-
-  -- "A missing 7 gives the recharge figure "absent".": with F and the recharge
-  abbrev pub chargedBy : ℤ → Charge → Figure
-  chargedBy F absent = Absent
-  chargedBy F (wh A) = figureOr (rechargeRefusal E n e d F A) (Is (rechargeFigure E n e d F A))
-
-  -- "Recharge: whatever closing refuses, then absent, 14, 12."
-  abbrev pub rechargeBy : ℤ → Charge → Figure
-  rechargeBy F charge = figureOr (closingRefusal E n e d) (chargedBy F charge)
-
--- ---- read off a ledger
-
--- the two figures of n finished cycles with the whole energy E, or the number of the refusal
-unfoldable pub closedOf : List ℤ → ℕ → ℤ → Closed
-closedOf l n E =
-    let refusal = closingRefusal E n (energyIn l) (distanceIn l) in
-    record {
-      refusal = refusal;
-      weighted = settled refusal (weightedFigure E n (energyIn l) (distanceIn l)) 0;
-      range = settled refusal (rangeFigure E n (energyIn l) (distanceIn l)) 0;
-    }
+use Rattle.ledger.specs.Row.{energyAll}
+use Rattle.state.specs.declared.Run.{Run}
+use Rattle.state.specs.State.{ground}
+use Rattle.consumption.specs.declared.Closed.{Closed}
+use Rattle.consumption.specs.declared.Figure.{Figure}
+use Rattle.consumption.specs.declared.Figure.the-variants.{Is, Refused}
+use Rattle.consumption.specs.Figures.{closedOf, rechargedOf}
 
 module _ (r : Run) (a : Amounts) (b : List ℕ) (l : List ℤ) (m : List ℕ) where
   -- "In a started run 1 and 2 come before all others": the amounts are numbers of the state
@@ -79,13 +37,6 @@ module _ (r : Run) (a : Amounts) (b : List ℕ) (l : List ℤ) (m : List ℕ) wh
   abbrev pub rangeAnswer : Figure
   rangeAnswer = settled refusalOf (Is (closed .range)) (Refused refusalOf)
 
--- the recharge figure, where the closing refuses nothing
-unfoldable pub rechargedOf : List ℤ → ℕ → ℤ → ℤ → Charge → Figure
-rechargedOf l n E F absent = Absent
-rechargedOf l n E F (wh A) =
-    let refusal = rechargeRefusal E n (energyIn l) (distanceIn l) F A in
-    settled refusal (Is (rechargeFigure E n (energyIn l) (distanceIn l) F A)) (Refused refusal)
-
 abbrev pub rechargeAnswer : Run → Amounts → List ℕ → List ℤ → List ℕ → Figure
 rechargeAnswer r a b l m =
     settled (refusalOf r a b l m)
@@ -97,19 +48,3 @@ abbrev pub closingOf : Run → Amounts → List ℕ → List ℤ → List ℕ �
 closingOf r a b l m =
     let refusal = refusalOf r a b l m in
     record { refusal = refusal; weighted = settled refusal (closed r a b l m .weighted) 0; range = settled refusal (closed r a b l m .range) 0 }
-
--- what the tests up to 12 leave
-pub record Closable (l : List ℤ) (n : ℕ) : Type 0 where
-  pub bounded : bounded l ≡ true
-  pub most : n ≤ 64
-  pub three : 3 ≤ n
-  pub drawn : allBelow n (λ c. leZ (pos 1) (energyIn l c)) ≡ true
-  pub moved : allBelow n (λ c. ltZ (pos 0) (distanceIn l c)) ≡ true
-  pub rated : allBelow n (λ c. isRate (rateOf (energyIn l) (distanceIn l) c)) ≡ true
-
--- 14, 12, or the recharge figure, of the range, the whole energy E, F and A
-unfoldable pub rechargedBy : ℕ → ℤ → ℤ → ℕ → Figure
-rechargedBy range E F A =
-    unless (Refused 14) (leZ (pos 1) (E +ℤ F))
-    (unless (Refused 12) (leb (recharge (up E) (up (E +ℤ F)) A range) mostRate)
-    (Is (recharge (up E) (up (E +ℤ F)) A range)))

@@ -1,11 +1,11 @@
 // The tests before a closing figure, and the closing of a run that passes them.
-use super::Closed;
-use super::figures::close;
-use judge::Run;
-use judge::checks::ground_refusal;
-use ledger::amounts::are_amounts;
+use consumption::Closed;
+use consumption::close;
 use ledger::totals::energy_all;
 use rules::Amounts;
+use state::Run;
+use state::ground_refusal;
+use values::are_amounts;
 ghost use mathlib.Core.Path.{_≡_};
 ghost use Rattle.closing.specs.Answers.{grounds, refusalOf, closed, closingOf};
 

@@ -1,26 +1,12 @@
 // The closing figures of a started run: weighted consumption, range and recharge figure.
-use judge::Run;
+use consumption::Figure;
 use rules::Amounts;
 use rules::Charge;
+use state::Run;
 ghost use mathlib.Core.Path.{_≡_};
 ghost use Rattle.closing.specs.Answers.{refusalOf, weightedAnswer, rangeAnswer, rechargeAnswer};
 
 pub mod checks;
-pub mod figures;
-
-// A figure, no figure, or the number of a refusal.
-pub enum Figure {
-    Is(u64),
-    Absent,
-    Refused(u32),
-}
-
-// The closing of a run: W and the range, or the number of a refusal.
-pub struct Closed {
-    pub refusal: u32,
-    pub weighted: u64,
-    pub range: u64,
-}
 
 // Weighted consumption, in mWh/km.
 pub fn weighted(run: Run, amounts: Amounts, b: &[u8], ledger: &[i64], map: &[u64]) -> Figure
@@ -57,7 +43,7 @@ pub fn recharge(run: Run, amounts: Amounts, b: &[u8], ledger: &[i64], map: &[u64
         Charge::Absent => Figure::Absent,
         Charge::Wh(wh) => {
             let total = amounts.before + ledger::totals::energy_all(ledger);
-            figures::recharged(closing.range, total, amounts.after, wh)
+            consumption::recharged(closing.range, total, amounts.after, wh)
         }
     }
 }

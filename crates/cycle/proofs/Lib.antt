@@ -1,2 +1,1 @@
--- The laws that the cycle's functions cite.
-pub mod Window
+-- The cycle's functions cite the laws of `rules` and `numbers` alone.

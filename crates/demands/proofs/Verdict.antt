@@ -17,7 +17,7 @@ use Rattle.rules.specs.Band.{inside, below, above, verdict}
 use Rattle.rules.proofs.Band.{verdict-inside, verdict-below, verdict-above, verdict-zero}
 use Rattle.rules.proofs.Sound.{sound, real}
 use Rattle.bench.specs.Question.{question}
-use Rattle.judge.specs.Step.{State, positionNow, outNow}
+use Rattle.step.specs.Step.{State, positionNow, outNow}
 
 -- a question about a cycle, tolerances, position and speed within their limits
 module _ (b : List ℕ) (t : Tolerances) (p v : ℕ) (good : valid b ≡ true) (tolerated : tolerable t ≡ true) (there : p < positions b) (low : v ≤ 1500) where

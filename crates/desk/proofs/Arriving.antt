@@ -9,12 +9,12 @@ use lib.ListN.{length, take, drop, length-drop, take-append-drop}
 use lib.Dec.{lit<}
 use Rattle.numbers.specs.Tests.{unless}
 use Rattle.reader.specs.declared.Ending.the-variants as ended
-use Rattle.reader.specs.Opening.{OpenRead}
+use Rattle.opening.specs.Opening.{OpenRead}
 use Rattle.reader.specs.Answers.{endingOf}
-use Rattle.reader.specs.Records.{refused, blank, startRefused, begunBy, sheetOf}
-use Rattle.reader.proofs.Openings.{no-bytes}
-use Rattle.reader.proofs.Calls.{Lent}
-use Rattle.reader.proofs.Records.{Handed}
+use Rattle.records.specs.Records.{refused, blank, startRefused, begunBy, sheetOf}
+use Rattle.records.proofs.Openings.{no-bytes}
+use Rattle.records.proofs.Calls.{Lent}
+use Rattle.records.proofs.Records.{Handed}
 use Rattle.desk.specs.declared.Outcome.the-variants.{More, Refused}
 use Rattle.desk.specs.Feeding.{Laid, laidOf, emptyDesk, cycleOf, feedOf}
 use Rattle.desk.proofs.Short.{longest}

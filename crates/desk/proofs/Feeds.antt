@@ -12,32 +12,33 @@ use lib.IntN.{ℤ}
 use lib.ListN.{length, take, drop, length-drop, take-append-drop}
 use lib.Seq.{take-add, take-length}
 use Rattle.numbers.specs.Tests.{unless}
-use Rattle.numbers.proofs.Tests.{pass}
-use Rattle.judge.specs.declared.Run.{Run}
-use Rattle.judge.specs.Step.{startOf}
-use Rattle.judge.specs.Answers.{startRefusal}
-use Rattle.judge.proofs.Checked.{settled-taken}
-use Rattle.reader.specs.declared.Opening.{Opening}
-use Rattle.reader.specs.declared.OpenStep.{OpenStep}
-use Rattle.reader.specs.declared.OpenStep.the-variants as opening
-use Rattle.reader.specs.declared.Step.{Step}
-use Rattle.reader.specs.declared.Step.the-variants as step
-use Rattle.reader.specs.Reading.{fieldsOf}
-use Rattle.reader.specs.Opening.{Begun, Opened}
-use Rattle.reader.specs.declared.Reading.{Reading}
-use Rattle.reader.specs.Answers.{Held, hold, cycleIn, begunOf, openingOf, openOf, startedReading, offeredOf, takeBlock, taleOf, readGround, readAllOf, endingOf}
+use Rattle.numbers.proofs.Tests.{pass, settled-taken}
+use Rattle.state.specs.declared.Run.{Run}
+use Rattle.step.specs.Step.{startOf}
+use Rattle.state.specs.Refusals.{startRefusal}
+use Rattle.opening.specs.declared.Opening.{Opening}
+use Rattle.opening.specs.declared.OpenStep.{OpenStep}
+use Rattle.opening.specs.declared.OpenStep.the-variants as opening
+use Rattle.reading.specs.declared.Step.{Step}
+use Rattle.reading.specs.declared.Step.the-variants as step
+use Rattle.reading.specs.Reading.{fieldsOf}
+use Rattle.opening.specs.Opening.{Begun, Opened}
+use Rattle.reading.specs.declared.Reading.{Reading}
+use Rattle.opening.specs.Answers.{Held, hold, cycleIn, begunOf, openingOf, openOf}
+use Rattle.reading.specs.Answers.{startedReading, offeredOf, takeBlock, taleOf, readGround, readAllOf}
+use Rattle.reader.specs.Answers.{endingOf}
 use Rattle.reader.specs.declared.Ending.{Ending}
 use Rattle.reader.specs.declared.Ending.the-variants as ended
-use Rattle.reader.specs.Records.{refused, sheetOf}
-use Rattle.reader.proofs.Onwards.{Ends}
-use Rattle.reader.proofs.Accepted.{last-ends}
-use Rattle.reader.proofs.Openings.{by-open, starts}
-use Rattle.reader.proofs.Calls.{Lent, Until, Since, open-changes-nothing}
-use Rattle.reader.proofs.Calls.Until.{none as nothing-yet, field as opened-by}
-use Rattle.reader.proofs.Calls.Since.{begun as started-by, all as all-by}
-use Rattle.reader.proofs.Records.{Handed, until-ready, open-refused-longer, open-incomplete, record-tells, all-refused-longer, all-incomplete}
-use Rattle.reader.proofs.Kept.{until-begins}
-use Rattle.reader.proofs.Rooms.{onRoom}
+use Rattle.records.specs.Records.{refused, sheetOf}
+use Rattle.reading.proofs.Onwards.{Ends}
+use Rattle.reading.proofs.Accepted.{last-ends}
+use Rattle.records.proofs.Openings.{by-open, starts}
+use Rattle.records.proofs.Calls.{Lent, Until, Since, open-changes-nothing}
+use Rattle.records.proofs.Calls.Until.{none as nothing-yet, field as opened-by}
+use Rattle.records.proofs.Calls.Since.{begun as started-by, all as all-by}
+use Rattle.records.proofs.Records.{Handed, until-ready, open-refused-longer, open-incomplete, record-tells, all-refused-longer, all-incomplete}
+use Rattle.records.proofs.Kept.{until-begins}
+use Rattle.records.proofs.Rooms.{onRoom}
 use Rattle.desk.specs.declared.Desk.{Desk}
 use Rattle.desk.specs.declared.Outcome.{Outcome}
 use Rattle.desk.specs.declared.Outcome.the-variants.{More, Refused}

@@ -13,26 +13,26 @@ use Rattle.numbers.specs.Tests.{unless}
 use Rattle.numbers.proofs.Tests.{both}
 use Rattle.rules.specs.declared.Tolerances.{Tolerances}
 use Rattle.rules.specs.Bench.{mostOffered, mostPassed}
-use Rattle.judge.specs.Step.{State}
-use Rattle.judge.specs.Answers.{samplesIn, sampleAt, areSamples, isBlock}
-use Rattle.judge.proofs.Steps.{steps-offered}
+use Rattle.step.specs.Step.{State}
+use Rattle.blocks.specs.Blocks.{samplesIn, sampleAt, areSamples, isBlock}
+use Rattle.step.proofs.Steps.{steps-offered}
 use Rattle.fields.specs.Fields.{valueIn}
 use Rattle.fields.specs.Values.{isNumber, sameNumber, firstIn, samplesOf, energyIn, rechargeIn}
-use Rattle.reader.specs.declared.Content.{Content}
-use Rattle.reader.specs.declared.Content.the-variants.{Own, Foreign, Before, After, Recharge, Refused}
-use Rattle.reader.specs.declared.Reading.{Reading}
-use Rattle.reader.specs.declared.Step.the-variants as step
-use Rattle.reader.specs.Content.{energyMayStand, mayStand, blockContent, energyContent, rechargeContent, contentOf}
-use Rattle.reader.specs.Reading.{Tale, Answered, Read, stepOf, taleAfter, brought, fieldAt, upto, fieldsOf}
-use Rattle.reader.specs.Answers.{offeredOf, takeBlock, taleOf, readGround, readOf, readAllOf}
-use Rattle.reader.proofs.Brought.{own-block, block-bytes}
-use Rattle.reader.proofs.Onwards.{Uses, by-front, by-step}
-use Rattle.reader.proofs.Cuts.{field-ends}
+use Rattle.contents.specs.declared.Content.{Content}
+use Rattle.contents.specs.declared.Content.the-variants.{Own, Foreign, Before, After, Recharge, Refused}
+use Rattle.reading.specs.declared.Reading.{Reading}
+use Rattle.reading.specs.declared.Step.the-variants as step
+use Rattle.contents.specs.Content.{energyMayStand, mayStand, blockContent, energyContent, rechargeContent, contentOf}
+use Rattle.reading.specs.Reading.{Tale, Answered, Read, stepOf, taleAfter, brought, fieldAt, upto, fieldsOf}
+use Rattle.reading.specs.Answers.{offeredOf, takeBlock, taleOf, readGround, readOf, readAllOf}
+use Rattle.contents.proofs.Brought.{own-block, block-bytes}
+use Rattle.reading.proofs.Onwards.{Uses, by-front, by-step}
+use Rattle.reading.proofs.Cuts.{field-ends}
 use Rattle.reader.proofs.Answering.{grounded}
-use Rattle.reader.proofs.Calls.{Lent, Since}
-use Rattle.reader.proofs.Calls.Since.{begun as started-by, field as read-by, all as all-by}
-use Rattle.reader.proofs.Kept.{since-holds}
-use Rattle.reader.proofs.Records.{never-refused-1-or-2}
+use Rattle.records.proofs.Calls.{Lent, Since}
+use Rattle.records.proofs.Calls.Since.{begun as started-by, field as read-by, all as all-by}
+use Rattle.records.proofs.Kept.{since-holds}
+use Rattle.records.proofs.Records.{never-refused-1-or-2}
 use Rattle.desk.specs.Feeding.{mostFields}
 
 -- ---- an own block and an amount stand only before the place that they move on to

@@ -5,3 +5,4 @@ pub mod Few
 pub mod Feeds
 pub mod Arriving
 pub mod Promises
+pub mod FedAlone

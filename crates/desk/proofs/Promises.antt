@@ -1,8 +1,8 @@
--- What the promises of `empty` and `feed` determine: one answer and one memory, and a call that takes nothing changes nothing.
+-- A call of `feed` that takes nothing changes nothing.
 -- Assumes nothing.
 use mathlib.Core.Bool.{Bool, true, false, cond}
 use mathlib.Core.List.{List}
-use mathlib.Core.Path.{_≡_, refl, sym, ap, _∙_}
+use mathlib.Core.Path.{_≡_, refl, ap, _∙_}
 use Prim.Native.Nat.{ℕ, zero, suc, _+_}
 use native.Mathlib.Omega.{arith}
 use borrow.Author.Tests.{eqb-false}
@@ -11,40 +11,25 @@ use lib.IntN.{ℤ}
 use lib.ListN.{length, drop}
 use Rattle.numbers.specs.Tests.{unless}
 use Rattle.rules.specs.declared.Tolerances.{Tolerances}
-use Rattle.judge.specs.Step.{State}
-use Rattle.reader.specs.declared.OpenStep.{OpenStep}
-use Rattle.reader.specs.declared.OpenStep.the-variants as opening
-use Rattle.reader.specs.declared.Reading.{Reading}
-use Rattle.reader.specs.declared.Step.the-variants as step
-use Rattle.reader.specs.Reading.{Tale, Read, fieldAt, upto, fieldsOf}
-use Rattle.reader.specs.Opening.{Begun}
-use Rattle.reader.specs.Answers.{Held, openOf, offeredOf, takeBlock, taleOf, readingOf, readGround, readAllOf}
-use Rattle.reader.proofs.Onwards.{by-step}
-use Rattle.reader.proofs.Cuts.{field-size, field-ends}
-use Rattle.reader.proofs.Openings.{Stays}
-use Rattle.reader.proofs.Calls.{open-changes-nothing}
-use Rattle.desk.specs.declared.Desk.{Desk}
-use Rattle.desk.specs.declared.Fed.{Fed}
+use Rattle.step.specs.Step.{State}
+use Rattle.opening.specs.declared.OpenStep.{OpenStep}
+use Rattle.opening.specs.declared.OpenStep.the-variants as opening
+use Rattle.reading.specs.declared.Reading.{Reading}
+use Rattle.reading.specs.declared.Step.the-variants as step
+use Rattle.reading.specs.Reading.{Tale, Read, fieldAt, upto, fieldsOf}
+use Rattle.opening.specs.Opening.{Begun}
+use Rattle.opening.specs.Answers.{Held, openOf}
+use Rattle.reading.specs.Answers.{offeredOf, takeBlock, taleOf, readingOf, readGround, readAllOf}
+use Rattle.reading.proofs.Onwards.{by-step}
+use Rattle.reading.proofs.Cuts.{field-size, field-ends}
+use Rattle.records.proofs.Openings.{Stays}
+use Rattle.records.proofs.Calls.{open-changes-nothing}
 use Rattle.desk.specs.declared.Outcome.the-variants.{More, Refused}
-use Rattle.desk.specs.Feeding.{Laid, Taken, laidOf, emptyDesk, stops, behind, opensTo, openOne, goOn, openUpto, readTo, cycleOf, readOn, mostFields, thenRead, feedOf}
-use Rattle.desk.proofs.Turns.{Left, accepted-size, all-size}
+use Rattle.desk.specs.Feeding.{Laid, Taken, laidOf, stops, behind, opensTo, openOne, goOn, openUpto, readTo, cycleOf, readOn, mostFields, thenRead, feedOf}
+use Rattle.desk.proofs.Turns.{accepted-size, all-size}
 
--- ---- a second program that keeps the promise gives the same
-
-pub empty-one-answer : (d d′ : Desk) → d ≡ emptyDesk → d′ ≡ emptyDesk → d ≡ d′
-empty-one-answer d d′ p q = p ∙ sym q
-
--- the promise of `feed`: the answer, the room, the ledger and the map are these
-abbrev pub FeedPromise : Desk → List ℕ → List ℤ → List ℕ → List ℕ → Fed → List ℕ → List ℤ → List ℕ → Type 0
-FeedPromise d room l m i = Left (feedOf (laidOf d room l m) i)
-
-pub one-answer : (d : Desk) (room : List ℕ) (l : List ℤ) (m i : List ℕ) (r r′ : Fed) (u u′ : List ℕ) (v v′ : List ℤ) (w w′ : List ℕ)
-    → FeedPromise d room l m i r u v w → FeedPromise d room l m i r′ u′ v′ w′ → (r ≡ r′) × (u ≡ u′) × (v ≡ v′) × (w ≡ w′)
-one-answer d room l m i r r′ u u′ v v′ w w′ p q = (p .0 ∙ sym (q .0), p .1 .0 ∙ sym (q .1 .0), p .1 .1 .0 ∙ sym (q .1 .1 .0), p .1 .1 .1 ∙ sym (q .1 .1 .1))
-
--- ---- where nothing is taken, nothing changes
-
-none-opened : (x : Laid) (i : List ℕ) → openOne x i .used ≡ 0 → openOne x i .laid ≡ x
+-- a field until the start that is not accepted changes nothing
+pub none-opened : (x : Laid) (i : List ℕ) → openOne x i .used ≡ 0 → openOne x i .laid ≡ x
 unfolding openOne
 none-opened x i = go (openOf (x .desk .opening) (x .room) (x .ledger) (x .map) i .step) refl
   where

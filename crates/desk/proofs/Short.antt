@@ -13,25 +13,26 @@ use lib.ListN.{length, getD, take, drop, length-drop}
 use Rattle.numbers.specs.Bytes.{be}
 use Rattle.numbers.specs.Tests.{unless}
 use Rattle.rules.specs.declared.Tolerances.{Tolerances}
-use Rattle.judge.specs.Step.{State}
-use Rattle.judge.specs.declared.Run.{Run}
-use Rattle.judge.specs.Answers.{started, startRefusal}
+use Rattle.step.specs.Step.{State}
+use Rattle.state.specs.declared.Run.{Run}
+use Rattle.state.specs.Refusals.{started, startRefusal}
 use Rattle.fields.specs.declared.Front.{Front}
 use Rattle.fields.specs.declared.Front.the-variants.{Incomplete as incomplete, Impossible as impossible, Field as field}
 use Rattle.fields.specs.Fields.{isTag, isLength, isValue, valueIn, frontOf}
 use Rattle.fields.specs.Values.{tolerancesIn}
 use Rattle.fields.proofs.Fronts.{sizes}
-use Rattle.reader.specs.declared.Content.{Content}
-use Rattle.reader.specs.declared.Content.the-variants.{Own, Foreign, Before, After, Recharge, Refused}
-use Rattle.reader.specs.declared.Opening.{Opening}
-use Rattle.reader.specs.declared.OpenStep.the-variants as opening
-use Rattle.reader.specs.declared.Reading.{Reading}
-use Rattle.reader.specs.declared.Step.the-variants as step
-use Rattle.reader.specs.Reading.{Tale, Read, stepOf, brought, byFront, fieldAt, upto, fieldsOf}
-use Rattle.reader.specs.Opening.{openRefusal, openByFront, openAt}
-use Rattle.reader.specs.Answers.{hold, cycleIn, begunOf, openGround, openOf, offeredOf, takeBlock, taleOf, readGround, readAllOf}
-use Rattle.reader.proofs.Onwards.{by-step}
-use Rattle.reader.proofs.Cuts.{field-size}
+use Rattle.contents.specs.declared.Content.{Content}
+use Rattle.contents.specs.declared.Content.the-variants.{Own, Foreign, Before, After, Recharge, Refused}
+use Rattle.opening.specs.declared.Opening.{Opening}
+use Rattle.opening.specs.declared.OpenStep.the-variants as opening
+use Rattle.reading.specs.declared.Reading.{Reading}
+use Rattle.reading.specs.declared.Step.the-variants as step
+use Rattle.reading.specs.Reading.{Tale, Read, stepOf, brought, byFront, fieldAt, upto, fieldsOf}
+use Rattle.opening.specs.Opening.{openRefusal, openByFront, openAt}
+use Rattle.opening.specs.Answers.{hold, cycleIn, begunOf, openGround, openOf}
+use Rattle.reading.specs.Answers.{offeredOf, takeBlock, taleOf, readGround, readAllOf}
+use Rattle.reading.proofs.Onwards.{by-step}
+use Rattle.reading.proofs.Cuts.{field-size}
 
 -- how many bytes the longest field has
 abbrev pub longest : ℕ

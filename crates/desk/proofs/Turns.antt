@@ -14,21 +14,23 @@ use lib.Seq.{drop-drop}
 use Rattle.numbers.specs.Tests.{unless}
 use Rattle.numbers.proofs.Lists.{part-rest}
 use Rattle.numbers.proofs.Tests.{pass, stop}
-use Rattle.judge.specs.Step.{State, startOf}
-use Rattle.judge.specs.Answers.{startRefusal}
-use Rattle.reader.specs.declared.OpenAnswer.{OpenAnswer}
+use Rattle.step.specs.Step.{State, startOf}
+use Rattle.state.specs.Refusals.{startRefusal}
+use Rattle.opening.specs.declared.OpenAnswer.{OpenAnswer}
 use Rattle.reader.specs.declared.AllAnswer.{AllAnswer}
-use Rattle.reader.specs.declared.Opening.{Opening}
-use Rattle.reader.specs.declared.Reading.{Reading}
-use Rattle.reader.specs.declared.OpenStep.{OpenStep}
-use Rattle.reader.specs.declared.OpenStep.the-variants as opening
-use Rattle.reader.specs.declared.Step.the-variants as step
-use Rattle.reader.specs.Reading.{Tale, Read, fieldAt, upto, fieldsOf}
-use Rattle.reader.specs.Opening.{Opened, openAt}
-use Rattle.reader.specs.Answers.{Held, hold, cycleIn, begunOf, openGround, openOf, openAnswer, memoryAfter, offeredOf, takeBlock, taleOf, readGround, readAllOf, allAnswer}
-use Rattle.reader.proofs.Onwards.{by-step}
-use Rattle.reader.proofs.Cuts.{field-size, used-most}
-use Rattle.reader.proofs.Openings.{Accepts, open-size}
+use Rattle.opening.specs.declared.Opening.{Opening}
+use Rattle.reading.specs.declared.Reading.{Reading}
+use Rattle.opening.specs.declared.OpenStep.{OpenStep}
+use Rattle.opening.specs.declared.OpenStep.the-variants as opening
+use Rattle.reading.specs.declared.Step.the-variants as step
+use Rattle.reading.specs.Reading.{Tale, Read, fieldAt, upto, fieldsOf}
+use Rattle.opening.specs.Opening.{Opened, openAt}
+use Rattle.opening.specs.Answers.{Held, hold, cycleIn, begunOf, openGround, openOf, openAnswer, memoryAfter}
+use Rattle.reading.specs.Answers.{offeredOf, takeBlock, taleOf, readGround, readAllOf}
+use Rattle.reader.specs.Answers.{allAnswer}
+use Rattle.reading.proofs.Onwards.{by-step}
+use Rattle.reading.proofs.Cuts.{field-size, used-most}
+use Rattle.records.proofs.Openings.{Accepts, open-size}
 use Rattle.desk.specs.declared.Desk.{Desk}
 use Rattle.desk.specs.declared.Fed.{Fed}
 use Rattle.desk.specs.declared.Outcome.{Outcome}

@@ -8,16 +8,17 @@ use lib.IntN.{ℤ}
 use lib.ListN.{length, take, drop}
 use Rattle.numbers.specs.Tests.{unless}
 use Rattle.rules.specs.declared.End.the-variants.{None as none}
-use Rattle.judge.specs.declared.Run.{Run}
-use Rattle.judge.specs.Step.{State, startOf}
-use Rattle.reader.specs.declared.Opening.{Opening}
-use Rattle.reader.specs.declared.Step.{Step}
-use Rattle.reader.specs.declared.Step.the-variants as step
-use Rattle.reader.specs.declared.OpenStep.{OpenStep}
-use Rattle.reader.specs.declared.OpenStep.the-variants as opening
-use Rattle.reader.specs.Reading.{Read}
-use Rattle.reader.specs.Opening.{Opened}
-use Rattle.reader.specs.Answers.{Held, nothing, openingOf, openOf, memoryAfter, startedReading, readingOf, readAllOf}
+use Rattle.state.specs.declared.Run.{Run}
+use Rattle.step.specs.Step.{State, startOf}
+use Rattle.opening.specs.declared.Opening.{Opening}
+use Rattle.reading.specs.declared.Step.{Step}
+use Rattle.reading.specs.declared.Step.the-variants as step
+use Rattle.opening.specs.declared.OpenStep.{OpenStep}
+use Rattle.opening.specs.declared.OpenStep.the-variants as opening
+use Rattle.reading.specs.Reading.{Read}
+use Rattle.opening.specs.Opening.{Opened}
+use Rattle.opening.specs.Answers.{Held, nothing, openingOf, openOf, memoryAfter}
+use Rattle.reading.specs.Answers.{startedReading, readingOf, readAllOf}
 pub use Rattle.desk.specs.declared.Desk.{Desk}
 pub use Rattle.desk.specs.declared.Outcome.{Outcome}
 pub use Rattle.desk.specs.declared.Outcome.the-variants.{More, Refused}

@@ -1,17 +1,17 @@
 // A record's bytes as they arrive: every whole field goes to the reader, what is left over waits for more.
-use judge::Ends;
-use judge::Run;
-use reader::OpenAnswer;
-use reader::OpenStep;
-use reader::Opening;
-use reader::Reading;
-use reader::Step;
+use opening::OpenAnswer;
+use opening::OpenStep;
+use opening::Opening;
 use reader::blank;
 use reader::open;
 use reader::read_all;
 use reader::reading_of;
+use reading::Reading;
+use reading::Step;
 use rules::End;
 use rules::Tolerances;
+use state::Ends;
+use state::Run;
 ghost use mathlib.Core.Path.{_≡_};
 ghost use Prim.Native.Nat.{_+_, _≤_};
 ghost use Rattle.desk.specs.Feeding.{emptyDesk, laidOf, fedOf, outcomeOf, opensAs, openOne, openUpto, readOn, feedOf, mostFields};

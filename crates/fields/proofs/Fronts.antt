@@ -13,8 +13,8 @@ use lib.Seq.{length-take-le, take-append-le, drop-append-le}
 use Rattle.numbers.specs.Bytes.{be}
 use Rattle.numbers.proofs.Bytes.{be-left}
 use Rattle.numbers.proofs.Tests.{both, pass, stop, passed, first-or-rest}
-use Rattle.judge.specs.Answers.{isBlock}
-use Rattle.judge.proofs.Bytes.{block-of}
+use Rattle.blocks.specs.Blocks.{isBlock}
+use Rattle.blocks.proofs.Bytes.{block-of}
 use Rattle.fields.specs.Fields.{incomplete, impossible, field, isLength, isTag, isValue, valueIn, frontOf}
 
 -- ---- the table of tags

@@ -7,7 +7,7 @@ use lib.Dec.{leb, ltb, eqb}
 use lib.ListN.{length, getD, take, drop}
 use Rattle.numbers.specs.Bytes.{be}
 use Rattle.numbers.specs.Tests.{allBelow, unless}
-use Rattle.judge.specs.Answers.{isBlock}
+use Rattle.blocks.specs.Blocks.{isBlock}
 pub use Rattle.fields.specs.declared.Front.{Front}
 pub use Rattle.fields.specs.declared.Front.the-variants.{Incomplete as incomplete, Impossible as impossible, Field as field}
 

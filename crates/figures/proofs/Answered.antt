@@ -1,4 +1,4 @@
--- The answer of `figures_of`, by what the amounts' test and the judge's sums say; and that its promise determines it.
+-- The answer of `figures_of`, by what the amounts' test and the judge's sums say.
 -- Assumes nothing.
 use mathlib.Core.Bool.{Bool, true, false, cond, false≢true}
 use mathlib.Core.List.{List}
@@ -8,17 +8,16 @@ use native.Mathlib.Omega.{arith}
 use borrow.Author.Tests.{eqb-true, eqb-false}
 use lib.Dec.{eqb}
 use lib.IntN.{ℤ}
-use Rattle.numbers.proofs.Tests.{pass, stop}
+use Rattle.numbers.proofs.Tests.{pass, stop, settled-taken, settled-refused}
 use Rattle.rules.specs.declared.Amounts.{Amounts}
 use Rattle.rules.specs.Closing.{areAmounts}
-use Rattle.judge.specs.declared.Run.{Run}
+use Rattle.state.specs.declared.Run.{Run}
 use Rattle.judge.specs.declared.Sums.{Sums}
 use Rattle.judge.specs.declared.TotalsAnswer.the-variants.{Summed, Refused}
-use Rattle.judge.specs.State.{ground}
+use Rattle.state.specs.State.{ground}
 use Rattle.judge.specs.Answers.{sumsOf, totalsAnswer}
-use Rattle.judge.proofs.Checked.{settled-taken, settled-refused}
 use Rattle.closing.specs.Answers.{grounds}
-use Rattle.figures.specs.Figured.{Found, blank, nothing, withSums, foundOf}
+use Rattle.figures.specs.Figured.{blank, nothing, withSums, foundOf}
 
 -- what the answer of the judge says of its refusal's number
 totals-refused : (n : ℕ) (x : Sums) (k : ℕ) → totalsAnswer n x ≡ Refused k → (n ≡ k) × (k ≡ 0 → ⊥)
@@ -59,7 +58,3 @@ module _ (vehicle : List ℕ) (passed : ℕ) (a : Amounts) (r : Run) (b : List �
       let z : grounds r a b l m 0 ≡ 0 = sym (pass 1 ok refl) ∙ k in
       let f = settled-taken blank z in
       λ i. record { refusal = sym z i; figures = (ap (withSums vehicle passed a r b l m) (sym h) ∙ sym f) i }
-
-  -- a second program that keeps the promise gives the same
-  pub one-answer : (x x′ : Found) → x ≡ foundOf vehicle passed a r b l m → x′ ≡ foundOf vehicle passed a r b l m → x ≡ x′
-  one-answer x x′ p q = p ∙ sym q

@@ -2,3 +2,4 @@
 pub mod Answered
 pub mod OfRun
 pub mod Ended
+pub mod WiderFigures

@@ -9,7 +9,7 @@ use lib.IntN.{ℤ, pos, _+ℤ_}
 use lib.ListN.{length}
 use Rattle.numbers.proofs.Range.{fold-same}
 use Rattle.numbers.proofs.Sums.{sum-pos}
-use Rattle.numbers.proofs.Tests.{pass}
+use Rattle.numbers.proofs.Tests.{pass, settled-taken}
 use Rattle.rules.specs.declared.Amounts.{Amounts}
 use Rattle.rules.specs.declared.Sample.{Sample}
 use Rattle.rules.specs.declared.Tolerances.{Tolerances}
@@ -17,8 +17,7 @@ use Rattle.rules.specs.Closing.{areAmounts}
 use Rattle.rules.specs.Run.{sampleOf, finishedCycles, outside, judged}
 use Rattle.rules.specs.Shown.{figure}
 use Rattle.ledger.specs.Row.{outsideIn, outsideAll}
-use Rattle.judge.specs.declared.Run.{Run}
-use Rattle.judge.proofs.Checked.{settled-taken}
+use Rattle.state.specs.declared.Run.{Run}
 use Rattle.judge.proofs.Runs.{Reached, run-shows, never-refused}
 use Rattle.closing.specs.Answers.{grounds}
 use Rattle.closing.proofs.Joined.{weighted-of-run, range-of-run, recharge-of-run}

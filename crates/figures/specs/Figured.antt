@@ -12,11 +12,13 @@ use Rattle.rules.specs.declared.Tolerances.{Tolerances}
 use Rattle.rules.specs.Bench.{mostCycles}
 use Rattle.rules.specs.Run.{sampleOf, cycleEnergy, cycleDistance, energy, outside, counted, judged, ending, cycles}
 use Rattle.rules.specs.Closing.{wholeEnergy}
-use Rattle.judge.specs.declared.Run.{Run}
+use Rattle.state.specs.declared.Run.{Run}
 use Rattle.judge.specs.declared.Sums.{Sums}
-use Rattle.judge.specs.Answers.{settled, sumsOf}
-use Rattle.closing.specs.declared.Figure.the-variants.{Absent}
-use Rattle.closing.specs.Answers.{weightedBy, rangeBy, rechargeBy, grounds, weightedAnswer, rangeAnswer, rechargeAnswer}
+use Rattle.numbers.specs.Tests.{settled}
+use Rattle.judge.specs.Answers.{sumsOf}
+use Rattle.consumption.specs.declared.Figure.the-variants.{Absent}
+use Rattle.consumption.specs.Figures.{weightedBy, rangeBy, rechargeBy}
+use Rattle.closing.specs.Answers.{grounds, weightedAnswer, rangeAnswer, rechargeAnswer}
 use Rattle.sheet.specs.declared.Figures.{Figures}
 pub use Rattle.figures.specs.declared.Found.{Found}
 

@@ -1,12 +1,12 @@
 // The figures that the report prints of a started run.
-use closing::Figure;
-use judge::Run;
+use consumption::Figure;
 use judge::Sums;
 use judge::TotalsAnswer;
-use ledger::amounts::are_amounts;
 use rules::Amounts;
 use rules::End;
 use sheet::Figures;
+use state::Run;
+use values::are_amounts;
 ghost use mathlib.Core.Path.{_≡_};
 ghost use Rattle.figures.specs.Figured.{blank, nothing, withSums, foundOf};
 

@@ -14,7 +14,7 @@ use Rattle.rules.specs.declared.End.the-variants.{None as none, Stop as stop, L
 use Rattle.rules.specs.Cycle.{phases, phaseEnd}
 use Rattle.rules.specs.Tally.{room, counted, stopped, ending}
 use Rattle.rules.proofs.Sound.{Sound, rising}
-use Rattle.judge.specs.State.{endOrZero, endsOf, isProgress}
+use Rattle.state.specs.State.{endOrZero, endsOf, isProgress}
 
 pub progress-is : (ends : ℕ → Bool) (most n : ℕ) → isProgress (ending ends most n) most n (counted ends most n) ≡ true
 unfolding isProgress

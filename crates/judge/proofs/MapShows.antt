@@ -24,8 +24,8 @@ use Rattle.rules.specs.Run.{cycleOf, positionOf, ofCycle, out, outside}
 use Rattle.rules.specs.Shown.{lastJudged, marked}
 use Rattle.rules.proofs.Bounds.{cycle-most}
 use Rattle.rules.proofs.Sound.{Sound, real}
-use Rattle.ledger.specs.Map.{isSet, mark, opened, markedIf, onesOf}
-use Rattle.ledger.proofs.Marks.{set-mark, ones-mark, set-cleared, ones-cleared, length-opened, length-markedIf, drop-opened, drop-markedIf}
+use Rattle.map.specs.Map.{isSet, mark, opened, markedIf, onesOf}
+use Rattle.map.proofs.Marks.{set-mark, ones-mark, set-cleared, ones-cleared, length-opened, length-markedIf, drop-opened, drop-markedIf}
 
 -- a map that shows the cycle last judged of n judged samples, and is beyond its 750 words as m₀
 pub record MapShows (b : List ℕ) (t : Tolerances) (s : ℕ → Sample) (m₀ : List ℕ) (n : ℕ) (m : List ℕ) : Type 0 where

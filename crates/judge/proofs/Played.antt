@@ -21,8 +21,8 @@ use Rattle.rules.specs.Run.{cycleOf, out, over, most, counted, judged, ending}
 use Rattle.rules.specs.Shown.{marked}
 use Rattle.rules.proofs.Sound.{Sound, real}
 use Rattle.rules.proofs.Tally.{Tally, tallyOf, tally, counting, Turn, stands, stops, goes, turn, nothing-yet}
-use Rattle.ledger.proofs.Marks.{set-cleared, ones-cleared}
-use Rattle.judge.specs.Step.{State, passed, judge, step, steps, startOf}
+use Rattle.map.proofs.Marks.{set-cleared, ones-cleared}
+use Rattle.step.specs.Step.{State, passed, judge, step, steps, startOf}
 use Rattle.judge.proofs.LedgerShows.{LedgerShows, test-over, ledger-stops, ledger-goes}
 use Rattle.judge.proofs.MapShows.{MapShows, map-next}
 

@@ -1,4 +1,4 @@
--- What the promises of `start`, `sample` and `block` determine: one answer and one memory, and a refusal that changes nothing.
+-- The promises of `start`, `sample` and `block` say that a refusal changes nothing.
 -- Assumes nothing.
 use mathlib.Core.Bool.{Bool, true, false, cond, false≢true}
 use mathlib.Core.List.{List}
@@ -10,12 +10,13 @@ use borrow.Author.Tests.{eqb-true, eqb-false}
 use lib.IntN.{ℤ}
 use Rattle.rules.specs.declared.Sample.{Sample}
 use Rattle.rules.specs.declared.Tolerances.{Tolerances}
-use Rattle.judge.specs.State.{Run, ground}
-use Rattle.judge.specs.Step.{startOf, runOf}
-use Rattle.judge.specs.Answers.{settled, answered, startRefusal, started, sampleRefusal, afterSample, blockRefusal, afterBlock, countsOf, shownAnswer, sumsOf, totalsAnswer}
+use Rattle.state.specs.declared.Run.{Run}
+use Rattle.step.specs.Step.{startOf, runOf}
+use Rattle.numbers.specs.Tests.{settled}
+use Rattle.state.specs.Refusals.{startRefusal, started, sampleRefusal}
+use Rattle.judge.specs.Answers.{answered, afterSample, afterBlock}
+use Rattle.blocks.specs.Blocks.{blockRefusal}
 use Rattle.judge.specs.declared.Answer.{Answer}
-use Rattle.judge.specs.declared.ShownAnswer.{ShownAnswer}
-use Rattle.judge.specs.declared.TotalsAnswer.{TotalsAnswer}
 use Rattle.judge.specs.declared.Answer.the-variants.{Taken, Refused}
 
 -- the promise of a call on the memory l and m, with the number n of its refusal and the run r, ledger a and map c that it would leave:
@@ -26,11 +27,6 @@ pub record Promised (n : ℕ) (r : Run) (a : List ℤ) (c : List ℕ) (l : List 
   pub in-map : v ≡ settled n c m
 
 module _ (n : ℕ) (r : Run) (a : List ℤ) (c : List ℕ) (l : List ℤ) (m : List ℕ) where
-  -- a second program that keeps the promise gives the same
-  pub one-answer : (x x′ : Answer) (u u′ : List ℤ) (v v′ : List ℕ) → Promised n r a c l m x u v → Promised n r a c l m x′ u′ v′
-      → (x ≡ x′) × (u ≡ u′) × (v ≡ v′)
-  one-answer x x′ u u′ v v′ p q = (p .answer ∙ sym (q .answer), p .in-ledger ∙ sym (q .in-ledger), p .in-map ∙ sym (q .in-map))
-
   -- "A refusal returns its number and no figure; state, ledger, map .. stay exactly as they were."
   pub refused-changes-nothing : (k : ℕ) (x : Answer) (u : List ℤ) (v : List ℕ) → Promised n r a c l m x u v → x ≡ Refused k → (n ≡ k) × (u ≡ l) × (v ≡ m)
   refused-changes-nothing k x u v p e = go (eqb n 0) (sym e ∙ p .answer) (p .in-ledger) (p .in-map)
@@ -67,11 +63,3 @@ abbrev pub BlockPromise : Run → List ℕ → List ℤ → List ℕ → ℕ →
 BlockPromise r b l m first q =
     let a = afterBlock r b l m q in
     Promised (blockRefusal r b l m first q) (runOf r a) (a .ledger) (a .map) l m
-
--- `shown` and `totals` are lent nothing that they could change: their promise is one equation of the answer
-module _ (r : Run) (b : List ℕ) (l : List ℤ) (m : List ℕ) where
-  pub shown-one-answer : (x x′ : ShownAnswer) → x ≡ shownAnswer (ground r b l m 0) (countsOf r b l m) → x′ ≡ shownAnswer (ground r b l m 0) (countsOf r b l m) → x ≡ x′
-  shown-one-answer x x′ p q = p ∙ sym q
-
-  pub totals-one-answer : (x x′ : TotalsAnswer) → x ≡ totalsAnswer (ground r b l m 0) (sumsOf r b l) → x′ ≡ totalsAnswer (ground r b l m 0) (sumsOf r b l) → x ≡ x′
-  totals-one-answer x x′ p q = p ∙ sym q

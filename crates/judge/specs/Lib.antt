@@ -1,4 +1,2 @@
--- The judge's operations: what is refused, and what an accepted sample does.
-pub mod State
-pub mod Step
+-- The judge's operations: what is refused, and what is left of run and memory.
 pub mod Answers

@@ -19,12 +19,11 @@ use Rattle.numbers.specs.Lists.{plus}
 use Rattle.numbers.specs.Tests.{bit}
 use Rattle.numbers.specs.Whole.{between, Sized, Small}
 use Rattle.numbers.proofs.Lists.{set-either, put-set, put-getD}
-use Rattle.numbers.proofs.Tests.{both, all-at}
+use Rattle.numbers.proofs.Tests.{both, all-at, all-by}
 use Rattle.numbers.proofs.Whole.{of-nat, weaken, sized-add, small-plus, sized-between, sized-upto}
 use Rattle.rules.specs.Shown.{inBounds, mostEnergy, mostDistance, mostOutside}
 use Rattle.ledger.specs.Row.{at, bounded, outsideAdded, isOver, sampleAdded, energyIn, distanceIn, outsideIn, energyAll, outsideAll}
 use Rattle.numbers.proofs.Sums.{sized-sum, between-sum}
-use Rattle.numbers.proofs.Tests.{all-by}
 
 -- ---- one number
 

@@ -1,3 +1,2 @@
--- What is done to the lent memory, and what is read from it.
+-- The ledger's numbers: what is done to them, and what is read from them.
 pub mod Row
-pub mod Map

@@ -1,7 +1,4 @@
-// The lent memory of a run: the ledger of 64 cycles of nine numbers, and the map of a cycle's outside positions.
-pub mod amounts;
-pub mod map;
+// The lent ledger of a run: 64 cycles of nine numbers.
 pub mod row;
-pub mod sample;
 pub mod totals;
 pub mod whole;

@@ -1,5 +1,5 @@
 // The whole ledger.
-use super::sample::is_between;
+use values::is_between;
 ghost use mathlib.Core.Path.{_≡_};
 ghost use Prim.Native.Nat.{_≤_};
 ghost use lib.ListN.{length};

@@ -1,12 +1,12 @@
 // The closing figures at their limits: each is printed, and the gate compares it with what a script worked out from document 01's formulas.
-use closing::Figure;
-use judge::Ends;
-use judge::Run;
+use consumption::Figure;
 use libc::STDOUT_FILENO;
 use rules::Amounts;
 use rules::Charge;
 use rules::End;
 use rules::Tolerances;
+use state::Ends;
+use state::Run;
 
 // T = 2, one phase, points of 100.
 const CYCLE: [u8; 9] = [1, 0, 2, 0, 100, 0, 100, 0, 100];

@@ -11,9 +11,9 @@ use native.Mathlib.Omega.{arith}
 use lib.Dec.{T, T-not, leb, leb→le, le→leb}
 use lib.ListN.{length, getD, drop}
 use lib.Seq.{drop-cons}
-use borrow.Author.Tests.{lt-ltb, le-ltb, le-leb, lt-leb, eq-eqb}
+use borrow.Author.Tests.{lt-ltb, le-ltb, le-leb, lt-leb, eq-eqb, ne-eqb}
 use Rattle.numbers.specs.Range.{table}
-use Rattle.numbers.specs.Tests.{bit, allBelow, every, unless}
+use Rattle.numbers.specs.Tests.{bit, allBelow, every, unless, settled}
 
 -- ---- two tests
 
@@ -150,6 +150,14 @@ passed refusal answer t rest h e = ⊎-elim (λ f. absurd (h (f .1))) (λ p. p) 
 -- a chain of numbers that refuses nothing
 pub not-refused : (n : ℕ) (t : Bool) (rest : ℕ) → unless (suc n) t rest ≡ 0 → (t ≡ true) × (rest ≡ 0)
 not-refused n t rest e = passed (suc n) 0 t rest (λ (f : suc n ≡ 0). omega arith) e
+
+-- ---- by the number of a refusal
+
+pub settled-taken : {A : Type 0} {n : ℕ} {a : A} (b : A) → n ≡ 0 → settled n a b ≡ a
+settled-taken {n = n} b e = rw (eq-eqb n 0 e)
+
+pub settled-refused : {A : Type 0} {n : ℕ} (a : A) {b : A} → (n ≡ 0 → ⊥) → settled n a b ≡ b
+settled-refused {n = n} a h = rw (ne-eqb n 0 h)
 
 -- for `omega`, at a test of numbers
 pub ruleset tests = (arith, lt-ltb, le-ltb, le-leb, lt-leb, eq-eqb)

@@ -219,3 +219,18 @@ read-eq {w} {a = negsuc a} {b = negsuc b} h k = go (ℕ-discrete a b)
     go : Dec (a ≡ b) → eqb (2 ^ bits w - suc a) (2 ^ bits w - suc b) ≡ eqb a b
     go (yes e) = eq-eqb (2 ^ bits w - suc a) (2 ^ bits w - suc b) (ap (λ (n : ℕ). 2 ^ bits w - suc n) e) ∙ sym (eq-eqb a b e)
     go (no n) = ne-eqb (2 ^ bits w - suc a) (2 ^ bits w - suc b) (λ e. n (omega (arith, h .sfits, k .sfits, pow-bits w))) ∙ sym (ne-eqb a b n)
+
+-- a sum, as the machine forms it
+
+module _ (w : Width) {m n : ℕ} {x y : ℤ} (t : T (ltb (m + n) (2 ^ hbits w))) (s : Sized m x) (u : Sized n y) where
+  sum-parts : toZ w (ofZ w x) +ℤ toZ w (ofZ w y) ≡ x +ℤ y
+  sum-parts =
+      let v : Sized (m + n) x = weaken (omega arith) s in
+      let z : Sized (m + n) y = weaken (omega arith) u in
+      ap₂ _+ℤ_ (read (sfits w t v)) (read (sfits w t z))
+
+  pub sum-fits : SFits w (toZ w (ofZ w x) +ℤ toZ w (ofZ w y))
+  sum-fits = subst (λ (z : ℤ). SFits w z) (sym sum-parts) (sfits w t (sized-add s u))
+
+  pub sum-read : toZ w (ofZ w (toZ w (ofZ w x) +ℤ toZ w (ofZ w y))) ≡ x +ℤ y
+  sum-read = read sum-fits ∙ sum-parts

@@ -3,6 +3,7 @@
 use mathlib.Core.Bool.{Bool, true, false, _&&_, cond}
 use mathlib.Core.List.{List, [], _∷_}
 use Prim.Native.Nat.{ℕ, zero, suc}
+use lib.Dec.{eqb}
 
 -- 1 where the test passes, else 0
 abbrev pub bit : Bool → ℕ
@@ -22,3 +23,7 @@ every test (x ∷ xs) = test x && every test xs
 unfoldable pub unless : {A : Type 0} → A → Bool → A → A
 unless refusal true answer = answer
 unless refusal false answer = refusal
+
+-- by the number of the refusal, 0 where there is none: what is new, or what was
+abbrev pub settled : {A : Type 0} → ℕ → A → A → A
+settled n new old = cond (eqb n 0) new old

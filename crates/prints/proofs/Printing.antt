@@ -17,10 +17,11 @@ use Rattle.rules.specs.Closing.{areAmounts}
 use Rattle.fields.specs.Values.{isNumber}
 use Rattle.reader.specs.declared.Ending.{Ending}
 use Rattle.reader.specs.declared.Ending.the-variants as ending
-use Rattle.reader.specs.declared.Reading.{Reading}
-use Rattle.reader.specs.Answers.{isReading, readGround, endingOf}
-use Rattle.reader.specs.Records.{sheetOf}
-use Rattle.reader.proofs.Calls.{Lent}
+use Rattle.reading.specs.declared.Reading.{Reading}
+use Rattle.reading.specs.Answers.{isReading, readGround}
+use Rattle.reader.specs.Answers.{endingOf}
+use Rattle.records.specs.Records.{sheetOf}
+use Rattle.records.proofs.Calls.{Lent}
 use Rattle.sheet.specs.Text.{refusalText}
 use Rattle.figures.specs.Figured.{figuresBy}
 use Rattle.figures.proofs.OfRun.{figures-of-run}

@@ -7,9 +7,8 @@ use borrow.Author.Tests.{le-leb, lt-leb}
 use lib.Dec.{leb}
 use lib.ListN.{length}
 use Rattle.numbers.specs.Tests.{unless}
-use Rattle.judge.proofs.Checked.{settled-taken, settled-refused}
+use Rattle.numbers.proofs.Tests.{settled-taken, settled-refused}
 use Rattle.reader.specs.declared.Ending.{Ending}
-use Rattle.reader.specs.declared.Ending.the-variants as ending
 use Rattle.reader.specs.Answers.{endingOf}
 use Rattle.sheet.specs.Laid.{laid}
 use Rattle.sheet.specs.Text.{sheetText, mostSheet}

@@ -5,11 +5,11 @@ use mathlib.Core.List.{List}
 use Prim.Native.Nat.{ℕ, _+_}
 use lib.Dec.{leb, ltb}
 use lib.ListN.{length, take}
-use Rattle.judge.specs.Answers.{settled}
+use Rattle.numbers.specs.Tests.{settled}
 use Rattle.reader.specs.declared.Ending.{Ending}
 use Rattle.reader.specs.declared.Ending.the-variants as ending
 use Rattle.reader.specs.Answers.{endingOf}
-use Rattle.reader.specs.Records.{Sheet, told, refused}
+use Rattle.records.specs.Records.{Sheet, told, refused}
 use Rattle.sheet.specs.Text.{sheetText, refusalText}
 use Rattle.figures.specs.declared.Found.{Found}
 use Rattle.figures.specs.Figured.{foundOf, figuresBy}

@@ -5,23 +5,24 @@ use mathlib.Core.Path.{_≡_, refl, sym, ap, subst, subst⁻¹, _∙_}
 use Prim.Native.Nat.{ℕ, _≤_}
 use lib.IntN.{ℤ}
 use lib.ListN.{length}
-use Rattle.numbers.proofs.Tests.{not-refused}
+use Rattle.numbers.proofs.Tests.{not-refused, settled-taken, settled-refused}
 use Rattle.rules.specs.declared.Tolerances.{Tolerances}
-use Rattle.judge.specs.Step.{State}
-use Rattle.judge.specs.Answers.{settled}
+use Rattle.step.specs.Step.{State}
+use Rattle.numbers.specs.Tests.{settled}
 use Rattle.judge.proofs.Calls.{kept-ground}
-use Rattle.judge.proofs.Checked.{Ground, ground-passed, settled-taken, settled-refused}
-use Rattle.reader.specs.declared.Along.{Along}
-use Rattle.reader.specs.declared.Passage.{Passage}
+use Rattle.state.proofs.Checked.{Ground, ground-passed}
+use Rattle.reading.specs.declared.Along.{Along}
+use Rattle.reading.specs.declared.Passage.{Passage}
 use Rattle.reader.specs.declared.ReadAnswer.{ReadAnswer}
 use Rattle.reader.specs.declared.AllAnswer.{AllAnswer}
-use Rattle.reader.specs.declared.Reading.{Reading}
-use Rattle.reader.specs.declared.Step.the-variants.{Refused}
-use Rattle.reader.specs.declared.Stepped.{Stepped}
-use Rattle.reader.specs.Reading.{Answered, Read}
-use Rattle.reader.specs.Answers.{taleOf, readGround, readOf, readAllOf, readAnswer, allAnswer}
-use Rattle.reader.specs.Along.{alongAt, withAlong, frontAs, allAs, passageOf, Ready}
-use Rattle.reader.proofs.Taking.{Took}
+use Rattle.reading.specs.declared.Reading.{Reading}
+use Rattle.reading.specs.declared.Step.the-variants.{Refused}
+use Rattle.reading.specs.declared.Stepped.{Stepped}
+use Rattle.reading.specs.Reading.{Answered, Read}
+use Rattle.reading.specs.Answers.{taleOf, readGround, readOf, readAllOf}
+use Rattle.reader.specs.Answers.{readAnswer, allAnswer}
+use Rattle.reading.specs.Along.{alongAt, withAlong, frontAs, allAs, passageOf, Ready}
+use Rattle.reading.proofs.Taking.{Took}
 
 -- the passage r and the memory l and m are those of x
 abbrev pub Passed : List ℕ → Read State → Passage → List ℤ → List ℕ → Type 0

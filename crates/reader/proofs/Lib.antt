@@ -1,20 +1,2 @@
--- The laws of fields for a run of any kind, of a reading on its lent memory, and of whole records: what the calls hand the judge is what the bytes say.
-pub mod Onwards
-pub mod Brought
-pub mod Limits
-pub mod Related
-pub mod Cuts
-pub mod Foreign
-pub mod Accepted
-pub mod Taking
-pub mod Loop
+-- What a call of `read` and of `read_all` leaves.
 pub mod Answering
-pub mod Openings
-pub mod Starting
-pub mod Sheets
-pub mod ForeignRecords
-pub mod Rooms
-pub mod Calls
-pub mod Promises
-pub mod Kept
-pub mod Records

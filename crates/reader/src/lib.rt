@@ -1,70 +1,24 @@
 // The reader: a record's fields, in order, to the judge.
 use fields::Front;
 use fields::front_of;
-use judge::Going;
-use judge::Run;
+use opening::OpenAnswer;
+use opening::OpenStep;
+use opening::Opening;
+use reading::Reading;
+use reading::Step;
 use rules::Amounts;
 use rules::Charge;
+use state::Run;
 ghost use mathlib.Core.Path.{_≡_};
-ghost use Rattle.judge.specs.Step.{startOf};
-ghost use Rattle.reader.specs.Answers.{nothing, openOf, openAnswer, memoryAfter, startedReading, readOf, readAnswer, readAllOf, allAnswer, endingOf};
-
-pub mod begin;
-pub mod checks;
-pub mod contents;
-pub mod steps;
-
-// Until the start: how many of the first four fields are accepted, the vehicle, and how many bytes the cycle in the room has.
-pub struct Opening {
-    pub fields: u32,
-    pub vehicle: [u8; 17],
-    pub cycle: usize,
-}
-
-// After the start. Place in the order: 0 after the tolerances, 1 after a 6 before, 2 after an own block, 3 after a 6 after, 4 after a 7.
-pub struct Reading {
-    pub vehicle: [u8; 17],
-    pub place: u32,
-    pub passed: u32,
-    pub amounts: Amounts,
-    pub run: Run,
-}
-
-// What became of a field until the start: taken with so many bytes, taken and the run started, not finished, or the number of a refusal.
-pub enum OpenStep {
-    Taken(usize),
-    Started(usize, Run),
-    Incomplete,
-    Refused(u32),
-}
-
-// What became of a field after the start: taken with so many bytes, passed over, not finished, or the number of a refusal.
-pub enum Step {
-    Taken(usize),
-    Passed(usize),
-    Incomplete,
-    Refused(u32),
-}
-
-// What a field after the start brings: an own block, one to pass over, an amount, or the number of a refusal.
-pub enum Content {
-    Own,
-    Foreign,
-    Before(i64),
-    After(i64),
-    Recharge(u32),
-    Refused(u32),
-}
+ghost use Rattle.step.specs.Step.{startOf};
+ghost use Rattle.opening.specs.Answers.{nothing, openOf, openAnswer, memoryAfter};
+ghost use Rattle.reading.specs.Answers.{startedReading, readOf, readAllOf};
+ghost use Rattle.reader.specs.Answers.{readAnswer, allAnswer, endingOf};
 
 // Whether the input may end here.
 pub enum Ending {
     Whole,
     Refused(u32),
-}
-
-pub struct OpenAnswer {
-    pub step: OpenStep,
-    pub opening: Opening,
 }
 
 pub struct ReadAnswer {
@@ -75,28 +29,6 @@ pub struct ReadAnswer {
 // How many fields were accepted, how many bytes they took, and the answer after the last of them.
 pub struct AllAnswer {
     pub reading: Reading,
-    pub fields: usize,
-    pub used: usize,
-    pub last: Step,
-}
-
-// A reading while fields are taken: what changes in it, and where its run stands.
-pub struct Along {
-    pub place: u32,
-    pub passed: u32,
-    pub amounts: Amounts,
-    pub going: Going,
-}
-
-// The answer to a field, and the reading with it.
-pub struct Stepped {
-    pub step: Step,
-    pub along: Along,
-}
-
-// The reading with all fields of an input, how many they are, how many bytes they take, and the answer after the last of them.
-pub struct Passage {
-    pub along: Along,
     pub fields: usize,
     pub used: usize,
     pub last: Step,
@@ -126,9 +58,9 @@ pub fn open(
     ensures { λ _. ⌜ now (ledger .exit) ≡ memoryAfter (openOf opening (now (room .entry)) (now (ledger .entry)) (now (map .entry)) (now (input .entry)) .step) (startOf (now (ledger .entry)) (now (map .entry)) .ledger) (now (ledger .entry)) ⌝ }
     ensures { λ _. ⌜ now (map .exit) ≡ memoryAfter (openOf opening (now (room .entry)) (now (ledger .entry)) (now (map .entry)) (now (input .entry)) .step) (startOf (now (ledger .entry)) (now (map .entry)) .map) (now (map .entry)) ⌝ }
 {
-    let a = begin::open_refusal(opening, &room[..]);
+    let a = opening::open_refusal(opening, &room[..]);
     if a != 0 {
-        return begin::refused_at(opening, a);
+        return opening::refused_at(opening, a);
     }
     let front = front_of(input);
     match front {
@@ -136,8 +68,8 @@ pub fn open(
             step: OpenStep::Incomplete,
             opening,
         },
-        Front::Impossible => begin::refused_at(opening, 8),
-        Front::Field(tag, n) => begin::open_whole(
+        Front::Impossible => opening::refused_at(opening, 8),
+        Front::Field(tag, n) => opening::open_whole(
             opening,
             &mut *room,
             &mut *ledger,
@@ -178,7 +110,7 @@ pub fn read(
     ensures { λ _. ⌜ now (ledger .exit) ≡ readOf reading (now (b .entry)) (now (ledger .entry)) (now (map .entry)) (now (input .entry)) .tale .run .ledger ⌝ }
     ensures { λ _. ⌜ now (map .exit) ≡ readOf reading (now (b .entry)) (now (ledger .entry)) (now (map .entry)) (now (input .entry)) .tale .run .map ⌝ }
 {
-    let a = checks::read_refusal(reading, b, &ledger[..], &map[..]);
+    let a = reading::read_refusal(reading, b, &ledger[..], &map[..]);
     if a != 0 {
         return ReadAnswer {
             step: Step::Refused(a),
@@ -188,13 +120,13 @@ pub fn read(
     let me = reading.vehicle;
     let run = reading.run;
     let t = run.tolerances;
-    let k = checks::along_at(reading, b);
-    let x = steps::one_field(&me[..], b, t, k, &mut *ledger, &mut *map, input);
+    let k = reading::along_at(reading, b);
+    let x = reading::one_field(&me[..], b, t, k, &mut *ledger, &mut *map, input);
     let on = x.along;
     let step = x.step;
     ReadAnswer {
         step,
-        reading: checks::with_along(reading, on),
+        reading: reading::with_along(reading, on),
     }
 }
 
@@ -210,7 +142,7 @@ pub fn read_all(
     ensures { λ _. ⌜ now (ledger .exit) ≡ readAllOf reading (now (b .entry)) (now (ledger .entry)) (now (map .entry)) (now (input .entry)) .tale .run .ledger ⌝ }
     ensures { λ _. ⌜ now (map .exit) ≡ readAllOf reading (now (b .entry)) (now (ledger .entry)) (now (map .entry)) (now (input .entry)) .tale .run .map ⌝ }
 {
-    let a = checks::read_refusal(reading, b, &ledger[..], &map[..]);
+    let a = reading::read_refusal(reading, b, &ledger[..], &map[..]);
     if a != 0 {
         return AllAnswer {
             reading,
@@ -222,12 +154,12 @@ pub fn read_all(
     let me = reading.vehicle;
     let run = reading.run;
     let t = run.tolerances;
-    let k = checks::along_at(reading, b);
-    let x = steps::all_fields(&me[..], b, t, k, &mut *ledger, &mut *map, input);
+    let k = reading::along_at(reading, b);
+    let x = reading::all_fields(&me[..], b, t, k, &mut *ledger, &mut *map, input);
     let on = x.along;
     let last = x.last;
     AllAnswer {
-        reading: checks::with_along(reading, on),
+        reading: reading::with_along(reading, on),
         fields: x.fields,
         used: x.used,
         last,

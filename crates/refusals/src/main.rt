@@ -1,17 +1,17 @@
 // Refusals that no record brings, each by itself and beside its neighbour in document 01's order: 1 and 2 of lent memory, state and cycle, and 7.
-use judge::Ends;
-use judge::Run;
 use libc::STDOUT_FILENO;
-use reader::OpenStep;
-use reader::Opening;
-use reader::Reading;
-use reader::Step;
+use opening::OpenStep;
+use opening::Opening;
 use reader::blank;
 use reader::open;
 use reader::read;
 use reader::reading_of;
+use reading::Reading;
+use reading::Step;
 use rules::End;
 use rules::Tolerances;
+use state::Ends;
+use state::Run;
 
 // T = 2 and T = 3, one phase, points of 100.
 const CYCLE: [u8; 9] = [1, 0, 2, 0, 100, 0, 100, 0, 100];

@@ -4,7 +4,7 @@ use mathlib.Core.Bool.{Bool, true}
 use mathlib.Core.List.{List}
 use mathlib.Core.Path.{_≡_, ap, _∙_}
 use Prim.Native.Nat.{ℕ, _+_, _*_, _/_, _≤_, _<_, zero-le}
-use native.Mathlib.Nat.{le-trans, mod-lt, div-add-mod', add-zero, le-div-iff-mul-le, div-lt-iff-lt-mul}
+use native.Mathlib.Nat.{le-trans, mod-lt, div-add-mod', div-mul-le-self, add-zero, le-div-iff-mul-le, div-lt-iff-lt-mul}
 use native.Mathlib.Omega.{arith}
 use lib.Dec.{T, ltb, ltb→lt, leb→le, eqb→eq}
 use lib.IntN.{pos, _+ℤ_, +ℤ-idr}
@@ -14,7 +14,7 @@ use Rattle.numbers.proofs.Range.{gather-rest, gather-same, split, sum-ℕ, sum-
 use Rattle.numbers.proofs.Tests.{both-T, and-T, true-T}
 use Rattle.rules.specs.Bench.{Sample, drawn, distance}
 use Rattle.rules.specs.Cycle.{phases, phaseEnd, positions}
-use Rattle.rules.specs.Run.{cycleOf, positionOf, phaseOf, ofCycle, ofPhase, phaseFinished, cycleFinished, phaseEnergy, phaseDistance, cycleEnergy, cycleDistance, energy, energyShare, distanceShare, most}
+use Rattle.rules.specs.Run.{cycleOf, positionOf, phaseOf, ofCycle, ofPhase, finishedCycles, phaseFinished, cycleFinished, phaseEnergy, phaseDistance, cycleEnergy, cycleDistance, energy, energyShare, distanceShare, most}
 use Rattle.rules.proofs.Sound.{Sound, real, phase-before, phase-exists, four}
 
 -- where sample j stands, as one sum
@@ -36,6 +36,10 @@ cycle-past b c m o d j l t =
     let a = le-div-iff-mul-le {x = 1 + c} {y = m} (real o) .0 (omega (arith, ltb→lt c (m / positions b) d)) in
     let e = stands b c j t in
     omega (arith, mod-lt j (real o))
+
+-- where more samples count, no fewer cycles are finished
+pub finished-more : (b : List ℕ) → Sound b → (m m′ : ℕ) → m ≤ m′ → finishedCycles b m ≤ finishedCycles b m′
+finished-more b o m m′ l = le-div-iff-mul-le {x = m / positions b} {y = m′} (real o) .1 (le-trans (div-mul-le-self m (positions b)) l)
 
 -- A phase that is finished where m samples of s count is finished, with the same figures, where m′ of s′ do; and a cycle likewise.
 pub record PhaseKept (b : List ℕ) (c k : ℕ) (s s′ : ℕ → Sample) (m m′ : ℕ) : Type 0 where

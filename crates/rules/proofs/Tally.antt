@@ -38,6 +38,18 @@ module _ (ends : ℕ → Bool) (most : ℕ) where
   pub counted-le : (n : ℕ) → (counted ends most n ≤ n) × (counted ends most n ≤ most)
   counted-le n = let h = first-le ends (room most n) in (omega arith, omega arith)
 
+  -- a run that stopped, by how it ended
+  pub stopped-ending : (n : ℕ) → stopped ends most n ≡ true → ending ends most n ≡ stop
+  stopped-ending n e = rw e
+
+  pub ending-stopped : (n : ℕ) → ending ends most n ≡ stop → stopped ends most n ≡ true
+  ending-stopped n = go (stopped ends most n) (ltb (counted ends most n) most)
+    where
+      go : (x y : Bool) → cond x stop (cond y none limit) ≡ stop → x ≡ true
+      go true y e = refl
+      go false true e = absurd (false≢true cc)
+      go false false e = absurd (false≢true cc)
+
   pub data Turn (n : ℕ) : Type 0 where
     stands : isOpen (ending ends most n) ≡ false → tally (suc n) ≡ tally n → Turn n
     stops : n < most → tally n ≡ tallyOf n n none → ends n ≡ true → tally (suc n) ≡ tallyOf n (suc n) stop → Turn n
@@ -98,6 +110,15 @@ module _ (ends : ℕ → Bool) (most : ℕ) where
   pub nothing-yet : 0 < most → tally 0 ≡ tallyOf 0 0 none
   nothing-yet = no-stop-yet 0 (omega arith)
 
+-- ---- two runs that count as many, and both stopped or both did not
+
+module _ (ends ends′ : ℕ → Bool) (most n n′ : ℕ) (c : counted ends′ most n′ ≡ counted ends most n) (s : stopped ends′ most n′ ≡ stopped ends most n) where
+  pub judged-alike : judged ends′ most n′ ≡ judged ends most n
+  judged-alike = λ i. c i + bit (s i)
+
+  pub ending-alike : ending ends′ most n′ ≡ ending ends most n
+  ending-alike = λ i. cond (s i) stop (cond (ltb (c i) most) none limit)
+
 -- ---- a run that ends by fewer samples
 
 module _ (cycle : ℕ → ℕ) (out out′ : ℕ → Bool) (fewer : (j : ℕ) → T (out′ j) → T (out j)) where
@@ -115,6 +136,11 @@ module _ (ends ends′ : ℕ → Bool) (fewer : (j : ℕ) → T (ends′ j) → 
 
   pub stopped-fewer : T (stopped ends′ most n) → T (stopped ends most n)
   stopped-fewer = leb-mono (suc-le-suc counted-fewer) (le-refl _)
+
+  -- where none was, as many are counted
+  pub counted-all : stopped ends most n ≡ false → counted ends′ most n ≡ counted ends most n
+  counted-all e =
+      le-antisymm (omega (arith, first-le ends′ (room most n), ltb-false (counted ends most n) (room most n) e)) counted-fewer
 
 -- ---- a run that goes on: n samples, and n′ that begin with them
 

@@ -1,12 +1,14 @@
 -- What the weighing keeps: an order between two rates of every cycle holds of their weighings. So W lies between the least and the greatest rate.
 -- Assumes nothing.
-use mathlib.Core.Path.{_≡_}
+use mathlib.Core.Path.{_≡_, sym, ap, _∙_}
 use Prim.Native.Nat.{ℕ, zero, suc, _+_, _-_, _*_, _≤_, _<_}
 use native.Mathlib.Nat.{add-le-add, div-le-of-le-mul, le-div-iff-mul-le, mul-le-mul-left, mul-le-mul-right, mul-pos}
 use native.Mathlib.Omega.{arith}
+use borrow.Author.Tests.{le-ltb}
 use Rattle.numbers.specs.Range.{fold, sum}
-use Rattle.numbers.proofs.Range.{sum-le}
-use Rattle.rules.specs.Closing.{weighing, weight, weighted}
+use Rattle.numbers.proofs.Range.{fold-same, sum-le}
+use Rattle.numbers.proofs.Sums.{sum-more}
+use Rattle.rules.specs.Closing.{weighing, weight, share, weighted}
 
 module _ (k a : ℕ) where
   -- the sum of the rates k q + a: k times the sum of q, and a for each
@@ -19,6 +21,10 @@ module _ (k a : ℕ) where
   terms : (m e₁ e₂ r q₁ q₂ s : ℕ)
       → m * ((k * q₁ + a) * e₁ + (k * q₂ + a) * e₂) + r * (k * s + a * m) ≡ k * (m * (q₁ * e₁ + q₂ * e₂) + r * s) + a * ((e₁ + e₂ + r) * m)
   terms m e₁ e₂ r q₁ q₂ s = omega arith
+
+-- the shares of the first two rates, beside the others' sum t
+two-first : (m e₁ e₂ r q₁ q₂ s t : ℕ) → t ≡ r * s + 0 * m → m * (q₁ * e₁ + q₂ * e₂) + r * s ≡ 0 + e₁ * m * q₁ + e₂ * m * q₂ + t
+two-first m e₁ e₂ r q₁ q₂ s t h = omega (arith, h)
 
 module _ (E n : ℕ) (e : ℕ → ℕ) (fits : e 0 + e 1 ≤ E) where
   -- the weighing of the rates k q + a: k times the weighing of q, and a times the weight
@@ -42,6 +48,26 @@ module _ (E n : ℕ) (e : ℕ → ℕ) (fits : e 0 + e 1 ≤ E) where
       → k * weighing E n e x + a * weight E n ≤ l * weighing E n e y + b * weight E n
   weighings k a l b x y two h =
       rw (← weighing-linear k a x, ← weighing-linear l b y) (weighing-le (λ c. k * x c + a) (λ c. l * y c + b) two h)
+
+  -- the weighing is each rate by its cycle's share
+  pub weighing-by-shares : 2 ≤ n → (q : ℕ → ℕ) → weighing E n e q ≡ sum (λ c. share E n e c * q c) n
+  unfolding weighing fold
+  weighing-by-shares two q =
+      let r = E - e 0 - e 1 in
+      let m = n - 2 in
+      let f : ℕ → ℕ = λ c. share E n e c * q c in
+      let others : sum (λ c. f (2 + c)) m ≡ r * sum (λ c. q (2 + c)) m + 0 * m =
+      fold-same _+_ 0 _ (λ c. r * q (2 + c) + 0) m (λ c _. rw (le-ltb (2 + c) 2 (omega arith)) (omega arith)) ∙ sum-linear r 0 (λ c. q (2 + c)) m in
+      let all : 2 + m ≡ n = omega arith in
+      two-first m (e 0) (e 1) r (q 0) (q 1) (sum (λ c. q (2 + c)) m) _ others ∙ sym (sum-more f 2 m) ∙ ap (sum f) all
+
+  -- and the shares add up to the weight, as 000's weights add up to 1
+  pub shares-add-up : 2 ≤ n → sum (share E n e) n ≡ weight E n
+  shares-add-up two =
+      fold-same _+_ 0 (share E n e) (λ c. share E n e c * (0 * 0 + 1)) n (λ c _. omega arith)
+      ∙ sym (weighing-by-shares two (λ _. 0 * 0 + 1))
+      ∙ weighing-linear 0 1 (λ _. 0)
+      ∙ omega arith
 
 -- the weight is not 0
 pub weight-pos : (E n : ℕ) → 1 ≤ E → 3 ≤ n → 0 < weight E n

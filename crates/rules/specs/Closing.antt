@@ -1,10 +1,10 @@
 -- 'Closing figures', on whole numbers of any size: n finished cycles of energies e and distances d, the whole energy E. Place 0 is cycle 1.
 -- Assumes nothing.
-use mathlib.Core.Bool.{Bool, true, _&&_}
+use mathlib.Core.Bool.{Bool, true, cond, _&&_}
 use mathlib.Core.List.{List}
 use mathlib.Core.Path.{_≡_}
 use Prim.Native.Nat.{ℕ, _+_, _-_, _*_, _/_, _<_}
-use lib.Dec.{leb}
+use lib.Dec.{leb, ltb}
 use lib.IntN.{ℤ, pos, negℤ, _+ℤ_}
 use lib.Signed.{leZ, ltZ}
 use Rattle.numbers.specs.Range.{sum}
@@ -45,6 +45,10 @@ weighing E n e q = (n - 2) * (q 0 * e 0 + q 1 * e 1) + (E - e 0 - e 1) * sum (λ
 -- "E (n-2)"
 abbrev pub weight : ℕ → ℕ → ℕ
 weight E n = E * (n - 2)
+
+-- "Weights by 000, formula 9: e_1/E, e_2/E, and (1 - K_1 - K_2)/(n-2) for the others": the weight of a cycle is its share by E (n-2)
+abbrev pub share : ℕ → ℕ → (ℕ → ℕ) → ℕ → ℕ
+share E n e c = cond (ltb c 2) (e c * (n - 2)) (E - e 0 - e 1)
 
 -- "Weighted W = floor of" their quotient
 abbrev pub weighted : ℕ → ℕ → (ℕ → ℕ) → (ℕ → ℕ) → ℕ

@@ -2,5 +2,4 @@
 pub mod Digits
 pub mod Signs
 pub mod Laid
-pub mod Promises
 pub mod Rows

@@ -7,8 +7,8 @@ use lib.Dec.{eqb}
 use lib.IntN.{ℤ, pos, negℤ}
 use Rattle.rules.specs.declared.End.{End}
 use Rattle.rules.specs.declared.End.the-variants.{None as none, Stop as stop, Limit as limit}
-use Rattle.closing.specs.declared.Figure.{Figure}
-use Rattle.closing.specs.declared.Figure.the-variants.{Is, Absent, Refused}
+use Rattle.consumption.specs.declared.Figure.{Figure}
+use Rattle.consumption.specs.declared.Figure.the-variants.{Is, Absent, Refused}
 use Rattle.sheet.specs.Text.{Figures, sheetText, refusalText}
 
 pub data Row : Type 0 where

@@ -8,8 +8,8 @@ use lib.IntN.{ℤ, pos, negsuc}
 use Rattle.numbers.specs.Tests.{unless}
 use Rattle.rules.specs.declared.End.{End}
 use Rattle.rules.specs.declared.End.the-variants.{None as none, Stop as stop, Limit as limit}
-use Rattle.closing.specs.declared.Figure.{Figure}
-use Rattle.closing.specs.declared.Figure.the-variants.{Is, Absent, Refused}
+use Rattle.consumption.specs.declared.Figure.{Figure}
+use Rattle.consumption.specs.declared.Figure.the-variants.{Is, Absent, Refused}
 pub use Rattle.sheet.specs.declared.Figures.{Figures}
 
 -- a buffer of this many bytes holds every sheet and every refusal

@@ -1,5 +1,5 @@
 // The bytes that the report prints.
-use closing::Figure;
+use consumption::Figure;
 use rules::End;
 ghost use mathlib.Core.Path.{_≡_};
 ghost use lib.Dec.{leb};

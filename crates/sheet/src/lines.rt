@@ -4,7 +4,7 @@ use super::Figures;
 use super::text::put_number;
 use super::text::put_signed;
 use super::text::put_text;
-use closing::Figure;
+use consumption::Figure;
 use rules::End;
 ghost use mathlib.Core.Path.{_≡_};
 ghost use Prim.Native.Nat.{_+_, _≤_};

@@ -2,7 +2,7 @@
 -- Assumes nothing.
 use mathlib.Core.Path.{ap, sym, _∙_}
 use borrow.Author.Needs.{needs}
-use Rattle.closing.specs.Answers.{Closed}
+use Rattle.consumption.specs.declared.Closed.{Closed}
 use Rattle.closing.proofs.Grounds.{figure-refused, figure-taken}
 use Rattle.closing.proofs.range.Statement.{statement}
 use Rattle.closing.proofs.range.Tie as tie

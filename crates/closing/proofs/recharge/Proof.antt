@@ -10,8 +10,11 @@ use Rattle.numbers.proofs.Whole.{sfits, read}
 use Rattle.rules.specs.declared.Charge.{Charge}
 use Rattle.rules.specs.Closing.{isCharge}
 use Rattle.rules.specs.Run.{finishedCycles}
-use Rattle.judge.proofs.Checked.{settled-taken}
-use Rattle.closing.specs.Answers.{Figure, Closed, whole, refusalOf, closingOf, rechargedOf, rechargedBy}
+use Rattle.numbers.proofs.Tests.{settled-taken}
+use Rattle.consumption.specs.declared.Figure.{Figure}
+use Rattle.consumption.specs.declared.Closed.{Closed}
+use Rattle.closing.specs.Answers.{whole, refusalOf, closingOf}
+use Rattle.consumption.specs.Figures.{rechargedOf, rechargedBy}
 use Rattle.closing.proofs.Grounds.{figure-refused, Standing, nothing-refused, whole-fits, whole-read, Charged, range-is, closing-charged, charge-most, recharged-is}
 use Rattle.closing.proofs.recharge.Statement.{statement}
 use Rattle.closing.proofs.recharge.Tie as tie

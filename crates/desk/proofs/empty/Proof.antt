@@ -3,8 +3,8 @@
 use mathlib.Core.Bool.{false}
 use mathlib.Core.Path.{ap, _∙_}
 use borrow.Author.Needs.{needs}
-use Rattle.reader.specs.Answers.{startedReading}
-use Rattle.reader.specs.declared.Opening.{Opening}
+use Rattle.reading.specs.Answers.{startedReading}
+use Rattle.opening.specs.declared.Opening.{Opening}
 use Rattle.desk.specs.Feeding.{noRun}
 use Rattle.desk.proofs.empty.Statement.{statement}
 use Rattle.desk.proofs.empty.Tie as tie

@@ -4,8 +4,7 @@ use mathlib.Core.Path.{sym, ap}
 use Prim.Native.Nat.{_≤_}
 use native.Mathlib.Omega.{arith}
 use borrow.Author.Needs.{needs}
-use lib.ListN.{length}
-use lib.ListN.{take}
+use lib.ListN.{length, take}
 use lib.Seq.{length-take-le}
 use Rattle.reader.specs.declared.AllAnswer.{AllAnswer}
 use Rattle.desk.proofs.Turns.{short-room, read-left, all-size}

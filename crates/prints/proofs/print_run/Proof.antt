@@ -2,7 +2,6 @@
 -- Assumes nothing.
 use mathlib.Core.Path.{sym}
 use borrow.Author.Needs.{needs}
-use lib.ListN.{length}
 use lib.Seq.{length-take-le}
 use Rattle.desk.specs.Feeding.{Laid, laidOf}
 use Rattle.prints.proofs.Texts.{as-text, no-room, figures-refused, figures-found}

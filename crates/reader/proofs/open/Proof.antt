@@ -9,8 +9,8 @@ use lib.ListN.{length}
 use Rattle.fields.specs.declared.Front.the-variants.{Field as field}
 use Rattle.fields.specs.Fields.{isLength, frontOf}
 use Rattle.fields.proofs.Fronts.{Whole, sizes, front-whole, value-length, lent-value}
-use Rattle.reader.specs.Answers.{openGround}
-use Rattle.reader.proofs.Starting.{ground-refuses, ground-passes, whole-opens}
+use Rattle.opening.specs.Answers.{openGround}
+use Rattle.opening.proofs.Starting.{ground-refuses, ground-passes, whole-opens}
 use Rattle.reader.proofs.open.Statement.{statement}
 use Rattle.reader.proofs.open.Tie as tie
 

@@ -1,10 +1,10 @@
 -- `reader::read` meets its contract: a test that refuses leaves all as it was; else the input is read from where the run stands.
 -- Assumes nothing.
-use mathlib.Core.Path.{_≡_, sym, ap, _∙_}
+use mathlib.Core.Path.{_≡_, sym, _∙_}
 use native.Mathlib.Omega.{arith}
 use borrow.Author.Needs.{needs}
 use lib.ListN.{length}
-use Rattle.reader.specs.Answers.{readGround}
+use Rattle.reading.specs.Answers.{readGround}
 use Rattle.reader.proofs.Answering.{grounded, ready-at, read-refuses, read-taken}
 use Rattle.reader.proofs.read.Statement.{statement}
 use Rattle.reader.proofs.read.Tie as tie

@@ -4,7 +4,8 @@ use mathlib.Core.Path.{_≡_, sym, ap, ap₂, _∙_}
 use Prim.Native.Nat.{ℕ}
 use native.Mathlib.Omega.{arith}
 use borrow.Author.Needs.{needs}
-use Rattle.closing.specs.Answers.{closedOf, grounds}
+use Rattle.consumption.specs.Figures.{closedOf}
+use Rattle.closing.specs.Answers.{grounds}
 use Rattle.closing.proofs.Grounds.{Standing, standing, closing-refused, closing-taken, whole-fits, whole-read}
 use Rattle.closing.proofs.checks.closing_of.Statement.{statement}
 use Rattle.closing.proofs.checks.closing_of.Tie as tie

@@ -1,0 +1,2 @@
+-- The laws of the window.
+pub mod Window

@@ -1,0 +1,2 @@
+-- The laws of rates and weights.
+pub mod Weights

@@ -1,0 +1,76 @@
+-- The figures of n finished cycles: by the rules alone, and read off a ledger.
+-- Assumes nothing.
+use mathlib.Core.Bool.{true}
+use mathlib.Core.List.{List}
+use mathlib.Core.Path.{_≡_}
+use Prim.Native.Nat.{ℕ, _≤_}
+use lib.Dec.{leb}
+use lib.IntN.{ℤ, pos, _+ℤ_}
+use lib.Signed.{leZ, ltZ}
+use Rattle.numbers.specs.Tests.{allBelow, unless, settled}
+use Rattle.numbers.specs.Whole.{up}
+use Rattle.rules.specs.declared.Charge.{Charge}
+use Rattle.rules.specs.declared.Charge.the-variants.{Absent as absent, Wh as wh}
+use Rattle.rules.specs.Closing.{mostRate, isRate, rateOf, recharge, weightedFigure, rangeFigure, closingRefusal, rechargeFigure, rechargeRefusal}
+use Rattle.ledger.specs.Row.{bounded, energyIn, distanceIn}
+use Rattle.consumption.specs.declared.Closed.{Closed}
+use Rattle.consumption.specs.declared.Figure.{Figure}
+use Rattle.consumption.specs.declared.Figure.the-variants.{Is, Absent, Refused}
+
+-- ---- by the rules alone
+
+-- "A closing refusal gives `refused N` in place of `weighted`, a recharge refusal in place of `ac`": the number of a refusal, or the figure
+abbrev pub figureOr : ℕ → Figure → Figure
+figureOr n f = settled n f (Refused n)
+
+-- n finished cycles of energies e and distances d, the whole energy E
+module _ (E : ℤ) (n : ℕ) (e d : ℕ → ℤ) where
+  abbrev pub weightedBy : Figure
+  weightedBy = figureOr (closingRefusal E n e d) (Is (weightedFigure E n e d))
+
+  abbrev pub rangeBy : Figure
+  rangeBy = figureOr (closingRefusal E n e d) (Is (rangeFigure E n e d))
+
+  -- "A missing 7 gives the recharge figure "absent".": with F and the recharge
+  abbrev pub chargedBy : ℤ → Charge → Figure
+  chargedBy F absent = Absent
+  chargedBy F (wh A) = figureOr (rechargeRefusal E n e d F A) (Is (rechargeFigure E n e d F A))
+
+  -- "Recharge: whatever closing refuses, then absent, 14, 12."
+  abbrev pub rechargeBy : ℤ → Charge → Figure
+  rechargeBy F charge = figureOr (closingRefusal E n e d) (chargedBy F charge)
+
+-- ---- read off a ledger
+
+-- the two figures of n finished cycles with the whole energy E, or the number of the refusal
+unfoldable pub closedOf : List ℤ → ℕ → ℤ → Closed
+closedOf l n E =
+    let refusal = closingRefusal E n (energyIn l) (distanceIn l) in
+    record {
+      refusal = refusal;
+      weighted = settled refusal (weightedFigure E n (energyIn l) (distanceIn l)) 0;
+      range = settled refusal (rangeFigure E n (energyIn l) (distanceIn l)) 0;
+    }
+
+-- the recharge figure, where the closing refuses nothing
+unfoldable pub rechargedOf : List ℤ → ℕ → ℤ → ℤ → Charge → Figure
+rechargedOf l n E F absent = Absent
+rechargedOf l n E F (wh A) =
+    let refusal = rechargeRefusal E n (energyIn l) (distanceIn l) F A in
+    settled refusal (Is (rechargeFigure E n (energyIn l) (distanceIn l) F A)) (Refused refusal)
+
+-- what the tests up to 12 leave
+pub record Closable (l : List ℤ) (n : ℕ) : Type 0 where
+  pub bounded : bounded l ≡ true
+  pub most : n ≤ 64
+  pub three : 3 ≤ n
+  pub drawn : allBelow n (λ c. leZ (pos 1) (energyIn l c)) ≡ true
+  pub moved : allBelow n (λ c. ltZ (pos 0) (distanceIn l c)) ≡ true
+  pub rated : allBelow n (λ c. isRate (rateOf (energyIn l) (distanceIn l) c)) ≡ true
+
+-- 14, 12, or the recharge figure, of the range, the whole energy E, F and A
+unfoldable pub rechargedBy : ℕ → ℤ → ℤ → ℕ → Figure
+rechargedBy range E F A =
+    unless (Refused 14) (leZ (pos 1) (E +ℤ F))
+    (unless (Refused 12) (leb (recharge (up E) (up (E +ℤ F)) A range) mostRate)
+    (Is (recharge (up E) (up (E +ℤ F)) A range)))

@@ -1,0 +1,2 @@
+-- The figures of finished cycles.
+pub mod Figures

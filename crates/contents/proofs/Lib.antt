@@ -1,0 +1,2 @@
+-- What a content says of its field.
+pub mod Brought

@@ -1,0 +1,2 @@
+-- What a field after the start brings.
+pub mod Content

@@ -1,0 +1,11 @@
+-- No doubt about `bench`: each contract has one answer, and those of the operations ask nothing.
+-- Assumes nothing.
+use mathlib.Core.Path.{refl}
+use Rattle.bench.proofs.paperwhelk_verdict
+use Rattle.demands.proofs.NoDoubt.{AsksNothing, OneAnswer, same}
+
+pub paperwhelk-verdict-one-answer : OneAnswer paperwhelk_verdict.ended paperwhelk_verdict.Reads.Learnt
+paperwhelk-verdict-one-answer κs a r r′ w w′ p q = (same p q, refl)
+
+pub paperwhelk-verdict-asks-nothing : AsksNothing paperwhelk_verdict.ended paperwhelk_verdict.Reads.Asked
+paperwhelk-verdict-asks-nothing κs a = tt

@@ -1,0 +1,11 @@
+-- No doubt about `figures`: each contract has one answer, and those of the operations ask nothing.
+-- Assumes nothing.
+use mathlib.Core.Path.{refl}
+use Rattle.figures.proofs.figures_of
+use Rattle.demands.proofs.NoDoubt.{AsksNothing, OneAnswer, same}
+
+pub figures-of-one-answer : OneAnswer figures_of.ended figures_of.Reads.Learnt
+figures-of-one-answer κs a r r′ w w′ p q = (same p q, refl)
+
+pub figures-of-asks-nothing : AsksNothing figures_of.ended figures_of.Reads.Asked
+figures-of-asks-nothing κs a = tt

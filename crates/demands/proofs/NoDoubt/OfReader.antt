@@ -1,0 +1,47 @@
+-- No doubt about `reader`: each contract has one answer, and those of the operations ask nothing.
+-- Assumes nothing.
+use mathlib.Core.Path.{refl}
+use Rattle.reader.proofs.blank
+use Rattle.reader.proofs.open
+use Rattle.reader.proofs.reading_of
+use Rattle.reader.proofs.read
+use Rattle.reader.proofs.read_all
+use Rattle.reader.proofs.ended
+use Rattle.demands.proofs.NoDoubt.{AsksNothing, OneAnswer, same}
+
+pub blank-one-answer : OneAnswer blank.ended blank.Reads.Learnt
+blank-one-answer κs a r r′ w w′ p q = (same p q, refl)
+
+pub blank-asks-nothing : AsksNothing blank.ended blank.Reads.Asked
+blank-asks-nothing κs a = tt
+
+pub open-one-answer : OneAnswer open.ended open.Reads.Learnt
+open-one-answer κs a r r′ w w′ p q =
+    (same (p .0) (q .0), λ i. (tt, (tt, (same (p .1 .0) (q .1 .0) i, (same (p .1 .1 .0) (q .1 .1 .0) i, (same (p .1 .1 .1) (q .1 .1 .1) i, tt))))))
+
+pub open-asks-nothing : AsksNothing open.ended open.Reads.Asked
+open-asks-nothing κs a = tt
+
+pub reading-of-one-answer : OneAnswer reading_of.ended reading_of.Reads.Learnt
+reading-of-one-answer κs a r r′ w w′ p q = (same p q, refl)
+
+pub reading-of-asks-nothing : AsksNothing reading_of.ended reading_of.Reads.Asked
+reading-of-asks-nothing κs a = tt
+
+pub read-one-answer : OneAnswer read.ended read.Reads.Learnt
+read-one-answer κs a r r′ w w′ p q = (same (p .0) (q .0), λ i. (tt, (tt, (tt, (same (p .1 .0) (q .1 .0) i, (same (p .1 .1) (q .1 .1) i, tt))))))
+
+pub read-asks-nothing : AsksNothing read.ended read.Reads.Asked
+read-asks-nothing κs a = tt
+
+pub read-all-one-answer : OneAnswer read_all.ended read_all.Reads.Learnt
+read-all-one-answer κs a r r′ w w′ p q = (same (p .0) (q .0), λ i. (tt, (tt, (tt, (same (p .1 .0) (q .1 .0) i, (same (p .1 .1) (q .1 .1) i, tt))))))
+
+pub read-all-asks-nothing : AsksNothing read_all.ended read_all.Reads.Asked
+read-all-asks-nothing κs a = tt
+
+pub ended-one-answer : OneAnswer ended.ended ended.Reads.Learnt
+ended-one-answer κs a r r′ w w′ p q = (same p q, refl)
+
+pub ended-asks-nothing : AsksNothing ended.ended ended.Reads.Asked
+ended-asks-nothing κs a = tt

@@ -1,0 +1,32 @@
+-- No doubt about `reading`: each contract has one answer, and those of the operations ask nothing.
+-- Assumes nothing.
+use mathlib.Core.Path.{refl}
+use Rattle.reading.proofs.read_refusal
+use Rattle.reading.proofs.with_along
+use Rattle.reading.proofs.along_at
+use Rattle.reading.proofs.one_field
+use Rattle.reading.proofs.all_fields
+use Rattle.demands.proofs.NoDoubt.{AsksNothing, OneAnswer, same}
+
+pub read-refusal-one-answer : OneAnswer read_refusal.ended read_refusal.Reads.Learnt
+read-refusal-one-answer κs a r r′ w w′ p q = (same p q, refl)
+
+pub read-refusal-asks-nothing : AsksNothing read_refusal.ended read_refusal.Reads.Asked
+read-refusal-asks-nothing κs a = tt
+
+pub with-along-one-answer : OneAnswer with_along.ended with_along.Reads.Learnt
+with-along-one-answer κs a r r′ w w′ p q = (same p q, refl)
+
+pub with-along-asks-nothing : AsksNothing with_along.ended with_along.Reads.Asked
+with-along-asks-nothing κs a = tt
+
+pub along-at-one-answer : OneAnswer along_at.ended along_at.Reads.Learnt
+along-at-one-answer κs a r r′ w w′ p q = (same p q, refl)
+
+pub one-field-one-answer : OneAnswer one_field.ended one_field.Reads.Learnt
+one-field-one-answer κs a r r′ w w′ p q =
+    (same (p .0) (q .0), λ i. (tt, (tt, (tt, (tt, (same (p .1 .0) (q .1 .0) i, (same (p .1 .1) (q .1 .1) i, (tt, tt))))))))
+
+pub all-fields-one-answer : OneAnswer all_fields.ended all_fields.Reads.Learnt
+all-fields-one-answer κs a r r′ w w′ p q =
+    (same (p .0) (q .0), λ i. (tt, (tt, (tt, (tt, (same (p .1 .0) (q .1 .0) i, (same (p .1 .1) (q .1 .1) i, (tt, tt))))))))

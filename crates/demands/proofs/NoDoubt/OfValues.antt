@@ -1,0 +1,53 @@
+-- No doubt about `values`: each contract has one answer, and those of the operations ask nothing.
+-- Assumes nothing.
+use mathlib.Core.Path.{refl}
+use Rattle.values.proofs.is_tolerable
+use Rattle.values.proofs.is_transfer
+use Rattle.values.proofs.is_charge
+use Rattle.values.proofs.are_amounts
+use Rattle.values.proofs.is_between
+use Rattle.values.proofs.is_sample
+use Rattle.values.proofs.drawn_by
+use Rattle.demands.proofs.NoDoubt.{AsksNothing, OneAnswer, same}
+
+pub is-tolerable-one-answer : OneAnswer is_tolerable.ended is_tolerable.Reads.Learnt
+is-tolerable-one-answer κs a r r′ w w′ p q = (same p q, refl)
+
+pub is-tolerable-asks-nothing : AsksNothing is_tolerable.ended is_tolerable.Reads.Asked
+is-tolerable-asks-nothing κs a = tt
+
+pub is-transfer-one-answer : OneAnswer is_transfer.ended is_transfer.Reads.Learnt
+is-transfer-one-answer κs a r r′ w w′ p q = (same p q, refl)
+
+pub is-transfer-asks-nothing : AsksNothing is_transfer.ended is_transfer.Reads.Asked
+is-transfer-asks-nothing κs a = tt
+
+pub is-charge-one-answer : OneAnswer is_charge.ended is_charge.Reads.Learnt
+is-charge-one-answer κs a r r′ w w′ p q = (same p q, refl)
+
+pub is-charge-asks-nothing : AsksNothing is_charge.ended is_charge.Reads.Asked
+is-charge-asks-nothing κs a = tt
+
+pub are-amounts-one-answer : OneAnswer are_amounts.ended are_amounts.Reads.Learnt
+are-amounts-one-answer κs a r r′ w w′ p q = (same p q, refl)
+
+pub are-amounts-asks-nothing : AsksNothing are_amounts.ended are_amounts.Reads.Asked
+are-amounts-asks-nothing κs a = tt
+
+pub is-between-one-answer : OneAnswer is_between.ended is_between.Reads.Learnt
+is-between-one-answer κs a r r′ w w′ p q = (same p q, refl)
+
+pub is-between-asks-nothing : AsksNothing is_between.ended is_between.Reads.Asked
+is-between-asks-nothing κs a = tt
+
+pub is-sample-one-answer : OneAnswer is_sample.ended is_sample.Reads.Learnt
+is-sample-one-answer κs a r r′ w w′ p q = (same p q, refl)
+
+pub is-sample-asks-nothing : AsksNothing is_sample.ended is_sample.Reads.Asked
+is-sample-asks-nothing κs a = tt
+
+pub drawn-by-one-answer : OneAnswer drawn_by.ended drawn_by.Reads.Learnt
+drawn-by-one-answer κs a r r′ w w′ p q = (same p q, refl)
+
+pub drawn-by-asks-nothing : AsksNothing drawn_by.ended drawn_by.Reads.Asked
+drawn-by-asks-nothing κs a = tt

@@ -1,0 +1,2 @@
+-- What the demands compare.
+pub mod Compared

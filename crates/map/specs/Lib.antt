@@ -1,0 +1,2 @@
+-- The map of a cycle's outside positions.
+pub mod Map

@@ -1,0 +1,38 @@
+-- The answers to each of the first four fields where it stands in its order, on an opening with its lent room.
+-- Assumes nothing.
+use mathlib.Core.List.{List}
+use Prim.Native.Nat.{ℕ, _+_}
+use lib.IntN.{ℤ}
+use lib.ListN.{length, take}
+use Rattle.numbers.specs.Tests.{unless, settled}
+use Rattle.rules.specs.Cycle.{valid}
+use Rattle.state.specs.Refusals.{startRefusal, started}
+use Rattle.fields.specs.Values.{isNumber, tolerancesIn}
+use Rattle.opening.specs.declared.Opening.{Opening}
+use Rattle.opening.specs.declared.OpenAnswer.{OpenAnswer}
+use Rattle.opening.specs.declared.OpenStep.the-variants.{Taken, Started, Refused}
+
+abbrev pub refusedAt : Opening → ℕ → OpenAnswer
+refusedAt o number = record { step = Refused number; opening = o }
+
+abbrev pub numberAnswer : Opening → List ℕ → ℕ → OpenAnswer
+numberAnswer o v n =
+    unless (refusedAt o 4) (isNumber v)
+    (record { step = Taken n; opening = record { fields = o .fields + 1; vehicle = v; cycle = o .cycle } })
+
+abbrev pub cycleAnswer : Opening → List ℕ → ℕ → OpenAnswer
+cycleAnswer o v n =
+    unless (refusedAt o 2) (valid v)
+    (record { step = Taken n; opening = record { fields = o .fields + 1; vehicle = o .vehicle; cycle = length v } })
+
+abbrev pub startRefused : Opening → List ℕ → List ℤ → List ℕ → List ℕ → ℕ
+startRefused o room l m v = startRefusal (take (o .cycle) room) (tolerancesIn v) l m
+
+abbrev pub startAnswer : Opening → List ℕ → List ℤ → List ℕ → List ℕ → ℕ → OpenAnswer
+startAnswer o room l m v n =
+    settled (startRefused o room l m v)
+    (record {
+      step = Started n (started (take (o .cycle) room) (tolerancesIn v));
+      opening = record { fields = o .fields + 1; vehicle = o .vehicle; cycle = o .cycle };
+    })
+    (refusedAt o (startRefused o room l m v))

@@ -1,0 +1,82 @@
+-- A reading while fields are taken: its own numbers and where its run stands, beside the lent memory.
+-- Assumes nothing.
+use mathlib.Core.Bool.{true}
+use mathlib.Core.List.{List}
+use mathlib.Core.Path.{_≡_}
+use Prim.Native.Nat.{ℕ, _+_, _≤_}
+use lib.IntN.{ℤ}
+use lib.ListN.{length}
+use Rattle.rules.specs.declared.Tolerances.{Tolerances}
+use Rattle.step.specs.declared.Going.{Going}
+use Rattle.step.specs.Step.{State, Kept, held, standing, goingOf, withGoing}
+use Rattle.blocks.specs.Blocks.{samplesIn, areSamples}
+use Rattle.fields.specs.Values.{samplesOf}
+use Rattle.contents.specs.declared.Content.{Content}
+use Rattle.contents.specs.declared.Content.the-variants.{Own, Foreign}
+use Rattle.reading.specs.Reading.{Tale, Answered, Read, stepOf, withContent, placeAfter, taleAfter, brought, fieldAt, fieldsOf}
+use Rattle.reading.specs.declared.Reading.{Reading}
+use Rattle.reading.specs.Answers.{offeredOf, takeBlock}
+pub use Rattle.reading.specs.declared.Along.{Along}
+pub use Rattle.reading.specs.declared.Stepped.{Stepped}
+pub use Rattle.reading.specs.declared.Passage.{Passage}
+
+-- where a reading of the cycle b stands, and the reading taken on to where it stands now
+abbrev pub alongAt : Reading → List ℕ → Along
+alongAt r b = record { place = r .place; passed = r .passed; amounts = r .amounts; going = standing b (r .run .offered) (r .run .counted) (r .run .end) }
+
+abbrev pub withAlong : Reading → Along → Reading
+withAlong r k = record { vehicle = r .vehicle; place = k .place; passed = k .passed; amounts = k .amounts; run = withGoing (r .run) (k .going) }
+
+-- as what has been read, on the memory l and m; and back, for the cycle b
+abbrev pub taleAlong : Along → List ℤ → List ℕ → Tale State
+taleAlong k l m = record { place = k .place; passed = k .passed; amounts = k .amounts; run = held (k .going) l m }
+
+abbrev pub alongOf : List ℕ → Tale State → Along
+alongOf b x = record { place = x .place; passed = x .passed; amounts = x .amounts; going = goingOf b (x .run) }
+
+-- the answer to a field, and to all
+abbrev pub steppedOf : List ℕ → Answered State → Stepped
+steppedOf b x = record { step = x .step; along = alongOf b (x .tale) }
+
+abbrev pub passageOf : List ℕ → Read State → Passage
+passageOf b x = record { along = alongOf b (x .tale); fields = x .fields; used = x .used; last = x .last }
+
+-- an own block was taken, a block is passed over, an amount is brought
+abbrev pub withOwn : Along → Going → Along
+withOwn k g = record { place = 2; passed = k .passed; amounts = k .amounts; going = g }
+
+abbrev pub withPassed : Along → Along
+withPassed k = record { place = k .place; passed = k .passed + 1; amounts = k .amounts; going = k .going }
+
+abbrev pub withAmount : Along → Content → Along
+withAmount k c = record { place = placeAfter (k .place) c; passed = k .passed; amounts = withContent (k .amounts) c; going = k .going }
+
+module _ (b : List ℕ) (t : Tolerances) (k : Along) (l : List ℤ) (m : List ℕ) where
+  -- the content c of the value v, in a field of n bytes
+  abbrev pub takenAs : List ℕ → Content → ℕ → Answered State
+  takenAs v c n = record { step = stepOf c n; tale = taleAfter offeredOf (takeBlock b t) (taleAlong k l m) v c }
+
+  -- a whole field, of the vehicle me
+  abbrev pub wholeAs : List ℕ → ℕ → List ℕ → Answered State
+  wholeAs me tag v = takenAs v (brought offeredOf (takeBlock b t) me (taleAlong k l m) tag v) (3 + length v)
+
+  -- the field at the front of the input, and all of its whole fields
+  abbrev pub frontAs : List ℕ → List ℕ → Answered State
+  frontAs me i = fieldAt offeredOf (takeBlock b t) me (taleAlong k l m) i
+
+  abbrev pub allAs : List ℕ → List ℕ → Read State
+  allAs me i = fieldsOf offeredOf (takeBlock b t) me (taleAlong k l m) i
+
+-- what the content c of the value v brings may be taken
+pub record Brought (b : List ℕ) (t : Tolerances) (k : Along) (l : List ℤ) (m : List ℕ) (v : List ℕ) (c : Content) : Type 0 where
+  pub kept : Kept b t (k .going) l m
+  pub long : c ≡ Own → 21 ≤ length v
+  pub room : c ≡ Own → k .going .offered + samplesIn (samplesOf v) ≤ 4_000_000
+  pub samples : c ≡ Own → areSamples (samplesOf v) (samplesIn (samplesOf v)) ≡ true
+  pub count : c ≡ Foreign → k .passed + 1 ≤ 4_000_000
+
+-- what holds of a reading while fields are taken
+pub record Ready (me : List ℕ) (b : List ℕ) (t : Tolerances) (k : Along) (l : List ℤ) (m : List ℕ) : Type 0 where
+  pub number : 17 ≤ length me
+  pub kept : Kept b t (k .going) l m
+  pub few : k .going .offered ≤ 4_000_000

@@ -1,0 +1,365 @@
+// Fields after the start: the tests before them, one field, and all of an input.
+use blocks::take_block;
+use contents::Content;
+use contents::content_of;
+use fields::Front;
+use fields::front_of;
+use fields::is_number;
+use rules::Amounts;
+use rules::Charge;
+use rules::Tolerances;
+use state::Run;
+use state::ground_refusal;
+use step::Going;
+use step::place;
+use step::with_going;
+use values::are_amounts;
+ghost use mathlib.Core.Path.{_≡_};
+ghost use mathlib.Core.Bool.{true};
+ghost use Prim.Native.Nat.{_+_, _≤_};
+ghost use lib.ListN.{length};
+ghost use Rattle.rules.specs.Cycle.{valid, seconds};
+ghost use Rattle.fields.specs.Fields.{isLength};
+ghost use Rattle.contents.specs.declared.Content.the-variants.{Before, After, Recharge};
+ghost use Rattle.reading.specs.Reading.{bytesOf};
+ghost use Rattle.reading.specs.Answers.{isReading, readGround};
+ghost use Rattle.reading.specs.Along.{alongAt, withAlong, steppedOf, passageOf, withOwn, withPassed, withAmount, takenAs, wholeAs, frontAs, allAs, Brought, Ready};
+
+// After the start. Place in the order: 0 after the tolerances, 1 after a 6 before, 2 after an own block, 3 after a 6 after, 4 after a 7.
+pub struct Reading {
+    pub vehicle: [u8; 17],
+    pub place: u32,
+    pub passed: u32,
+    pub amounts: Amounts,
+    pub run: Run,
+}
+
+// What became of a field after the start: taken with so many bytes, passed over, not finished, or the number of a refusal.
+pub enum Step {
+    Taken(usize),
+    Passed(usize),
+    Incomplete,
+    Refused(u32),
+}
+
+// A reading while fields are taken: what changes in it, and where its run stands.
+pub struct Along {
+    pub place: u32,
+    pub passed: u32,
+    pub amounts: Amounts,
+    pub going: Going,
+}
+
+// The answer to a field, and the reading with it.
+pub struct Stepped {
+    pub step: Step,
+    pub along: Along,
+}
+
+// The reading with all fields of an input, how many they are, how many bytes they take, and the answer after the last of them.
+pub struct Passage {
+    pub along: Along,
+    pub fields: usize,
+    pub used: usize,
+    pub last: Step,
+}
+
+// Whether no number of the reader's own is beyond its limits.
+fn is_reading(r: Reading) -> bool
+    ensures { λ x. ⌜ x ≡ isReading r ⌝ }
+{
+    if 4 < r.place {
+        return false;
+    }
+    if 4_000_000 < r.passed {
+        return false;
+    }
+    let amounts = r.amounts;
+    if !are_amounts(amounts) {
+        return false;
+    }
+    let vehicle = r.vehicle;
+    is_number(&vehicle[..])
+}
+
+// 1 or 2, or 0 where a field may be looked at.
+pub fn read_refusal(r: Reading, b: &[u8], ledger: &[i64], map: &[u64]) -> u32
+    ensures { λ x. ⌜ x ≡ readGround r (now (b .entry)) (now (ledger .entry)) (now (map .entry)) ⌝ }
+{
+    if !is_reading(r) {
+        return 1;
+    }
+    let run = r.run;
+    ground_refusal(run, b, ledger, map)
+}
+
+// Where the reading stands.
+pub fn along_at(r: Reading, b: &[u8]) -> Along
+    requires { ⌜ (valid (now b) ≡ true) × (seconds (now b) ≡ r .run .seconds) ⌝ }
+    ensures { λ x. ⌜ x ≡ alongAt r (now (b .entry)) ⌝ }
+{
+    let run = r.run;
+    let amounts = r.amounts;
+    Along {
+        place: r.place,
+        passed: r.passed,
+        amounts,
+        going: place(b, run),
+    }
+}
+
+// The reading, taken on to where it stands now.
+pub fn with_along(r: Reading, k: Along) -> Reading
+    ensures { λ x. ⌜ x ≡ withAlong r k ⌝ }
+{
+    let vehicle = r.vehicle;
+    let run = r.run;
+    let amounts = k.amounts;
+    let going = k.going;
+    Reading {
+        vehicle,
+        place: k.place,
+        passed: k.passed,
+        amounts,
+        run: with_going(run, going),
+    }
+}
+
+// An own block was taken.
+fn with_own(k: Along, going: Going) -> Along
+    ensures { λ r. ⌜ r ≡ withOwn k going ⌝ }
+{
+    let amounts = k.amounts;
+    Along {
+        place: 2,
+        passed: k.passed,
+        amounts,
+        going,
+    }
+}
+
+// A block is passed over.
+fn with_passed(k: Along) -> Along
+    requires { ⌜ k .passed + 1 ≤ 4_000_000 ⌝ }
+    ensures { λ r. ⌜ r ≡ withPassed k ⌝ }
+{
+    let amounts = k.amounts;
+    let going = k.going;
+    Along {
+        place: k.place,
+        passed: k.passed + 1,
+        amounts,
+        going,
+    }
+}
+
+// Transfer energy before the test.
+fn with_before(k: Along, energy: i64) -> Along
+    ensures { λ r. ⌜ r ≡ withAmount k (Before energy) ⌝ }
+{
+    let a = k.amounts;
+    let going = k.going;
+    let charge = a.charge;
+    Along {
+        place: 1,
+        passed: k.passed,
+        amounts: Amounts {
+            before: energy,
+            after: a.after,
+            charge,
+        },
+        going,
+    }
+}
+
+// Transfer energy after the test.
+fn with_after(k: Along, energy: i64) -> Along
+    ensures { λ r. ⌜ r ≡ withAmount k (After energy) ⌝ }
+{
+    let a = k.amounts;
+    let going = k.going;
+    let charge = a.charge;
+    Along {
+        place: 3,
+        passed: k.passed,
+        amounts: Amounts {
+            before: a.before,
+            after: energy,
+            charge,
+        },
+        going,
+    }
+}
+
+// The recharge.
+fn with_recharge(k: Along, wh: u32) -> Along
+    ensures { λ r. ⌜ r ≡ withAmount k (Recharge wh) ⌝ }
+{
+    let a = k.amounts;
+    let going = k.going;
+    Along {
+        place: 4,
+        passed: k.passed,
+        amounts: Amounts {
+            before: a.before,
+            after: a.after,
+            charge: Charge::Wh(wh),
+        },
+        going,
+    }
+}
+
+// A field's content is taken; n is how many bytes the field has.
+fn take_content(
+    b: &[u8],
+    t: Tolerances,
+    k: Along,
+    ledger: &mut [i64],
+    map: &mut [u64],
+    v: &[u8],
+    c: Content,
+    n: usize,
+) -> Stepped
+    requires { ⌜ Brought (now b) t k (now ledger) (now map) (now v) c ⌝ }
+    ensures { λ r. ⌜ r ≡ steppedOf (now (b .entry)) (takenAs (now (b .entry)) t k (now (ledger .entry)) (now (map .entry)) (now (v .entry)) c n) ⌝ }
+    ensures { λ _. ⌜ now (ledger .exit) ≡ takenAs (now (b .entry)) t k (now (ledger .entry)) (now (map .entry)) (now (v .entry)) c n .tale .run .ledger ⌝ }
+    ensures { λ _. ⌜ now (map .exit) ≡ takenAs (now (b .entry)) t k (now (ledger .entry)) (now (map .entry)) (now (v .entry)) c n .tale .run .map ⌝ }
+{
+    match c {
+        Content::Own => {
+            let g = k.going;
+            let going = take_block(b, t, g, &mut *ledger, &mut *map, &v[21..]);
+            Stepped {
+                step: Step::Taken(n),
+                along: with_own(k, going),
+            }
+        }
+        Content::Foreign => Stepped {
+            step: Step::Passed(n),
+            along: with_passed(k),
+        },
+        Content::Before(energy) => Stepped {
+            step: Step::Taken(n),
+            along: with_before(k, energy),
+        },
+        Content::After(energy) => Stepped {
+            step: Step::Taken(n),
+            along: with_after(k, energy),
+        },
+        Content::Recharge(wh) => Stepped {
+            step: Step::Taken(n),
+            along: with_recharge(k, wh),
+        },
+        Content::Refused(x) => Stepped {
+            step: Step::Refused(x),
+            along: k,
+        },
+    }
+}
+
+// A whole field of an allowed length.
+fn whole_field(
+    me: &[u8],
+    b: &[u8],
+    t: Tolerances,
+    k: Along,
+    ledger: &mut [i64],
+    map: &mut [u64],
+    tag: u8,
+    v: &[u8],
+) -> Stepped
+    requires { ⌜ Ready (now me) (now b) t k (now ledger) (now map) × (isLength tag (length (now v)) ≡ true) ⌝ }
+    ensures { λ r. ⌜ r ≡ steppedOf (now (b .entry)) (wholeAs (now (b .entry)) t k (now (ledger .entry)) (now (map .entry)) (now (me .entry)) tag (now (v .entry))) ⌝ }
+    ensures { λ _. ⌜ now (ledger .exit) ≡ wholeAs (now (b .entry)) t k (now (ledger .entry)) (now (map .entry)) (now (me .entry)) tag (now (v .entry)) .tale .run .ledger ⌝ }
+    ensures { λ _. ⌜ now (map .exit) ≡ wholeAs (now (b .entry)) t k (now (ledger .entry)) (now (map .entry)) (now (me .entry)) tag (now (v .entry)) .tale .run .map ⌝ }
+{
+    let going = k.going;
+    let c = content_of(me, k.place, k.passed, going.offered, tag, v);
+    take_content(b, t, k, &mut *ledger, &mut *map, v, c, 3 + v.len())
+}
+
+// The field at the front of the input.
+pub fn one_field(
+    me: &[u8],
+    b: &[u8],
+    t: Tolerances,
+    k: Along,
+    ledger: &mut [i64],
+    map: &mut [u64],
+    input: &[u8],
+) -> Stepped
+    requires { ⌜ Ready (now me) (now b) t k (now ledger) (now map) ⌝ }
+    ensures { λ r. ⌜ r ≡ steppedOf (now (b .entry)) (frontAs (now (b .entry)) t k (now (ledger .entry)) (now (map .entry)) (now (me .entry)) (now (input .entry))) ⌝ }
+    ensures { λ _. ⌜ now (ledger .exit) ≡ frontAs (now (b .entry)) t k (now (ledger .entry)) (now (map .entry)) (now (me .entry)) (now (input .entry)) .tale .run .ledger ⌝ }
+    ensures { λ _. ⌜ now (map .exit) ≡ frontAs (now (b .entry)) t k (now (ledger .entry)) (now (map .entry)) (now (me .entry)) (now (input .entry)) .tale .run .map ⌝ }
+{
+    let front = front_of(input);
+    match front {
+        Front::Incomplete => Stepped {
+            step: Step::Incomplete,
+            along: k,
+        },
+        Front::Impossible => Stepped {
+            step: Step::Refused(8),
+            along: k,
+        },
+        Front::Field(tag, n) => {
+            whole_field(me, b, t, k, &mut *ledger, &mut *map, tag, &input[3..3 + n])
+        }
+    }
+}
+
+// How many bytes an accepted field has; 0 where the answer accepts none.
+fn bytes_of(step: Step) -> usize
+    ensures { λ r. ⌜ r ≡ bytesOf step ⌝ }
+{
+    match step {
+        Step::Taken(n) => n,
+        Step::Passed(n) => n,
+        Step::Incomplete => 0,
+        Step::Refused(_) => 0,
+    }
+}
+
+// All whole fields of the input.
+pub fn all_fields(
+    me: &[u8],
+    b: &[u8],
+    t: Tolerances,
+    k: Along,
+    ledger: &mut [i64],
+    map: &mut [u64],
+    input: &[u8],
+) -> Passage
+    requires { ⌜ Ready (now me) (now b) t k (now ledger) (now map) ⌝ }
+    ensures { λ r. ⌜ r ≡ passageOf (now (b .entry)) (allAs (now (b .entry)) t k (now (ledger .entry)) (now (map .entry)) (now (me .entry)) (now (input .entry))) ⌝ }
+    ensures { λ _. ⌜ now (ledger .exit) ≡ allAs (now (b .entry)) t k (now (ledger .entry)) (now (map .entry)) (now (me .entry)) (now (input .entry)) .tale .run .ledger ⌝ }
+    ensures { λ _. ⌜ now (map .exit) ≡ allAs (now (b .entry)) t k (now (ledger .entry)) (now (map .entry)) (now (me .entry)) (now (input .entry)) .tale .run .map ⌝ }
+{
+    let size = input.len();
+    let mut along = k;
+    let mut fields = 0;
+    let mut used = 0;
+    while used < size {
+        let x = one_field(me, b, t, along, &mut *ledger, &mut *map, &input[used..]);
+        along = x.along;
+        let last = x.step;
+        let n = bytes_of(last);
+        if n == 0 {
+            return Passage {
+                along,
+                fields,
+                used,
+                last,
+            };
+        }
+        fields += 1;
+        used += n;
+    }
+    Passage {
+        along,
+        fields,
+        used,
+        last: Step::Incomplete,
+    }
+}

@@ -1,0 +1,332 @@
+-- What every call on a record keeps: state and memory hold what the bytes so far tell.
+-- Assumes nothing.
+use mathlib.Core.Bool.{true}
+use mathlib.Core.List.{List, [], _++_}
+use mathlib.Core.Path.{_≡_, refl, sym, ap, subst, _∙_}
+use Prim.Native.Nat.{ℕ, suc, _+_, _-_, _≤_, zero-le}
+use native.Mathlib.Nat.{add-zero, le-refl}
+use native.Mathlib.Omega.{arith}
+use native.Mathlib.Numerals.{add-one}
+use borrow.Author.Tests.{le-leb}
+use lib.IntN.{ℤ}
+use lib.ListN.{length, take, drop, length-append}
+use lib.Seq.{length-take-le, drop-length}
+use Rattle.numbers.specs.Tests.{allBelow}
+use Rattle.numbers.proofs.Tests.{pass, settled-taken}
+use Rattle.rules.specs.declared.Sample.{Sample}
+use Rattle.rules.specs.Closing.{areAmounts}
+use Rattle.state.specs.declared.Run.{Run}
+use Rattle.step.specs.Step.{State, startOf, runOf}
+use Rattle.state.specs.Refusals.{startRefusal}
+use Rattle.blocks.proofs.Bytes.{taken-by}
+use Rattle.judge.proofs.Runs as runs
+use Rattle.judge.proofs.Runs.{Reached}
+use Rattle.fields.specs.Values.{isNumber, isCharacter}
+use Rattle.reading.specs.Reading.{Tale, Answered, Read, fieldAt, fieldsOf}
+use Rattle.opening.specs.Opening.{Begun, Opened, OpenRead, openOnwards}
+use Rattle.opening.specs.Answers.{Held, cycleIn, nothing, begunOf, openingOf, openOf}
+use Rattle.opening.specs.declared.Opening.{Opening}
+use Rattle.reading.specs.declared.Reading.{Reading}
+use Rattle.reading.specs.Answers.{noAmounts, startedReading, offeredOf, takeBlock, taleOf, readingOf, isReading, readGround, readOf, readAllOf}
+use Rattle.records.specs.Records.{Told, withBlock, startRefused, blank, openingIn, fieldsIn, sheetBy, begunBy, sheetOf}
+use Rattle.reading.specs.declared.Step.{Step}
+use Rattle.reading.specs.declared.Step.the-variants as step
+use Rattle.opening.specs.declared.OpenStep.{OpenStep}
+use Rattle.opening.specs.declared.OpenStep.the-variants as opening
+use Rattle.reading.proofs.Onwards.{Uses, Ends}
+use Rattle.records.proofs.Limits.{InLimits, in-limits}
+use Rattle.records.proofs.Related.{SameRead, same-fields}
+use Rattle.reading.proofs.Cuts.{resumed, field-size, used-most, cut}
+use Rattle.records.proofs.Openings as openings
+use Rattle.records.proofs.Openings.{openAll, Accepts, Stays, open-size, open-longer, open-cut-whole, open-taken, open-started, open-ends, starts}
+use Rattle.reading.proofs.Accepted as accepted
+use Rattle.reading.proofs.Accepted.{alone, fields-alone, one-alone, none-alone}
+use Rattle.records.proofs.Sheets.{withTale, further, Tells, sheet-longer, tells-longer}
+use Rattle.records.proofs.Rooms.{bare, inBytes, Ready, ready-ground, onRoom, same-field, ready-next}
+use Rattle.records.proofs.Calls.{Lent, Until, Since}
+use Rattle.records.proofs.Calls.Until.{none as nothing-yet, field as opened-by}
+use Rattle.records.proofs.Calls.Since.{begun as started-by, field as read-by, all as all-by}
+
+-- before the first field after the start
+abbrev untold : Tale (List Sample)
+untold = record { place = 0; passed = 0; amounts = noAmounts; run = [] }
+
+-- what a reading and its samples tell
+abbrev pub toldOf : Reading → List ℕ → List Sample → Told
+toldOf r b xs = record {
+  vehicle = r .vehicle;
+  cycle = b;
+  tolerances = r .run .tolerances;
+  tale = record { place = r .place; passed = r .passed; amounts = r .amounts; run = xs };
+}
+
+module _ (lent : Lent) where
+  abbrev l₀ : List ℤ
+  l₀ = lent .l₀
+
+  abbrev m₀ : List ℕ
+  m₀ = lent .m₀
+
+  -- ---- until the start
+
+  -- what the bytes q add to an opening
+  abbrev onward : Begun (List ℕ) → List ℕ → OpenRead (List ℕ)
+  onward = openAll (λ _ v. v) (λ b. b) startRefused
+
+  abbrev behind : ℕ → OpenRead (List ℕ) → OpenRead (List ℕ)
+  behind = openOnwards (λ _ v. v) (λ b. b) startRefused
+
+  -- what an opening on its room holds is what the bytes p tell
+  pub record Begins (p : List ℕ) (k : Begun Held) : Type 0 where
+    pub opened : openingIn p ≡ record { begun = bare k; used = length p; last = opening.Incomplete }
+    pub ready : Ready k
+
+  module _ (p : List ℕ) (k : Begun Held) (h : Begins p k) where
+    -- a call is its field, since nothing is refused before all else
+    call-is : (i : List ℕ) → openOf (openingOf k) (k .kept .room) l₀ m₀ i ≡ onRoom l₀ m₀ k i
+    unfolding openOf
+    call-is i = settled-taken _ (ready-ground k (h .ready))
+
+    -- its answer is that of the bytes alone
+    step-is : (i : List ℕ) → inBytes (bare k) i .step ≡ onRoom l₀ m₀ k i .step
+    step-is i = ap (λ (x : Opened (List ℕ)). x .step) (same-field l₀ m₀ (lent .long-ledger) (lent .long-map) k i)
+
+    -- and the bytes behind p are read on from there
+    opening-longer : (q : List ℕ) → openingIn (p ++ q) ≡ behind (length p) (onward (bare k) q)
+    opening-longer q =
+        open-cut-whole (λ _ v. v) (λ b. b) startRefused blank p q zero-le (ap (λ (x : OpenRead (List ℕ)). x .last) (h .opened))
+        (ap (λ (x : OpenRead (List ℕ)). x .used) (h .opened))
+        ∙ ap (λ (x : OpenRead (List ℕ)). behind (length p) (onward (x .begun) q)) (h .opened)
+
+    length-taken : (i : List ℕ) (n : ℕ) → Accepts (onRoom l₀ m₀ k i .step) n → length p + n ≡ length (p ++ take n i)
+    length-taken i n u = let s = open-size _ _ _ k i n u in omega (arith, length-append p (take n i), length-take-le n i (s .1))
+
+    begins-next : (i : List ℕ) (n : ℕ) → onRoom l₀ m₀ k i .step ≡ opening.Taken n
+        → Begins (p ++ take n i) (onRoom l₀ m₀ k i .begun)
+    begins-next i n e = record {
+      opened =
+          opening-longer (take n i)
+          ∙ ap (behind (length p)) (open-taken _ _ _ (bare k) i n (h .ready .few) (step-is i ∙ e))
+          ∙ (λ j. record { begun = same-field l₀ m₀ (lent .long-ledger) (lent .long-map) k i j .begun; used = length-taken i n (rw e refl) j; last = opening.Incomplete });
+      ready = ready-next l₀ m₀ (lent .long-ledger) (lent .long-map) k i n (h .ready) e;
+    }
+
+    -- a field that is not accepted ends the record
+    pub sheet-ends : (i : List ℕ) (s : OpenStep) → openOf (openingOf k) (k .kept .room) l₀ m₀ i .step ≡ s → Stays s
+        → sheetOf (p ++ i) ≡ begunBy s (bare k) (drop (length p) (p ++ i))
+    unfolding sheetOf
+    sheet-ends i s e f =
+        let t = step-is i ∙ sym (ap (λ (x : Opened Held). x .step) (call-is i)) ∙ e in
+        ap (λ (x : OpenRead (List ℕ)). begunBy (x .last) (x .begun) (drop (x .used) (p ++ i)))
+        (opening-longer i ∙ ap (behind (length p)) (open-ends _ _ _ (bare k) i (h .ready .few) s t f))
+        ∙ ap (λ (c : ℕ). begunBy s (bare k) (drop c (p ++ i))) (add-zero (length p))
+
+    -- one that is finished is the same, whatever follows it
+    pub call-longer : (i q : List ℕ) → (openOf (openingOf k) (k .kept .room) l₀ m₀ i .step ≡ opening.Incomplete → ⊥)
+        → openOf (openingOf k) (k .kept .room) l₀ m₀ (i ++ q) ≡ openOf (openingOf k) (k .kept .room) l₀ m₀ i
+    call-longer i q f =
+        call-is (i ++ q) ∙ open-longer _ _ _ k i q (λ e. f (ap (λ (x : Opened Held). x .step) (call-is i) ∙ e)) ∙ sym (call-is i)
+
+    -- the tolerances start the run
+    begins-start : (i : List ℕ) (n : ℕ) (r : Run) → onRoom l₀ m₀ k i .step ≡ opening.Started n r
+        → Tells (p ++ take n i) (record { vehicle = k .vehicle; cycle = cycleIn (k .kept); tolerances = r .tolerances; tale = untold }) 0
+    begins-start i n r e =
+        let s = step-is i ∙ e in
+        let gone = drop-length (p ++ take n i) in
+        record {
+          four = length (p ++ take n i);
+          fourth = n;
+          run = r;
+          opened =
+              opening-longer (take n i)
+              ∙ ap (behind (length p)) (open-started _ _ _ (bare k) i n r (h .ready .few) s)
+              ∙ (λ j. record { begun = starts _ _ _ (bare k) i n r s .begun j; used = length-taken i n (rw e refl) j; last = opening.Started n r });
+          tolerances = refl;
+          short = le-refl (length (p ++ take n i));
+          read =
+              ap (fieldsIn (k .vehicle)) gone ∙ accepted.no-bytes length withBlock (k .vehicle) untold
+              ∙ (λ j. record { tale = untold; fields = 0; used = length (sym gone j); last = step.Incomplete });
+        }
+
+  none-begins : Begins [] (begunOf nothing (lent .room₀))
+  unfolding isNumber isCharacter allBelow
+  none-begins = record {
+    opened = openings.no-bytes (λ _ v. v) (λ b. b) startRefused 4 blank;
+    ready = record { few = zero-le; size = zero-le; number = refl; room = lent .long-room };
+  }
+
+  pub until-begins : {p : List ℕ} {o : Opening} {room : List ℕ} → Until lent p o room → Begins p (begunOf o room)
+  until-begins nothing-yet = none-begins
+  until-begins (opened-by {p} {o} {room} h i n e) =
+      let b = until-begins h in
+      let c = call-is p (begunOf o room) b i in
+      subst (λ (x : Opened Held). Begins (p ++ take n i) (x .begun)) (sym c) (begins-next p (begunOf o room) b i n (sym (ap (λ (x : Opened Held). x .step) c) ∙ e))
+
+  -- ---- after it
+
+  -- the bytes p tell what the reading holds, and the run is that of their samples
+  pub record Holds (p b : List ℕ) (n : ℕ) (r : Reading) (l : List ℤ) (m : List ℕ) : Type 0 where
+    pub samples : List Sample
+    pub fields : ℕ
+    pub count : n ≡ 4 + fields
+    pub tells : Tells p (toldOf r b samples) fields
+    pub reached : Reached b (r .run .tolerances) l₀ m₀ samples (r .run) l m
+    pub limits : InLimits (taleOf r l m)
+    pub number : isNumber (r .vehicle) ≡ true
+
+  module _ (p b : List ℕ) (n : ℕ) (r : Reading) (l : List ℤ) (m : List ℕ) (h : Holds p b n r l m) where
+    is-reading : isReading r ≡ true
+    unfolding isReading
+    is-reading = rw (le-leb _ _ (h .limits .place), le-leb _ _ (h .limits .passed), h .limits .amounts, h .number)
+
+    pub ground-passed : readGround r b l m ≡ 0
+    unfolding readGround
+    ground-passed = sym (pass 1 is-reading (sym (runs.never-refused b (r .run .tolerances) l₀ m₀ (h .reached) 0)))
+
+    -- the run of the state a is that of the samples xs
+    Ran : State → List Sample → Type 0
+    Ran a xs = Reached b (r .run .tolerances) l₀ m₀ xs (runOf (r .run) a) (a .ledger) (a .map)
+
+    abbrev taking : State → List ℕ → State
+    taking = takeBlock b (r .run .tolerances)
+
+    abbrev read : List ℕ → Read State
+    read = fieldsOf offeredOf taking (r .vehicle) (taleOf r l m)
+
+    -- the same fields are read with the run as with its samples
+    same : (q : List ℕ) → SameRead Ran (read q) (further (toldOf r b (h .samples)) q)
+    unfolding Ran
+    same q =
+        same-fields offeredOf taking length withBlock Ran
+        (λ a xs g. runs.run-shows b (r .run .tolerances) l₀ m₀ g .offered)
+        (λ a xs g q block room samples.
+        runs.Reached.block g (a .offered) q
+        (taken-by (runOf (r .run) a) b (a .ledger) (a .map) (a .offered) q
+        (record { ground = runs.never-refused b (r .run .tolerances) l₀ m₀ g 0; block = block; first = refl; room = room; samples = samples })))
+        (r .vehicle) (taleOf r l m) _ q (record { place = refl; passed = refl; amounts = refl; run = h .reached })
+
+    -- the whole fields q more, as y was read of them
+    abbrev Then : List ℕ → Read State → Type 0
+    Then q y = Holds (p ++ q) b (n + y .fields) (readingOf r (y .tale)) (y .tale .run .ledger) (y .tale .run .map)
+
+    holds-read : (q : List ℕ) → read q .used ≡ length q → read q .last ≡ step.Incomplete → Then q (read q)
+    unfolding Ran
+    holds-read q u e =
+        let x = toldOf r b (h .samples) in
+        let s = same q in
+        let y = further x q .tale in
+        let k : Tale (List Sample) = record { place = read q .tale .place; passed = read q .tale .passed; amounts = read q .tale .amounts; run = y .run } in
+        let d : further x q ≡ record { tale = k; fields = read q .fields; used = length q; last = step.Incomplete } =
+        λ j. record {
+          tale = record { place = sym (s .tale .place) j; passed = sym (s .tale .passed) j; amounts = sym (s .tale .amounts) j; run = y .run };
+          fields = sym (s .fields) j;
+          used = (sym (s .used) ∙ u) j;
+          last = (sym (s .last) ∙ e) j;
+        } in
+        record {
+          samples = y .run;
+          fields = h .fields + read q .fields;
+          count = omega (arith, h .count);
+          tells = tells-longer p x (h .fields) (h .tells) q k (read q .fields) d;
+          reached = s .tale .run;
+          limits = in-limits offeredOf taking (r .vehicle) (length q) (taleOf r l m) q (h .limits);
+          number = h .number;
+        }
+
+    holds-next : (q : List ℕ) (y : Read State) → read q ≡ y → y .used ≡ length q → y .last ≡ step.Incomplete → Then q y
+    holds-next q y e u f =
+        subst (Then q) e (holds-read q (ap (λ (z : Read State). z .used) e ∙ u) (ap (λ (z : Read State). z .last) e ∙ f))
+
+    -- a call is its fields, since nothing is refused before all else
+    field-is : (i : List ℕ) → readOf r b l m i ≡ fieldAt offeredOf taking (r .vehicle) (taleOf r l m) i
+    unfolding readOf
+    field-is i = settled-taken _ ground-passed
+
+    all-is : (i : List ℕ) → readAllOf r b l m i ≡ read i
+    unfolding readAllOf
+    all-is i = settled-taken _ ground-passed
+
+    -- ---- the sheet of the longer record, by the answer of `read_all`
+
+    -- the samples are those before and those of the accepted blocks of i
+    pub record SheetAfter (i : List ℕ) (y : Read State) : Type 0 where
+      pub samples : List Sample
+      pub sheet : sheetOf (p ++ i) ≡ sheetBy (y .last) (toldOf (readingOf r (y .tale)) b samples) (n + y .fields) (length i - y .used)
+
+    pub sheet-after : (i : List ℕ) → SheetAfter i (readAllOf r b l m i)
+    sheet-after i =
+        let x = toldOf r b (h .samples) in
+        let s = same i in
+        let y = further x i in
+        let c : 4 + (h .fields + y .fields) ≡ n + read i .fields = omega (arith, h .count, s .fields) in
+        subst (SheetAfter i) (sym (all-is i)) (record {
+          samples = y .tale .run;
+          sheet =
+              sheet-longer p x (h .fields) (h .tells) i
+              ∙ (λ j.
+              sheetBy (sym (s .last) j)
+              (withTale x (record { place = sym (s .tale .place) j; passed = sym (s .tale .passed) j; amounts = sym (s .tale .amounts) j; run = y .tale .run }))
+              (c j) (length i - sym (s .used) j));
+        })
+
+    -- where a field is not accepted
+    pub all-ends : (i : List ℕ) (s : Step) → readOf r b l m i .step ≡ s → Ends s
+        → readAllOf r b l m i ≡ record { tale = taleOf r l m; fields = 0; used = 0; last = s }
+    all-ends i s e f =
+        all-is i
+        ∙ none-alone offeredOf taking (r .vehicle) (taleOf r l m) i s (sym (ap (λ (x : Answered State). x .step) (field-is i)) ∙ e) f
+
+    -- where one is refused, more bytes change nothing
+    pub all-longer : (i q : List ℕ) (x : ℕ) → readAllOf r b l m i .last ≡ step.Refused x → readAllOf r b l m (i ++ q) ≡ readAllOf r b l m i
+    all-longer i q x e =
+        let f = sym (ap (λ (y : Read State). y .last) (all-is i)) ∙ e in
+        all-is (i ++ q) ∙ cut offeredOf taking (r .vehicle) (taleOf r l m) i q
+        ∙ ap (λ (s : Step). resumed s (read i) (fieldsOf offeredOf taking (r .vehicle) (read i .tale) (drop (read i .used) i ++ q))) f
+        ∙ sym (all-is i)
+
+    -- ---- after a call that accepts fields
+
+    holds-field : (i : List ℕ) (k : ℕ) → Uses (readOf r b l m i .step) k
+        → Holds (p ++ take k i) b (suc n) (readingOf r (readOf r b l m i .tale)) (readOf r b l m i .tale .run .ledger) (readOf r b l m i .tale .run .map)
+    holds-field i k u =
+        let c = field-is i in
+        let v = subst (λ (x : Answered State). Uses (x .step) k) c u in
+        let s = field-size offeredOf taking (r .vehicle) (taleOf r l m) i k v in
+        subst (λ (x : Answered State). Holds (p ++ take k i) b (suc n) (readingOf r (x .tale)) (x .tale .run .ledger) (x .tale .run .map)) (sym c)
+        (rw add-one at
+        (holds-next (take k i) _ (one-alone offeredOf taking (r .vehicle) (taleOf r l m) i k v) (sym (length-take-le k i (s .1))) refl))
+
+    holds-all : (i : List ℕ) → Then (take (readAllOf r b l m i .used) i) (readAllOf r b l m i)
+    holds-all i =
+        let most : read i .used ≤ length i = used-most offeredOf taking (r .vehicle) (taleOf r l m) i in
+        subst (λ (y : Read State). Then (take (y .used) i) y) (sym (all-is i))
+        (holds-next (take (read i .used) i) (alone (read i)) (fields-alone offeredOf taking (r .vehicle) (taleOf r l m) i)
+        (sym (length-take-le (read i .used) i most)) refl)
+
+  no-amounts : areAmounts noAmounts ≡ true
+  unfolding areAmounts
+  no-amounts = refl
+
+  holds-start : (p : List ℕ) (k : Begun Held) → Begins p k → (i : List ℕ) (n : ℕ) (r : Run) → onRoom l₀ m₀ k i .step ≡ opening.Started n r
+      → Holds (p ++ take n i) (cycleIn (k .kept)) 4 (startedReading (k .vehicle) r) (startOf l₀ m₀ .ledger) (startOf l₀ m₀ .map)
+  holds-start p k h i n r e =
+      let w = starts _ _ (λ b t. startRefusal b t l₀ m₀) k i n r e in
+      record {
+        samples = [];
+        fields = 0;
+        count = refl;
+        tells = begins-start p k h i n r e;
+        reached =
+            subst (λ (y : Run). Reached (cycleIn (k .kept)) (y .tolerances) l₀ m₀ [] y (startOf l₀ m₀ .ledger) (startOf l₀ m₀ .map)) (sym (w .run))
+            (runs.Reached.start (w .granted));
+        limits = record { place = zero-le; passed = zero-le; amounts = no-amounts };
+        number = h .ready .number;
+      }
+
+  pub since-holds : {p b : List ℕ} {n : ℕ} {r : Reading} {l : List ℤ} {m : List ℕ} → Since lent p b n r l m → Holds p b n r l m
+  since-holds (started-by {p} {o} {room} h i n r e) =
+      let b = until-begins h in
+      let c = call-is p (begunOf o room) b i in
+      holds-start p (begunOf o room) b i n r (sym (ap (λ (x : Opened Held). x .step) c) ∙ e)
+  since-holds (read-by {p} {b} {n} {r} {l} {m} h i k u) = holds-field p b n r l m (since-holds h) i k u
+  since-holds (all-by {p} {b} {n} {r} {l} {m} h i) = holds-all p b n r l m (since-holds h) i

@@ -1,0 +1,2 @@
+-- A record as a whole.
+pub mod Records

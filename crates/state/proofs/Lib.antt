@@ -1,0 +1,2 @@
+-- What the tests before a run say.
+pub mod Checked

@@ -1,0 +1,3 @@
+-- A started run's state, its limits, and what is refused before it or its memory is touched.
+pub mod State
+pub mod Refusals

@@ -1,0 +1,62 @@
+-- A started run's state, its limits, and the tests that come before all others.
+-- Assumes nothing.
+use mathlib.Core.Bool.{Bool, cond, _&&_}
+use mathlib.Core.List.{List}
+use Prim.Native.Nat.{ℕ, _*_}
+use lib.Dec.{leb, ltb, eqb}
+use lib.IntN.{ℤ}
+use lib.ListN.{length}
+use Rattle.numbers.specs.Tests.{unless}
+use Rattle.rules.specs.declared.End.{End}
+use Rattle.rules.specs.declared.End.the-variants.{None as none, Stop as stop, Limit as limit}
+use Rattle.rules.specs.Bench.{tolerable, leastSeconds, mostSeconds, mostOffered, mostCycles}
+use Rattle.rules.specs.Cycle.{phases, phaseEnd, seconds, valid}
+use Rattle.rules.specs.Shown.{mapWords}
+use Rattle.ledger.specs.Row.{bounded}
+pub use Rattle.state.specs.declared.Ends.{Ends}
+pub use Rattle.state.specs.declared.Run.{Run}
+
+-- the end of phase k, and 0 where there is no such phase
+abbrev pub endOrZero : List ℕ → ℕ → ℕ
+endOrZero b k = cond (ltb k (phases b)) (phaseEnd b k) 0
+
+unfoldable pub endsOf : List ℕ → Ends
+endsOf b = record { first = endOrZero b 0; second = endOrZero b 1; third = endOrZero b 2; fourth = endOrZero b 3 }
+
+unfoldable pub sameEnds : Ends → Ends → Bool
+sameEnds d e = eqb (d .first) (e .first) && eqb (d .second) (e .second) && eqb (d .third) (e .third) && eqb (d .fourth) (e .fourth)
+
+-- how many samples can count: those of 64 cycles
+abbrev pub mostOf : Run → ℕ
+mostOf r = mostCycles * (20 * r .seconds)
+
+-- what the three ends say of the samples offered and counted
+unfoldable pub isProgress : End → ℕ → ℕ → ℕ → Bool
+isProgress none most offered counted = eqb counted offered && ltb counted most
+isProgress stop most offered counted = ltb counted offered && ltb counted most
+isProgress limit most offered counted = eqb counted most && leb most offered
+
+unfoldable pub areEnds : Ends → Bool
+areEnds e = leb (e .first) mostSeconds && leb (e .second) mostSeconds && leb (e .third) mostSeconds && leb (e .fourth) mostSeconds
+
+-- no number of the state is beyond its limits (docs/STATE.md)
+unfoldable pub isRun : Run → Bool
+isRun r =
+    leb leastSeconds (r .seconds)
+    && leb (r .seconds) mostSeconds
+    && areEnds (r .ends)
+    && tolerable (r .tolerances)
+    && leb (r .offered) mostOffered
+    && isProgress (r .end) (mostOf r) (r .offered) (r .counted)
+
+-- ledger and map are long enough, none of the 576 numbers is out of bounds, and none of the state's
+unfoldable pub isLent : Run → List ℤ → List ℕ → Bool
+isLent r l m = bounded l && leb mapWords (length m) && isRun r
+
+-- the cycle breaks no rule, and is the start's in T and phase ends
+unfoldable pub isStarts : Run → List ℕ → Bool
+isStarts r b = valid b && eqb (seconds b) (r .seconds) && sameEnds (endsOf b) (r .ends)
+
+-- "In a started run 1 and 2 come before all others"
+unfoldable pub ground : Run → List ℕ → List ℤ → List ℕ → ℕ → ℕ
+ground r b l m others = unless 1 (isLent r l m) (unless 2 (isStarts r b) others)

@@ -1,0 +1,228 @@
+// A started run's state, and the tests that come before it or its memory is touched.
+use cycle::end_of;
+use cycle::is_cycle;
+use cycle::seconds_of;
+use ledger::whole::is_bounded;
+use numbers::less;
+use numbers::wide;
+use rules::End;
+use rules::Sample;
+use rules::Tolerances;
+use values::is_sample;
+use values::is_tolerable;
+ghost use mathlib.Core.Path.{_≡_};
+ghost use mathlib.Core.Bool.{true};
+ghost use Prim.Native.Nat.{_<_};
+ghost use Rattle.rules.specs.Cycle.{seconds, valid};
+ghost use Rattle.state.specs.State.{endOrZero, endsOf, sameEnds, isProgress, areEnds, isRun, isLent, isStarts, ground};
+ghost use Rattle.state.specs.Refusals.{startRefusal, sampleRefusal, lastCycle};
+
+// The seconds at which the phases end; 0 for a phase that does not exist.
+pub struct Ends {
+    pub first: u16,
+    pub second: u16,
+    pub third: u16,
+    pub fourth: u16,
+}
+
+// A started run. Cycle and position are not in it: they are counted div N and counted mod N.
+pub struct Run {
+    pub seconds: u32,
+    pub ends: Ends,
+    pub tolerances: Tolerances,
+    pub offered: u32,
+    pub counted: u32,
+    pub end: End,
+}
+
+// The end of phase k, and 0 where there is no such phase.
+fn end_or_zero(b: &[u8], k: usize) -> u16
+    requires { ⌜ valid (now b) ≡ true ⌝ }
+    ensures { λ r. ⌜ r ≡ endOrZero (now (b .entry)) k ⌝ }
+{
+    if k < wide(b[0]) {
+        return end_of(b, k);
+    }
+    0
+}
+
+pub fn ends_of(b: &[u8]) -> Ends
+    requires { ⌜ valid (now b) ≡ true ⌝ }
+    ensures { λ r. ⌜ r ≡ endsOf (now (b .entry)) ⌝ }
+{
+    Ends {
+        first: end_or_zero(b, 0),
+        second: end_or_zero(b, 1),
+        third: end_or_zero(b, 2),
+        fourth: end_or_zero(b, 3),
+    }
+}
+
+fn are_same(d: Ends, e: Ends) -> bool
+    ensures { λ r. ⌜ r ≡ sameEnds d e ⌝ }
+{
+    if d.first != e.first {
+        return false;
+    }
+    if d.second != e.second {
+        return false;
+    }
+    if d.third != e.third {
+        return false;
+    }
+    d.fourth == e.fourth
+}
+
+fn are_ends(e: Ends) -> bool
+    ensures { λ r. ⌜ r ≡ areEnds e ⌝ }
+{
+    if 2400 < e.first {
+        return false;
+    }
+    if 2400 < e.second {
+        return false;
+    }
+    if 2400 < e.third {
+        return false;
+    }
+    e.fourth <= 2400
+}
+
+// Whether the samples offered and counted are such as the end says.
+fn is_progress(end: End, most: u32, offered: u32, counted: u32) -> bool
+    ensures { λ r. ⌜ r ≡ isProgress end most offered counted ⌝ }
+{
+    match end {
+        End::None => {
+            if counted != offered {
+                return false;
+            }
+            counted < most
+        }
+        End::Stop => {
+            if offered <= counted {
+                return false;
+            }
+            counted < most
+        }
+        End::Limit => {
+            if counted != most {
+                return false;
+            }
+            most <= offered
+        }
+    }
+}
+
+// Whether no number of the state is beyond its limits.
+fn is_run(run: Run) -> bool
+    ensures { λ r. ⌜ r ≡ isRun run ⌝ }
+{
+    if run.seconds < 2 {
+        return false;
+    }
+    if 2400 < run.seconds {
+        return false;
+    }
+    let ends = run.ends;
+    if !are_ends(ends) {
+        return false;
+    }
+    let tolerances = run.tolerances;
+    if !is_tolerable(tolerances) {
+        return false;
+    }
+    if 4_000_000 < run.offered {
+        return false;
+    }
+    let end = run.end;
+    is_progress(end, 64 * (20 * run.seconds), run.offered, run.counted)
+}
+
+// Whether ledger and map are long enough, and no number of ledger or state is out of bounds.
+fn is_lent(run: Run, ledger: &[i64], map: &[u64]) -> bool
+    ensures { λ r. ⌜ r ≡ isLent run (now (ledger .entry)) (now (map .entry)) ⌝ }
+{
+    if !is_bounded(ledger) {
+        return false;
+    }
+    if map.len() < 750 {
+        return false;
+    }
+    is_run(run)
+}
+
+// Whether the bytes are a cycle, the start's in T and phase ends.
+fn is_starts(run: Run, b: &[u8]) -> bool
+    ensures { λ r. ⌜ r ≡ isStarts run (now (b .entry)) ⌝ }
+{
+    if !is_cycle(b) {
+        return false;
+    }
+    if seconds_of(b) != run.seconds {
+        return false;
+    }
+    let ends = run.ends;
+    are_same(ends_of(b), ends)
+}
+
+// 1 or 2, or 0 where a started run's operation may go on.
+pub fn ground_refusal(run: Run, b: &[u8], ledger: &[i64], map: &[u64]) -> u32
+    ensures { λ r. ⌜ r ≡ ground run (now (b .entry)) (now (ledger .entry)) (now (map .entry)) 0 ⌝ }
+{
+    if !is_lent(run, ledger, map) {
+        return 1;
+    }
+    if !is_starts(run, b) {
+        return 2;
+    }
+    0
+}
+
+pub fn start_refusal(b: &[u8], t: Tolerances, ledger: &[i64], map: &[u64]) -> u32
+    ensures { λ r. ⌜ r ≡ startRefusal (now (b .entry)) t (now (ledger .entry)) (now (map .entry)) ⌝ }
+{
+    if ledger.len() < 576 {
+        return 1;
+    }
+    if map.len() < 750 {
+        return 1;
+    }
+    if !is_cycle(b) {
+        return 2;
+    }
+    if !is_tolerable(t) {
+        return 3;
+    }
+    0
+}
+
+pub fn sample_refusal(run: Run, b: &[u8], ledger: &[i64], map: &[u64], x: Sample) -> u32
+    ensures { λ r. ⌜ r ≡ sampleRefusal run (now (b .entry)) (now (ledger .entry)) (now (map .entry)) x ⌝ }
+{
+    let a = ground_refusal(run, b, ledger, map);
+    if a != 0 {
+        return a;
+    }
+    if 4_000_000 <= run.offered {
+        return 7;
+    }
+    if !is_sample(x) {
+        return 5;
+    }
+    0
+}
+
+// The cycle of the sample last judged.
+pub fn last_cycle(run: Run, b: &[u8]) -> usize
+    requires { ⌜ (valid (now b) ≡ true) × (seconds (now b) ≡ run .seconds) × (isRun run ≡ true) ⌝ }
+    ensures { λ r. ⌜ (r ≡ lastCycle run (now (b .entry))) × (r < 64) ⌝ }
+{
+    let n = 20 * run.seconds;
+    let end = run.end;
+    match end {
+        End::Stop => (run.counted / n) as usize,
+        End::None => (less(run.counted, 1) / n) as usize,
+        End::Limit => (less(run.counted, 1) / n) as usize,
+    }
+}

@@ -1,0 +1,3 @@
+-- The laws of where a run stands, and of accepted samples.
+pub mod Standing
+pub mod Steps

@@ -1,0 +1,14 @@
+-- `step::next_cycle` meets its contract: each answer rewrites with the test that led there.
+-- Assumes nothing.
+use borrow.Author.Tests.{lt-ltb, le-ltb}
+use Rattle.step.proofs.next_cycle.Statement.{statement}
+use Rattle.step.proofs.next_cycle.Tie as tie
+
+returns : tie.Need-returns
+returns c = rw (lt-ltb _ 64 (c .if1 .taken))
+
+returns-2 : tie.Need-returns-2
+returns-2 c = rw (le-ltb _ 64 (c .if1 .left))
+
+pub next-cycle-spec : {M : Type 1} → statement M
+next-cycle-spec = tie.close (tie.spec returns returns-2)

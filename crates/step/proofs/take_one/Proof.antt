@@ -1,0 +1,90 @@
+-- `step::take_one` meets its contract: by the run's end the sample is judged or passed by.
+-- Assumes nothing.
+use mathlib.Core.Bool.{false}
+use mathlib.Core.Path.{_≡_, sym, ap, _∙_}
+use Prim.Native.Nat.{_+_}
+use borrow.Author.Needs.{needs}
+use Rattle.rules.specs.Bench.{isOpen}
+use Rattle.step.specs.Step.{State, Going, step, goingOf, held}
+use Rattle.step.proofs.Steps.{step-open, step-ended, passed-is}
+use Rattle.step.proofs.take_one.Statement.{statement}
+use Rattle.step.proofs.take_one.Tie as tie
+
+-- the state at the entry, and after the sample
+abbrev before : tie.Start → State
+before s = held (s .args .g) (s .args .ledger .now) (s .args .map .now)
+
+abbrev after : tie.Start → State
+after s = step (s .args .b .now) (s .args .t) (before s) (s .args .x)
+
+module _ (s : tie.Start) where
+  -- where it stands after a sample that is passed by, and its memory
+  by : (r : Going) → isOpen (s .args .g .end) ≡ false
+      → r ≡ record { offered = s .args .g .offered + 1; counted = s .args .g .counted; end = s .args .g .end; cycle = s .args .g .cycle; position = s .args .g .position; phase = s .args .g .phase }
+      → (r ≡ goingOf (s .args .b .now) (after s)) × ((s .args .ledger .now ≡ after s .ledger) × (s .args .map .now ≡ after s .map))
+  by r e q =
+      let f = sym (step-ended (s .args .b .now) (s .args .t) (before s) (s .args .x) e) in (
+        q ∙ passed-is (s .args .b .now) (s .args .t) (s .args .g) (s .args .ledger .now) (s .args .map .now) (s .pre .0) ∙ ap (goingOf (s .args .b .now)) f,
+        (ap (λ (a : State). a .ledger) f, ap (λ (a : State). a .map) f),
+      )
+
+enum-told : tie.Need-enum-told
+enum-told c = search needs
+
+judge-one-requires : tie.Need-judge-one-requires
+judge-one-requires c κs =
+    let s = c .before .before .before .before .before .before in
+    (s .pre .0, (s .pre .1 .0, s .pre .1 .1, ap isOpen (c .before .before .enum-told .given .1)))
+
+enum-told-2 : tie.Need-enum-told-2
+enum-told-2 c = search needs
+
+passed-by-requires : tie.Need-passed-by-requires
+passed-by-requires c κs = search needs
+
+enum-told-3 : tie.Need-enum-told-3
+enum-told-3 c = search needs
+
+passed-by-requires-2 : tie.Need-passed-by-requires-2
+passed-by-requires-2 c κs = search needs
+
+same-length : tie.Need-same-length
+same-length c = search needs
+
+same-length-2 : tie.Need-same-length-2
+same-length-2 c = search needs
+
+returns : tie.Need-returns
+returns c =
+    let j = c .before .before .before in
+    let s = j .before .before .before .before .before .before .before in
+    let f = sym (step-open (s .args .b .now) (s .args .t) (before s) (s .args .x) (ap isOpen (j .before .before .before .enum-told .given .1))) in (
+      j .judge-one .ensures .0 ∙ ap (goingOf (s .args .b .now)) f,
+      (j .judge-one .ensures .1 .0 ∙ ap (λ (a : State). a .ledger) f, j .judge-one .ensures .1 .1 ∙ ap (λ (a : State). a .map) f),
+    )
+
+returns-2 : tie.Need-returns-2
+returns-2 c =
+    let s = c .before .before .before .before .before in
+    by s (c .passed-by .result) (ap isOpen (c .before .enum-told2 .given .1)) (c .passed-by .ensures)
+
+returns-3 : tie.Need-returns-3
+returns-3 c =
+    let s = c .before .before .before .before .before in
+    by s (c .passed-by2 .result) (ap isOpen (c .before .enum-told3 .given .1)) (c .passed-by2 .ensures)
+
+pub take-one-spec : {M : Type 1} → statement M
+take-one-spec =
+    tie.close
+    (tie.spec
+    enum-told
+    judge-one-requires
+    enum-told-2
+    passed-by-requires
+    enum-told-3
+    passed-by-requires-2
+    same-length
+    same-length-2
+    returns
+    returns-2
+    returns-3)

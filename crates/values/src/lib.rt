@@ -1,0 +1,86 @@
+// The values of samples, tolerances and amounts: their limits, and the energy that a sample draws.
+use rules::Amounts;
+use rules::Charge;
+use rules::Sample;
+use rules::Tolerances;
+ghost use mathlib.Core.Path.{_≡_};
+ghost use Rattle.numbers.specs.Whole.{between};
+ghost use Rattle.rules.specs.Bench.{isSample, tolerable, drawn};
+ghost use Rattle.rules.specs.Closing.{isTransfer, isCharge, areAmounts};
+
+pub fn is_between(lo: i64, hi: i64, z: i64) -> bool
+    ensures { λ r. ⌜ r ≡ between lo hi z ⌝ }
+{
+    if z < lo {
+        return false;
+    }
+    z <= hi
+}
+
+// Whether every value of the sample is within its limits.
+pub fn is_sample(x: Sample) -> bool
+    ensures { λ r. ⌜ r ≡ isSample x ⌝ }
+{
+    if 1500 < x.speed {
+        return false;
+    }
+    if 15_000 < x.voltage {
+        return false;
+    }
+    is_between(-10_000, 10_000, x.current as i64)
+}
+
+// Drawn energy, in units of 0.5 mJ.
+pub fn drawn_by(x: Sample) -> i64
+    ensures { λ r. ⌜ r ≡ drawn x ⌝ }
+{
+    -((x.voltage as i64) * (x.current as i64))
+}
+
+// Whether the tolerances are within their limits.
+pub fn is_tolerable(t: Tolerances) -> bool
+    ensures { λ r. ⌜ r ≡ tolerable t ⌝ }
+{
+    if 100 < t.speed {
+        return false;
+    }
+    if 40 < t.time {
+        return false;
+    }
+    t.allowance <= 1200
+}
+
+// Whether a transfer energy is within its limits.
+pub fn is_transfer(energy: i64) -> bool
+    ensures { λ r. ⌜ r ≡ isTransfer energy ⌝ }
+{
+    is_between(-10_000_000_000_000, 10_000_000_000_000, energy)
+}
+
+pub fn is_charge(charge: Charge) -> bool
+    ensures { λ r. ⌜ r ≡ isCharge charge ⌝ }
+{
+    match charge {
+        Charge::Absent => true,
+        Charge::Wh(wh) => {
+            if wh < 1 {
+                return false;
+            }
+            wh <= 2_000_000
+        }
+    }
+}
+
+// Whether transfer energies and recharge are within their limits.
+pub fn are_amounts(a: Amounts) -> bool
+    ensures { λ r. ⌜ r ≡ areAmounts a ⌝ }
+{
+    if !is_transfer(a.before) {
+        return false;
+    }
+    if !is_transfer(a.after) {
+        return false;
+    }
+    let charge = a.charge;
+    is_charge(charge)
+}
