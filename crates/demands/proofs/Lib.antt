@@ -1,8 +1,24 @@
 -- The demands, each answered by citing the laws of the crates below.
 pub mod NoDoubt
+pub mod Cases
+pub mod ReaderCases
 pub mod Demand1
+pub mod Driven
+pub mod Beyond
+pub mod LaterCalls
+pub mod BeyondReader
+pub mod LastJudged
+pub mod Neither
+pub mod Demand2
+pub mod NeverRefused
+pub mod SomeRun
+pub mod ShutOut
 pub mod Verdict
 pub mod FieldFour
 pub mod Splits
 pub mod Lines
+pub mod ForeignBlocks
+pub mod Arrivals
 pub mod Demand3
+pub mod Demand3Runs
+pub mod WrongAnswers

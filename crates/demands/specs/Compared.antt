@@ -1,8 +1,8 @@
--- What demand 3 compares: records that differ only in field 4, the figures of what a record tells, and what is printed of two records.
+-- What the demands compare: records that differ only in field 4, the figures of what a record tells, and what is printed of two records.
 -- Assumes nothing.
 use mathlib.Core.List.{List, [], _∷_, _++_}
 use mathlib.Core.Path.{_≡_}
-use Prim.Native.Nat.{ℕ, _≤_}
+use Prim.Native.Nat.{ℕ, _+_, _≤_}
 use lib.ListN.{length}
 use Rattle.rules.specs.declared.Sample.{Sample}
 use Rattle.rules.specs.declared.Tolerances.{Tolerances}
@@ -53,6 +53,10 @@ outsideOf x c = outside (x .cycle) (x .tolerances) (samplesOf x) c (judged (x .c
 abbrev pub outsideLine : ℕ → List ℕ
 outsideLine n = line (111 ∷ 117 ∷ 116 ∷ 115 ∷ 105 ∷ 100 ∷ 101 ∷ []) (digits n)
 
+-- `passed` and a number
+abbrev pub passedLine : ℕ → List ℕ
+passedLine n = line (112 ∷ 97 ∷ 115 ∷ 115 ∷ 101 ∷ 100 ∷ []) (digits n)
+
 -- two sheets with the same lines but for `outside`, whose number is no higher on the second
 pub record NoMoreOutside (text text′ : List ℕ) : Type 0 where
   pub above : List ℕ
@@ -62,3 +66,11 @@ pub record NoMoreOutside (text text′ : List ℕ) : Type 0 where
   pub lines : text ≡ above ++ (outsideLine number ++ below)
   pub lines′ : text′ ≡ above ++ (outsideLine number′ ++ below)
   pub no-higher : number′ ≤ number
+
+-- two sheets with the same lines but for `passed`, whose number is one higher on the second
+pub record OneMorePassed (text text′ : List ℕ) : Type 0 where
+  pub above : List ℕ
+  pub below : List ℕ
+  pub number : ℕ
+  pub lines : text ≡ above ++ (passedLine number ++ below)
+  pub lines′ : text′ ≡ above ++ (passedLine (number + 1) ++ below)

@@ -1,2 +1,4 @@
--- What the demands compare.
+-- What the demands compare, and the answers' numbers.
 pub mod Compared
+pub mod Cases
+pub mod Rows

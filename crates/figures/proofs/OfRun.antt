@@ -3,7 +3,7 @@
 use mathlib.Core.Bool.{true}
 use mathlib.Core.List.{List}
 use mathlib.Core.Path.{_≡_, refl, sym, _∙_}
-use Prim.Native.Nat.{ℕ, _+_, _*_, _/_, _%_}
+use Prim.Native.Nat.{ℕ, _+_, _*_}
 use native.Mathlib.Omega.{arith}
 use lib.IntN.{ℤ, pos, _+ℤ_}
 use lib.ListN.{length}
@@ -15,7 +15,7 @@ use Rattle.rules.specs.declared.Sample.{Sample}
 use Rattle.rules.specs.declared.Tolerances.{Tolerances}
 use Rattle.rules.specs.Closing.{areAmounts}
 use Rattle.rules.specs.Run.{sampleOf, finishedCycles, outside, judged}
-use Rattle.rules.specs.Shown.{figure}
+use Rattle.rules.proofs.NineNumbers.{outside-figure}
 use Rattle.ledger.specs.Row.{outsideIn, outsideAll}
 use Rattle.state.specs.declared.Run.{Run}
 use Rattle.judge.proofs.Runs.{Reached, run-shows, never-refused}
@@ -23,21 +23,13 @@ use Rattle.closing.specs.Answers.{grounds}
 use Rattle.closing.proofs.Joined.{weighted-of-run, range-of-run, recharge-of-run}
 use Rattle.figures.specs.Figured.{blank, foundOf, outsideTotal, figuresBy}
 
--- the ninth of a cycle's numbers
-ninth : (b : List ℕ) (t : Tolerances) (s : ℕ → Sample) (n c : ℕ) → figure b t s n (9 * c + 8) ≡ pos (outside b t s c (judged b t s n))
-unfolding figure
-ninth b t s n c =
-    let d : (9 * c + 8) / 9 ≡ c = omega arith in
-    let r : (9 * c + 8) % 9 ≡ 8 = omega arith in
-    rw (r, d)
-
 module _ (b : List ℕ) (t : Tolerances) (l₀ : List ℤ) (m₀ : List ℕ) {xs : List Sample} {r : Run} {l : List ℤ} {m : List ℕ}
     (h : Reached b t l₀ m₀ xs r l m) where
   -- the ledger's outside counts add up to the outside samples of all cycles
   pub outsides-add-up : outsideAll l ≡ pos (outsideTotal b t xs)
   outsides-add-up =
       fold-same _+ℤ_ (pos 0) (outsideIn l) (λ c. pos (outside b t (sampleOf xs) c (judged b t (sampleOf xs) (length xs)))) 64
-      (λ c g. run-shows b t l₀ m₀ h .ledger-shows (9 * c + 8) (omega arith) ∙ ninth b t (sampleOf xs) (length xs) c)
+      (λ c g. run-shows b t l₀ m₀ h .ledger-shows (9 * c + 8) (omega arith) ∙ outside-figure b t (sampleOf xs) (length xs) c)
       ∙ sum-pos (λ c. outside b t (sampleOf xs) c (judged b t (sampleOf xs) (length xs))) 64
 
   -- every figure equals the rules: such a run is not refused, and its figures are those of its samples

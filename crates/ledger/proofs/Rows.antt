@@ -18,11 +18,11 @@ use lib.Signed.{leZ, ltZ}
 use Rattle.numbers.specs.Lists.{plus}
 use Rattle.numbers.specs.Tests.{bit}
 use Rattle.numbers.specs.Whole.{between, Sized, Small}
-use Rattle.numbers.proofs.Lists.{set-either, put-set, put-getD}
+use Rattle.numbers.proofs.Lists.{put-set, put-getD}
 use Rattle.numbers.proofs.Tests.{both, all-at, all-by}
-use Rattle.numbers.proofs.Whole.{of-nat, weaken, sized-add, small-plus, sized-between, sized-upto}
+use Rattle.numbers.proofs.Whole.{of-nat, weaken, small-plus, sized-between, sized-upto}
 use Rattle.rules.specs.Shown.{inBounds, mostEnergy, mostDistance, mostOutside}
-use Rattle.ledger.specs.Row.{at, bounded, outsideAdded, isOver, sampleAdded, energyIn, distanceIn, outsideIn, energyAll, outsideAll}
+use Rattle.ledger.specs.Row.{at, bounded, outsideAdded, isOver, sampleAdded, energyIn, distanceIn, outsideIn, energyAll}
 use Rattle.numbers.proofs.Sums.{sized-sum, between-sum}
 
 -- ---- one number
@@ -35,11 +35,6 @@ at-plus-other l i j z n = getD-set-other l i j (at l i +ℤ z) (pos 0) n
 
 pub length-plus : (l : List ℤ) (i : ℕ) (z : ℤ) → length (plus l i z) ≡ length l
 length-plus l i z = length-set l i (at l i +ℤ z)
-
--- no number beyond n, where the one that is added to was smaller by what is added
-small-plus-at : {n m x : ℕ} {z : ℤ} (l : List ℤ) (i : ℕ) → Small n l → Sized m (at l i) → Sized x z → m + x ≤ n → Small n (plus l i z)
-small-plus-at {n} {z = z} l i s t u h j =
-    set-either (Sized n) l i j (at l i +ℤ z) (pos 0) (weaken h (sized-add t u)) (s j)
 
 -- ---- a sample
 
@@ -217,6 +212,3 @@ module _ (l : List ℤ) (b : bounded l ≡ true) where
   -- and of all cycles
   pub energy-all-sized : Sized 1_843_200_000_000_000 (energyAll l)
   energy-all-sized = sized-sum 28_800_000_000_000 (energyIn l) 64 energy-sized
-
-  pub outside-all-sized : Sized 3_072_000 (outsideAll l)
-  outside-all-sized = sized-sum 48_000 (outsideIn l) 64 (λ c h. outside-natural c h .0)

@@ -9,8 +9,7 @@ use native.Mathlib.Nat.{le-refl, le-step, le-of-suc-le-suc, not-suc-le-zero, eq-
 use native.Mathlib.Numerals.{add-one}
 use native.Mathlib.Omega.{arith}
 use lib.Dec.{T, T-not, leb, leb→le, le→leb}
-use lib.ListN.{length, getD, drop}
-use lib.Seq.{drop-cons}
+use lib.ListN.{length, getD}
 use borrow.Author.Tests.{lt-ltb, le-ltb, le-leb, lt-leb, eq-eqb, ne-eqb}
 use Rattle.numbers.specs.Range.{table}
 use Rattle.numbers.specs.Tests.{bit, allBelow, every, unless, settled}
@@ -103,12 +102,6 @@ all-same (suc n) f g h = ap₂ _&&_ (all-same n f g (λ k l. h k (le-step l))) (
 -- ---- at every element
 
 module _ {A : Type 0} (p : A → Bool) where
-  pub every-next : (a : List A) (i : ℕ) (d : A) → i < length a → every p (drop i a) ≡ (p (getD a i d) && every p (drop (i + 1) a))
-  every-next a i d h = rw (add-one, drop-cons a i d h)
-
-  pub every-not : (a : List A) (i : ℕ) (d : A) → i < length a → p (getD a i d) ≡ false → false ≡ every p (drop i a)
-  every-not a i d h e = sym (every-next a i d h ∙ rw e)
-
   pub every-at : (a : List A) (d : A) → every p a ≡ true → (i : ℕ) → i < length a → p (getD a i d) ≡ true
   every-at [] d e i h = absurd (not-suc-le-zero h)
   every-at (x ∷ a) d e zero h = both (p x) (every p a) e .0

@@ -111,8 +111,3 @@ module _ (b : List ℕ) (s : ℕ → Sample) (o : Sound b) (m : ℕ) where
   unfolding gather
   energy-cycles h =
       split _+ℤ_ (pos 0) sum-ℤ (λ j. true) (cycleOf b) 64 (energyShare s) m (λ j l t. div-lt-iff-lt-mul (real o) .1 (omega arith))
-
-  pub distance-cycles : m ≤ most b → fold _+_ 0 (λ c. cycleDistance b s c m) 64 ≡ fold _+_ 0 (distanceShare s) m
-  unfolding gather
-  distance-cycles h =
-      split _+_ 0 sum-ℕ (λ j. true) (cycleOf b) 64 (distanceShare s) m (λ j l t. div-lt-iff-lt-mul (real o) .1 (omega arith))

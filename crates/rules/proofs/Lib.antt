@@ -12,3 +12,4 @@ pub mod Closeness
 pub mod Recharge
 pub mod Same
 pub mod Closes
+pub mod NineNumbers

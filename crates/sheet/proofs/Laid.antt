@@ -7,7 +7,7 @@ use native.Mathlib.Nat.{le-refl, zero-add, add-zero}
 use native.Mathlib.Numerals.{add-one}
 use native.Mathlib.Omega.{arith}
 use lib.Dec.{leb}
-use lib.ListN.{length, take, drop, set, length-append, length-take, length-drop}
+use lib.ListN.{length, take, drop, set, length-append}
 use lib.Seq.{length-take-le, take-at, drop-at, drop-drop, set-split, append-snoc, paste-zero}
 use Rattle.numbers.specs.Tests.{unless}
 use Rattle.numbers.proofs.Tests.{pass, stop, tests}
@@ -32,10 +32,6 @@ laid-byte out at v h =
     set-split out at v h
     ∙ sym (append-snoc (take at out) v _)
     ∙ ap (λ (k : ℕ). take at out ++ v ∷ [] ++ drop k out) (sym (add-one at))
-
-pub length-laid : (out : List ℕ) (at : ℕ) (text : List ℕ) → at + length text ≤ length out → length (laid out at text) ≡ length out
-unfolding laid
-length-laid out at text h = simp (length-append, length-take, length-drop) (omega arith)
 
 -- ---- what the functions promise
 

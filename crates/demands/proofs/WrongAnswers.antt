@@ -1,0 +1,54 @@
+-- Wrong programs for the functions of `reader` that hold no loop and no test worth an edit: any program that answers so breaks the contract.
+-- Assumes nothing.
+use mathlib.Core.Bool.{Bool, true, false, false≢true}
+use mathlib.Core.List.{List}
+use mathlib.Core.Path.{_≡_, refl, sym, ap, _∙_}
+use Prim.Native.Nat.{ℕ, suc}
+use native.Mathlib.Omega.{arith}
+use borrow.Author.Tests.{eqb-true}
+use lib.Dec.{eqb}
+use lib.ListN.{getD, replicate}
+use Rattle.numbers.specs.Tests.{unless}
+use Rattle.opening.specs.declared.Opening.{Opening}
+use Rattle.reading.specs.declared.Reading.{Reading}
+use Rattle.reader.specs.declared.Ending.the-variants.{Whole, Refused}
+use Rattle.reader.specs.Answers.{endingOf}
+use Rattle.reader.proofs.blank
+use Rattle.reader.proofs.reading_of
+use Rattle.reader.proofs.ended
+use Rattle.demands.proofs.NoDoubt.{Call}
+
+-- an opening whose vehicle is seventeen bytes of 0, or that has a cycle already
+module _ (c : Call blank.ended blank.Reads.Learnt) where
+  pub blank-of-zeros-breaks : c .answer .vehicle ≡ replicate 17 0 → ⊥
+  blank-of-zeros-breaks e =
+      let z : _≡_ {A = ℕ} 0 48 = ap (λ (v : List ℕ). getD v 0 0) (sym e ∙ ap (λ (o : Opening). o .vehicle) (c .kept)) in
+      omega arith
+
+  pub blank-with-a-cycle-breaks : (n : ℕ) → c .answer .cycle ≡ suc n → ⊥
+  blank-with-a-cycle-breaks n e = let z : suc n ≡ 0 = sym e ∙ ap (λ (o : Opening). o .cycle) (c .kept) in omega arith
+
+-- a reading that starts at another place in the order, or with blocks passed over
+module _ (c : Call reading_of.ended reading_of.Reads.Learnt) where
+  pub reading-from-place-1-breaks : (n : ℕ) → c .answer .place ≡ suc n → ⊥
+  reading-from-place-1-breaks n e = let z : suc n ≡ 0 = sym e ∙ ap (λ (r : Reading). r .place) (c .kept) in omega arith
+
+  pub reading-with-one-passed-breaks : (n : ℕ) → c .answer .passed ≡ suc n → ⊥
+  reading-with-one-passed-breaks n e = let z : suc n ≡ 0 = sym e ∙ ap (λ (r : Reading). r .passed) (c .kept) in omega arith
+
+-- an end that is let by before the start, or inside a field
+only-whole : (s : Bool) (n : ℕ) → endingOf s n ≡ Whole → (s ≡ true) × (n ≡ 0)
+unfolding endingOf unless
+only-whole true n e = (refl, go (eqb n 0) refl e)
+  where
+    go : (t : Bool) → eqb n 0 ≡ t → unless (Refused 15) t Whole ≡ Whole → n ≡ 0
+    go true p f = eqb-true n 0 p
+    go false p f = absurd (false≢true cc)
+only-whole false n e = absurd (false≢true cc)
+
+module _ (c : Call ended.ended ended.Reads.Learnt) where
+  pub ended-before-the-start-breaks : c .args .0 ≡ false → c .answer ≡ Whole → ⊥
+  ended-before-the-start-breaks s e = false≢true (sym s ∙ only-whole (c .args .0) (c .args .1 .0) (sym (c .kept) ∙ e) .0)
+
+  pub ended-with-bytes-left-breaks : (n : ℕ) → c .args .1 .0 ≡ suc n → c .answer ≡ Whole → ⊥
+  ended-with-bytes-left-breaks n s e = let z = only-whole (c .args .0) (c .args .1 .0) (sym (c .kept) ∙ e) .1 in omega arith
