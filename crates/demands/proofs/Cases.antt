@@ -32,7 +32,7 @@ use Rattle.consumption.specs.declared.Figure.{Figure}
 use Rattle.consumption.specs.declared.Figure.the-variants as figure
 use Rattle.consumption.specs.Figures.{rechargedOf, rechargedBy}
 use Rattle.consumption.proofs.recharged
-use Rattle.closing.specs.Answers.{grounds, whole, refusalOf}
+use Rattle.closing.specs.Answers.{whole, refusalOf}
 use Rattle.closing.proofs.weighted
 use Rattle.closing.proofs.range
 use Rattle.closing.proofs.recharge
@@ -42,6 +42,7 @@ use Rattle.fields.proofs.front_of
 use Rattle.contents.specs.declared.Content.the-variants as content
 use Rattle.contents.specs.Content.{blockContent, energyContent, rechargeContent, contentOf}
 use Rattle.contents.proofs.content_of
+use Rattle.reading.specs.Answers.{readGround}
 use Rattle.figures.specs.declared.Found.{Found}
 use Rattle.figures.proofs.figures_of
 use Rattle.demands.specs.Cases.{answerNumber, shownNumber, totalsNumber, figureNumber, frontNumber, contentNumber, orElse, chargeNumber, rechargeNumber, formNumber, wholeNumber}
@@ -134,9 +135,9 @@ recharged-number c =
     ∙ unless-number figureNumber (figure.Refused 14) (leZ (pos 1) (E +ℤ F)) _
     ∙ ap (unless 14 (leZ (pos 1) (E +ℤ F))) (unless-number figureNumber (figure.Refused 12) (leb (rechargeBy (up E) (up (E +ℤ F)) A range) mostRate) _)
 
--- the figures of the report: 1 and 2
-pub figures-of-number : (c : Call figures_of.ended figures_of.Reads.Learnt) → (let (vehicle, (passed, (a, (r, (b, (l, (m, _))))))) = c .args in
-    c .answer .refusal ≡ grounds r a (now b) (now l) (now m) 0)
+-- the figures of the report: 1 and 2, as of `read`
+pub figures-of-number : (c : Call figures_of.ended figures_of.Reads.Learnt) → (let (r, (b, (l, (m, _)))) = c .args in
+    c .answer .refusal ≡ readGround r (now b) (now l) (now m))
 figures-of-number c = ap (λ (x : Found). x .refusal) (c .kept)
 
 -- ---- fields

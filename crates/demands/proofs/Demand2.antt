@@ -34,10 +34,11 @@ use Rattle.judge.proofs.Runs.{Reached, Shown}
 use Rattle.consumption.specs.declared.Figure.the-variants as fig
 use Rattle.consumption.specs.Figures.{weightedBy, rangeBy, rechargeBy}
 use Rattle.closing.proofs.Joined as closing
+use Rattle.reading.specs.Answers.{isReading}
 use Rattle.figures.specs.Figured.{energies, distances, outsideTotal, figuresBy}
 use Rattle.figures.proofs.OfRun as figures
 use Rattle.demands.proofs.Driven.{Driven, driven-reached}
-use Rattle.demands.proofs.LaterCalls.{ShownCall, TotalsCall, WeightedCall, RangeCall, RechargeCall, FiguresCall, ShownOn, TotalsOn, WeightedOn, RangeOn, RechargeOn, FiguresOn, weightedAmounts, rangeAmounts, rechargeAmounts, figuresAmounts, shown-kept, totals-kept, weighted-kept, range-kept, recharge-kept, figures-kept}
+use Rattle.demands.proofs.LaterCalls.{ShownCall, TotalsCall, WeightedCall, RangeCall, RechargeCall, FiguresCall, ShownOn, TotalsOn, WeightedOn, RangeOn, RechargeOn, FiguresOn, weightedAmounts, rangeAmounts, rechargeAmounts, figuresReading, shown-kept, totals-kept, weighted-kept, range-kept, recharge-kept, figures-kept}
 use Rattle.rules.proofs.NineNumbers.{energy-figure, distance-figure}
 use Rattle.demands.proofs.LastJudged.{last-cycle-is, last-cycle-most, outsides-are}
 
@@ -161,13 +162,12 @@ module _ {b : List ℕ} {t : Tolerances} {l₀ : List ℤ} {m₀ : List ℕ} {xs
       c .answer ≡ rechargeBy (E (a .before)) (cycles b t s n) (energies b t xs) (distances b t xs) (a .after) (a .charge))
   recharge-of-run c on ok = recharge-kept c on ∙ closing.recharge-of-run b t l₀ m₀ reached (rechargeAmounts c) ok
 
-  -- all figures of the report
-  pub figures-of-run : (c : FiguresCall) → FiguresOn r b l m c → areAmounts (figuresAmounts c) ≡ true
-      → (let (vehicle, (passed, _)) = c .args in
-      c .answer ≡ record { refusal = 0; figures = figuresBy vehicle passed (figuresAmounts c) b t xs })
-  figures-of-run c on ok =
-      let (vehicle, (passed, _)) = c .args in
-      figures-kept c on ∙ figures.figures-of-run b t l₀ m₀ reached vehicle passed (figuresAmounts c) ok
+  -- all figures of the report, with a reading whose own numbers are within their limits
+  pub figures-of-run : (c : FiguresCall) → FiguresOn r b l m c → isReading (c .args .0) ≡ true
+      → (let y = c .args .0 in
+      c .answer ≡ record { refusal = 0; figures = figuresBy (y .vehicle) (y .passed) (y .amounts) b t xs })
+  unfolding isReading
+  figures-of-run c on ok = figures-kept c on ∙ figures.figures-of-run b t l₀ m₀ (figuresReading c r) reached ok
 
   -- a call of `weighted` that answers W
   module _ (c : WeightedCall) (on : WeightedOn r b l m c) (ok : areAmounts (weightedAmounts c) ≡ true) (W : ℕ) (is : c .answer ≡ fig.Is W) where

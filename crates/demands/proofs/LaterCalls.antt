@@ -14,6 +14,7 @@ use Rattle.closing.specs.Answers.{weightedAnswer, rangeAnswer, rechargeAnswer}
 use Rattle.closing.proofs.weighted
 use Rattle.closing.proofs.range
 use Rattle.closing.proofs.recharge
+use Rattle.reading.specs.declared.Reading.{Reading}
 use Rattle.figures.specs.Figured.{foundOf}
 use Rattle.figures.proofs.figures_of
 use Rattle.reader.proofs.read
@@ -45,7 +46,7 @@ ReadCall = Call read.ended read.Reads.Learnt
 abbrev pub AllCall : Type 0
 AllCall = Call read_all.ended read_all.Reads.Learnt
 
--- on the run r, the cycle b and the memory l and m; the closing's and the figures' calls also with the amounts a
+-- on the run r, the cycle b and the memory l and m; the closing's calls also with amounts, the figures' and the reader's with a reading of that run
 module _ (r : Run) (b : List ℕ) (l : List ℤ) (m : List ℕ) where
   abbrev pub ShownOn : ShownCall → Type 0
   ShownOn c = let (run, (cycle, (ledger, (map, _)))) = c .args in On r b l m run cycle ledger map
@@ -63,7 +64,7 @@ module _ (r : Run) (b : List ℕ) (l : List ℤ) (m : List ℕ) where
   RechargeOn c = let (run, (_, (cycle, (ledger, (map, _))))) = c .args in On r b l m run cycle ledger map
 
   abbrev pub FiguresOn : FiguresCall → Type 0
-  FiguresOn c = let (_, (_, (_, (run, (cycle, (ledger, (map, _))))))) = c .args in On r b l m run cycle ledger map
+  FiguresOn c = let (reading, (cycle, (ledger, (map, _)))) = c .args in On r b l m (reading .run) cycle ledger map
 
   abbrev pub ReadOn : ReadCall → Type 0
   ReadOn c = let (reading, (_, (cycle, (ledger, (map, _))))) = c .args in On r b l m (reading .run) cycle ledger map
@@ -81,8 +82,11 @@ rangeAmounts c = c .args .1 .0
 abbrev pub rechargeAmounts : RechargeCall → Amounts
 rechargeAmounts c = c .args .1 .0
 
-abbrev pub figuresAmounts : FiguresCall → Amounts
-figuresAmounts c = c .args .1 .1 .0
+-- the reading of a call, which holds the run r
+abbrev pub figuresReading : FiguresCall → Run → Reading
+figuresReading c r =
+    let y = c .args .0 in
+    record { vehicle = y .vehicle; place = y .place; passed = y .passed; amounts = y .amounts; run = r }
 
 module _ {r : Run} {b : List ℕ} {l : List ℤ} {m : List ℕ} where
   pub shown-kept : (c : ShownCall) → ShownOn r b l m c → c .answer ≡ shownAnswer (ground r b l m 0) (countsOf r b l m)
@@ -102,8 +106,5 @@ module _ {r : Run} {b : List ℕ} {l : List ℤ} {m : List ℕ} where
   pub recharge-kept : (c : RechargeCall) → RechargeOn r b l m c → c .answer ≡ rechargeAnswer r (rechargeAmounts c) b l m
   recharge-kept c on = c .kept ∙ (λ i. rechargeAnswer (on .run-is i) (rechargeAmounts c) (on .cycle-is i) (on .ledger-is i) (on .map-is i))
 
-  pub figures-kept : (c : FiguresCall) → FiguresOn r b l m c → (let (vehicle, (passed, _)) = c .args in
-      c .answer ≡ foundOf vehicle passed (figuresAmounts c) r b l m)
-  figures-kept c on =
-      let (vehicle, (passed, _)) = c .args in
-      c .kept ∙ (λ i. foundOf vehicle passed (figuresAmounts c) (on .run-is i) (on .cycle-is i) (on .ledger-is i) (on .map-is i))
+  pub figures-kept : (c : FiguresCall) → FiguresOn r b l m c → c .answer ≡ foundOf (figuresReading c r) b l m
+  figures-kept c on = c .kept ∙ (λ i. foundOf (figuresReading c (on .run-is i)) (on .cycle-is i) (on .ledger-is i) (on .map-is i))

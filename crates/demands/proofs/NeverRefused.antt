@@ -35,7 +35,7 @@ use Rattle.demands.specs.Cases.{answerNumber, shownNumber, totalsNumber,
 use Rattle.demands.proofs.Cases.{settled-number, or-else-number, sample-number, block-number, shown-number, totals-number}
 use Rattle.demands.proofs.ReaderCases.{read-number, read-all-number}
 use Rattle.demands.proofs.Driven.{SampleCall, BlockCall, On, SampleOn, BlockOn, Driven, driven-reached}
-use Rattle.demands.proofs.LaterCalls.{ShownCall, TotalsCall, WeightedCall, RangeCall, RechargeCall, FiguresCall, ReadCall, AllCall, ShownOn, TotalsOn, WeightedOn, RangeOn, RechargeOn, FiguresOn, ReadOn, AllOn, weightedAmounts, rangeAmounts, rechargeAmounts, figuresAmounts}
+use Rattle.demands.proofs.LaterCalls.{ShownCall, TotalsCall, WeightedCall, RangeCall, RechargeCall, FiguresCall, ReadCall, AllCall, ShownOn, TotalsOn, WeightedOn, RangeOn, RechargeOn, FiguresOn, ReadOn, AllOn, weightedAmounts, rangeAmounts, rechargeAmounts}
 use Rattle.demands.proofs.Neither.{Neither, unless-neither, cond-neither, zero-neither, by-number, closing-neither, charge-neither, next-neither}
 use Rattle.demands.proofs.Demand2.{weighted-of-run, range-of-run, recharge-of-run, figures-of-run}
 
@@ -94,8 +94,8 @@ module _ {b : List ℕ} {t : Tolerances} {l₀ : List ℤ} {m₀ : List ℕ} {xs
     pub weighted : (c : WeightedCall) → WeightedOn r b l m c → areAmounts (weightedAmounts c) ≡ true → Neither1Nor2 fig.Refused (c .answer)
     pub range : (c : RangeCall) → RangeOn r b l m c → areAmounts (rangeAmounts c) ≡ true → Neither1Nor2 fig.Refused (c .answer)
     pub recharge : (c : RechargeCall) → RechargeOn r b l m c → areAmounts (rechargeAmounts c) ≡ true → Neither1Nor2 fig.Refused (c .answer)
-    pub figures : (c : FiguresCall) → FiguresOn r b l m c → areAmounts (figuresAmounts c) ≡ true → c .answer .refusal ≡ 0
     -- with a reading whose own numbers are within their limits
+    pub figures : (c : FiguresCall) → FiguresOn r b l m c → isReading (c .args .0) ≡ true → c .answer .refusal ≡ 0
     pub read : (c : ReadCall) → ReadOn r b l m c → isReading (c .args .0) ≡ true → Neither1Nor2 step.Refused (c .answer .step)
     pub read-all : (c : AllCall) → AllOn r b l m c → isReading (c .args .0) ≡ true → Neither1Nor2 step.Refused (c .answer .last)
 

@@ -1,60 +1,52 @@
--- The answer of `figures_of`, by what the amounts' test and the judge's sums say.
+-- The answer of `figures_of`, by what the tests before all else and the judge's sums say.
 -- Assumes nothing.
-use mathlib.Core.Bool.{Bool, true, false, cond, false≢true}
+use mathlib.Core.Bool.{false≢true}
 use mathlib.Core.List.{List}
-use mathlib.Core.Path.{_≡_, refl, sym, ap, _∙_}
+use mathlib.Core.Path.{_≡_, sym, ap, _∙_}
 use Prim.Native.Nat.{ℕ}
-use native.Mathlib.Omega.{arith}
-use borrow.Author.Tests.{eqb-true, eqb-false}
-use lib.Dec.{eqb}
 use lib.IntN.{ℤ}
-use Rattle.numbers.proofs.Tests.{pass, stop, settled-taken, settled-refused}
-use Rattle.rules.specs.declared.Amounts.{Amounts}
-use Rattle.rules.specs.Closing.{areAmounts}
-use Rattle.state.specs.declared.Run.{Run}
-use Rattle.judge.specs.declared.Sums.{Sums}
-use Rattle.judge.specs.declared.TotalsAnswer.the-variants.{Summed, Refused}
+use Rattle.numbers.proofs.Tests.{not-refused, settled-taken, settled-refused}
 use Rattle.state.specs.State.{ground}
+use Rattle.judge.specs.declared.Sums.{Sums}
+use Rattle.judge.specs.declared.TotalsAnswer.{TotalsAnswer}
+use Rattle.judge.specs.declared.TotalsAnswer.the-variants.{Summed, Refused}
 use Rattle.judge.specs.Answers.{sumsOf, totalsAnswer}
-use Rattle.closing.specs.Answers.{grounds}
+use Rattle.reading.specs.declared.Reading.{Reading}
+use Rattle.reading.specs.Answers.{readGround}
 use Rattle.figures.specs.Figured.{blank, nothing, withSums, foundOf}
 
--- what the answer of the judge says of its refusal's number
-totals-refused : (n : ℕ) (x : Sums) (k : ℕ) → totalsAnswer n x ≡ Refused k → (n ≡ k) × (k ≡ 0 → ⊥)
-totals-refused n x k e = go (eqb n 0) refl e
-  where
-    go : (y : Bool) → eqb n 0 ≡ y → cond y (Summed x) (Refused n) ≡ Refused k → (n ≡ k) × (k ≡ 0 → ⊥)
-    go true p f = absurd (false≢true cc)
-    go false p f = let q : n ≡ k = cc in (q, λ z. eqb-false n 0 p (q ∙ z))
+-- sums are no refusal, and have one form
+summed-refused : {x : Sums} {n : ℕ} → Summed x ≡ Refused n → ⊥
+summed-refused e = false≢true cc
 
-totals-summed : (n : ℕ) (x y : Sums) → totalsAnswer n x ≡ Summed y → (n ≡ 0) × (x ≡ y)
-totals-summed n x y e = go (eqb n 0) refl e
-  where
-    go : (t : Bool) → eqb n 0 ≡ t → cond t (Summed x) (Refused n) ≡ Summed y → (n ≡ 0) × (x ≡ y)
-    go true p f = (eqb-true n 0 p, cc)
-    go false p f = absurd (false≢true cc)
+summed-same : {x y : Sums} → Summed x ≡ Summed y → x ≡ y
+summed-same e = cc
 
-module _ (vehicle : List ℕ) (passed : ℕ) (a : Amounts) (r : Run) (b : List ℕ) (l : List ℤ) (m : List ℕ) where
-  found-refused : (n : ℕ) → grounds r a b l m 0 ≡ n → (n ≡ 0 → ⊥) → nothing n ≡ foundOf vehicle passed a r b l m
-  found-refused n e h =
-      let none = settled-refused (withSums vehicle passed a r b l m (sumsOf r b l)) {b = blank} (λ z. h (sym e ∙ z)) in
-      λ i. record { refusal = sym e i; figures = sym none i }
+module _ (r : Reading) (b : List ℕ) (l : List ℤ) (m : List ℕ) where
+  -- a test refuses
+  pub tests-refuse : (n : ℕ) → n ≡ readGround r b l m → (n ≡ 0 → ⊥) → nothing n ≡ foundOf r b l m
+  tests-refuse n e h =
+      let none = settled-refused (withSums (r .vehicle) (r .passed) (r .amounts) (r .run) b l m (sumsOf (r .run) b l)) {b = blank} (λ z. h (e ∙ z)) in
+      λ i. record { refusal = e i; figures = sym none i }
 
-  -- an amount is beyond its limits
-  pub amounts-refused : areAmounts a ≡ false → nothing 1 ≡ foundOf vehicle passed a r b l m
-  amounts-refused e = found-refused 1 (sym (stop _ e)) (λ z. omega arith)
+  -- none does
+  module _ (e : readGround r b l m ≡ 0) where
+    grounded : ground (r .run) b l m 0 ≡ 0
+    unfolding readGround
+    grounded = not-refused 0 _ _ e .1
 
-  -- none is, and the judge refuses
-  pub sums-refused : areAmounts a ≡ true → (n : ℕ) → totalsAnswer (ground r b l m 0) (sumsOf r b l) ≡ Refused n → nothing n ≡ foundOf vehicle passed a r b l m
-  sums-refused ok n e =
-      let (k, h) = totals-refused (ground r b l m 0) (sumsOf r b l) n e in
-      found-refused n (sym (pass 1 ok refl) ∙ k) h
+    abbrev answer : TotalsAnswer
+    answer = totalsAnswer (ground (r .run) b l m 0) (sumsOf (r .run) b l)
 
-  -- or has its sums
-  pub sums-taken : areAmounts a ≡ true → (x : Sums) → totalsAnswer (ground r b l m 0) (sumsOf r b l) ≡ Summed x
-      → record { refusal = 0; figures = withSums vehicle passed a r b l m x } ≡ foundOf vehicle passed a r b l m
-  sums-taken ok x e =
-      let (k, h) = totals-summed (ground r b l m 0) (sumsOf r b l) x e in
-      let z : grounds r a b l m 0 ≡ 0 = sym (pass 1 ok refl) ∙ k in
-      let f = settled-taken blank z in
-      λ i. record { refusal = sym z i; figures = (ap (withSums vehicle passed a r b l m) (sym h) ∙ sym f) i }
+    has-sums : answer ≡ Summed (sumsOf (r .run) b l)
+    has-sums = settled-taken _ grounded
+
+    -- then neither does the judge
+    pub sums-not-refused : {n : ℕ} → answer ≡ Refused n → ⊥
+    sums-not-refused f = summed-refused (sym has-sums ∙ f)
+
+    pub sums-taken : (x : Sums) → answer ≡ Summed x
+        → record { refusal = 0; figures = withSums (r .vehicle) (r .passed) (r .amounts) (r .run) b l m x } ≡ foundOf r b l m
+    sums-taken x f =
+        let p = summed-same (sym f ∙ has-sums) in
+        λ i. record { refusal = sym e i; figures = (ap (withSums (r .vehicle) (r .passed) (r .amounts) (r .run) b l m) p ∙ sym (settled-taken blank e)) i }

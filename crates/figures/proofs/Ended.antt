@@ -11,12 +11,12 @@ use Rattle.rules.specs.declared.Amounts.{Amounts}
 use Rattle.rules.specs.declared.Sample.{Sample}
 use Rattle.rules.specs.declared.Tolerances.{Tolerances}
 use Rattle.rules.specs.Bench.{isOpen, mostCycles}
-use Rattle.rules.specs.Closing.{areAmounts}
 use Rattle.rules.specs.Run.{sampleOf, finishedCycles, outside, judged, ending}
 use Rattle.rules.proofs.Longer.{more-samples, same-samples, Stays, ended-stays, end-stays, outside-stays}
-use Rattle.state.specs.declared.Run.{Run}
 use Rattle.judge.proofs.Runs.{Reached}
 use Rattle.consumption.specs.Figures.{weightedBy, rangeBy, rechargeBy}
+use Rattle.reading.specs.declared.Reading.{Reading}
+use Rattle.reading.specs.Answers.{isReading}
 use Rattle.sheet.specs.declared.Figures.{Figures}
 use Rattle.figures.specs.Figured.{foundOf, energies, distances, outsideTotal, figuresBy}
 use Rattle.figures.proofs.OfRun.{figures-of-run}
@@ -62,10 +62,12 @@ module _ (b : List ℕ) (t : Tolerances) (xs ys : List Sample) where
           ac = rechargeBy E n (energies-same i) (distances-same i) (a .after) (a .charge);
         }
 
-    -- as they are read off run and memory: no line of the sheet changes
-    pub figures-stay : (l₀ : List ℤ) (m₀ : List ℕ) {r r′ : Run} {l l′ : List ℤ} {m m′ : List ℕ} → Reached b t l₀ m₀ xs r l m → Reached b t l₀ m₀ (xs ++ ys) r′ l′ m′
-        → (vehicle : List ℕ) (passed : ℕ) (a : Amounts) → areAmounts a ≡ true → foundOf vehicle passed a r′ b l′ m′ ≡ foundOf vehicle passed a r b l m
-    figures-stay l₀ m₀ h h′ vehicle passed a ok =
-        figures-of-run b t l₀ m₀ h′ vehicle passed a ok
-        ∙ ap (λ (f : Figures). record { refusal = 0; figures = f }) (figures-same vehicle passed a)
-        ∙ sym (figures-of-run b t l₀ m₀ h vehicle passed a ok)
+    -- as they are read off reading and memory: no line of the sheet changes
+    pub figures-stay : (l₀ : List ℤ) (m₀ : List ℕ) (r r′ : Reading) {l l′ : List ℤ} {m m′ : List ℕ} → Reached b t l₀ m₀ xs (r .run) l m → Reached b t l₀ m₀ (xs ++ ys) (r′ .run) l′ m′
+        → isReading r ≡ true → isReading r′ ≡ true → r′ .vehicle ≡ r .vehicle → r′ .passed ≡ r .passed → r′ .amounts ≡ r .amounts
+        → foundOf r′ b l′ m′ ≡ foundOf r b l m
+    figures-stay l₀ m₀ r r′ h h′ ok ok′ vehicle passed amounts =
+        figures-of-run b t l₀ m₀ r′ h′ ok′
+        ∙ (λ i. record { refusal = 0; figures = figuresBy (vehicle i) (passed i) (amounts i) b t (xs ++ ys) })
+        ∙ ap (λ (f : Figures). record { refusal = 0; figures = f }) (figures-same (r .vehicle) (r .passed) (r .amounts))
+        ∙ sym (figures-of-run b t l₀ m₀ r h ok)

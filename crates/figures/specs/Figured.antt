@@ -1,4 +1,4 @@
--- The figures that the report prints: read off a started run and its memory, and by the rules alone from the samples of a record.
+-- The figures that the report prints: read off a reading and its memory, and by the rules alone from the samples of a record.
 -- Assumes nothing.
 use mathlib.Core.List.{List}
 use Prim.Native.Nat.{ℕ}
@@ -18,11 +18,13 @@ use Rattle.numbers.specs.Tests.{settled}
 use Rattle.judge.specs.Answers.{sumsOf}
 use Rattle.consumption.specs.declared.Figure.the-variants.{Absent}
 use Rattle.consumption.specs.Figures.{weightedBy, rangeBy, rechargeBy}
-use Rattle.closing.specs.Answers.{grounds, weightedAnswer, rangeAnswer, rechargeAnswer}
+use Rattle.closing.specs.Answers.{weightedAnswer, rangeAnswer, rechargeAnswer}
+use Rattle.reading.specs.declared.Reading.{Reading}
+use Rattle.reading.specs.Answers.{readGround}
 use Rattle.sheet.specs.declared.Figures.{Figures}
 pub use Rattle.figures.specs.declared.Found.{Found}
 
--- ---- of a started run and its memory
+-- ---- of a reading and its memory
 
 -- where a run is refused: seventeen times the character 0, and no figure
 abbrev pub blank : Figures
@@ -42,27 +44,26 @@ blank = record {
 abbrev pub nothing : ℕ → Found
 nothing n = record { refusal = n; figures = blank }
 
-module _ (vehicle : List ℕ) (passed : ℕ) (a : Amounts) (r : Run) (b : List ℕ) (l : List ℤ) (m : List ℕ) where
-  -- the sums of the run, and its closing figures
-  abbrev pub withSums : Sums → Figures
-  withSums sums = record {
-    vehicle = vehicle;
-    end = sums .end;
-    counted = sums .counted;
-    cycles = sums .cycles;
-    outside = sums .outside;
-    passed = passed;
-    drawn = sums .drawn;
-    weighted = weightedAnswer r a b l m;
-    range = rangeAnswer r a b l m;
-    ac = rechargeAnswer r a b l m;
-  }
+-- the sums of the run, and its closing figures
+abbrev pub withSums : List ℕ → ℕ → Amounts → Run → List ℕ → List ℤ → List ℕ → Sums → Figures
+withSums vehicle passed a r b l m sums = record {
+  vehicle = vehicle;
+  end = sums .end;
+  counted = sums .counted;
+  cycles = sums .cycles;
+  outside = sums .outside;
+  passed = passed;
+  drawn = sums .drawn;
+  weighted = weightedAnswer r a b l m;
+  range = rangeAnswer r a b l m;
+  ac = rechargeAnswer r a b l m;
+}
 
-  -- 1 and 2 before all else, as in every closing
-  abbrev pub foundOf : Found
-  foundOf =
-      let refusal = grounds r a b l m 0 in
-      record { refusal = refusal; figures = settled refusal (withSums (sumsOf r b l)) blank }
+-- "In a started run 1 and 2 come before all others": vehicle, place, passed-over count and amounts are numbers of the state
+abbrev pub foundOf : Reading → List ℕ → List ℤ → List ℕ → Found
+foundOf r b l m =
+    let refusal = readGround r b l m in
+    record { refusal = refusal; figures = settled refusal (withSums (r .vehicle) (r .passed) (r .amounts) (r .run) b l m (sumsOf (r .run) b l)) blank }
 
 -- ---- by the rules alone
 

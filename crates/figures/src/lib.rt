@@ -2,11 +2,12 @@
 use consumption::Figure;
 use judge::Sums;
 use judge::TotalsAnswer;
+use reading::Reading;
+use reading::read_refusal;
 use rules::Amounts;
 use rules::End;
 use sheet::Figures;
 use state::Run;
-use values::are_amounts;
 ghost use mathlib.Core.Path.{_≡_};
 ghost use Rattle.figures.specs.Figured.{blank, nothing, withSums, foundOf};
 
@@ -74,27 +75,24 @@ fn figures_with(
     }
 }
 
-// The figures of a started run of this vehicle, with so many blocks passed over and these amounts.
-pub fn figures_of(
-    vehicle: [u8; 17],
-    passed: u32,
-    amounts: Amounts,
-    run: Run,
-    b: &[u8],
-    ledger: &[i64],
-    map: &[u64],
-) -> Found
-    ensures { λ r. ⌜ r ≡ foundOf vehicle passed amounts run (now (b .entry)) (now (ledger .entry)) (now (map .entry)) ⌝ }
+// The figures of a reading. Its own numbers, its run, ledger, map and cycle are tested before all else, as by `read`.
+pub fn figures_of(reading: Reading, b: &[u8], ledger: &[i64], map: &[u64]) -> Found
+    ensures { λ r. ⌜ r ≡ foundOf reading (now (b .entry)) (now (ledger .entry)) (now (map .entry)) ⌝ }
 {
-    if !are_amounts(amounts) {
-        return refused(1);
+    let refusal = read_refusal(reading, b, ledger, map);
+    if refusal != 0 {
+        return refused(refusal);
     }
+    let vehicle = reading.vehicle;
+    let amounts = reading.amounts;
+    let run = reading.run;
     let answer = judge::totals(run, b, ledger, map);
+    // The judge refuses nothing that the tests above let through.
     match answer {
         TotalsAnswer::Refused(n) => refused(n),
         TotalsAnswer::Summed(sums) => Found {
             refusal: 0,
-            figures: figures_with(sums, vehicle, passed, amounts, run, b, ledger, map),
+            figures: figures_with(sums, vehicle, reading.passed, amounts, run, b, ledger, map),
         },
     }
 }

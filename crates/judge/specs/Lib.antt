@@ -1,2 +1,2 @@
--- The judge's operations: what is refused, and what is left of run and memory.
+-- The answers of the judge's operations, and what is left of run and memory.
 pub mod Answers

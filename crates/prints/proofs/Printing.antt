@@ -1,20 +1,16 @@
 -- What the report prints is what the rules say of the record, however its bytes arrive.
 -- Assumes nothing.
-use mathlib.Core.Bool.{Bool, true, false, _&&_, false≢true}
+use mathlib.Core.Bool.{Bool, true, false, false≢true}
 use mathlib.Core.List.{List, _++_}
 use mathlib.Core.Path.{_≡_, refl, sym, ap, _∙_}
 use Prim.Native.Nat.{ℕ, suc, _+_, _≤_}
 use native.Mathlib.Numerals.{add-one}
 use native.Mathlib.Omega.{arith}
 use borrow.Author.Tests.{lt-ltb, le-leb}
-use lib.Dec.{leb}
 use lib.IntN.{ℤ}
 use lib.ListN.{length}
 use Rattle.numbers.specs.Tests.{unless}
-use Rattle.numbers.proofs.Tests.{both, not-refused}
-use Rattle.rules.specs.Bench.{mostPassed}
-use Rattle.rules.specs.Closing.{areAmounts}
-use Rattle.fields.specs.Values.{isNumber}
+use Rattle.numbers.proofs.Tests.{not-refused}
 use Rattle.reader.specs.declared.Ending.{Ending}
 use Rattle.reader.specs.declared.Ending.the-variants as ending
 use Rattle.reading.specs.declared.Reading.{Reading}
@@ -35,16 +31,9 @@ use Rattle.prints.specs.Printed.{nextField, refuseText, foundOn, foundTe
 next : (n : ℕ) → n ≤ mostFields → nextField n ≡ suc n
 next n h = rw (lt-ltb n 18_446_744_073_709_551_615 (omega arith)) (add-one n)
 
-amounts-tested : (r : Reading) → isReading r ≡ true → areAmounts (r .amounts) ≡ true
-unfolding isReading
-amounts-tested r e =
-    let place = leb (r .place) 4 in
-    let passed = leb (r .passed) mostPassed in
-    both (place && passed) (areAmounts (r .amounts)) (both (place && passed && areAmounts (r .amounts)) (isNumber (r .vehicle)) e .0) .1
-
-amounts-in-limits : (r : Reading) (b : List ℕ) (l : List ℤ) (m : List ℕ) → readGround r b l m ≡ 0 → areAmounts (r .amounts) ≡ true
+reading-in-limits : (r : Reading) (b : List ℕ) (l : List ℤ) (m : List ℕ) → readGround r b l m ≡ 0 → isReading r ≡ true
 unfolding readGround
-amounts-in-limits r b l m e = amounts-tested r (not-refused 0 _ _ e .0)
+reading-in-limits r b l m e = not-refused 0 _ _ e .0
 
 -- the input may end only after the start
 started-whole : (s : Bool) (n : ℕ) → endingOf s n ≡ ending.Whole → s ≡ true
@@ -69,8 +58,7 @@ module _ (lent : Lent) where
         let y = h .ends-whole e in
         let r = x .desk .reading in
         let found : foundOn x ≡ record { refusal = 0; figures = figuresBy (r .vehicle) (r .passed) (r .amounts) (cycleOf x) (r .run .tolerances) (y .samples) } =
-        figures-of-run (cycleOf x) (r .run .tolerances) (lent .l₀) (lent .m₀) (y .reached) (r .vehicle) (r .passed) (r .amounts)
-        (amounts-in-limits r (cycleOf x) (x .ledger) (x .map) (y .ground)) in
+        figures-of-run (cycleOf x) (r .run .tolerances) (lent .l₀) (lent .m₀) r (y .reached) (reading-in-limits r (cycleOf x) (x .ledger) (x .map) (y .ground)) in
         rw (le-leb (x .desk .opening .cycle) (length (x .room)) (cycle-fits (h .stands) s)) (ap (foundText x) found ∙ ap printed (sym (y .tells)))
 
     -- "Every figure equals the rules of document 01": where the input ends, the bytes printed are those that the rules give for the bytes read

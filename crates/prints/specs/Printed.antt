@@ -25,11 +25,9 @@ nextField fields = cond (ltb fields 18_446_744_073_709_551_615) (fields + 1) fie
 abbrev pub refuseText : Laid → ℕ → List ℕ
 refuseText x number = refusalText number (nextField (x .desk .fields))
 
--- the figures of the run on the desk
+-- the figures of the reading on the desk
 abbrev pub foundOn : Laid → Found
-foundOn x =
-    let r = x .desk .reading in
-    foundOf (r .vehicle) (r .passed) (r .amounts) (r .run) (take (x .desk .opening .cycle) (x .room)) (x .ledger) (x .map)
+foundOn x = foundOf (x .desk .reading) (take (x .desk .opening .cycle) (x .room)) (x .ledger) (x .map)
 
 abbrev pub foundText : Laid → Found → List ℕ
 foundText x f = settled (f .refusal) (sheetText (f .figures)) (refuseText x (f .refusal))

@@ -43,18 +43,7 @@ fn print_run(desk: Desk, room: &[u8], ledger: &[i64], map: &[u64], out: &mut [u8
         return refuse(desk, 1, &mut *out);
     }
     let reading = desk.reading;
-    let vehicle = reading.vehicle;
-    let amounts = reading.amounts;
-    let run = reading.run;
-    let found = figures_of(
-        vehicle,
-        reading.passed,
-        amounts,
-        run,
-        &room[..size],
-        ledger,
-        map,
-    );
+    let found = figures_of(reading, &room[..size], ledger, map);
     let refusal = found.refusal;
     if refusal != 0 {
         return refuse(desk, refusal, &mut *out);

@@ -1,22 +1,33 @@
--- `figures::figures_of` meets its contract: an amount beyond its limits, the judge's refusal, or its sums with the closing figures.
+-- `figures::figures_of` meets its contract: the refusal of the tests before all else, or the judge's sums with the closing figures.
 -- Assumes nothing.
-use mathlib.Core.Path.{sym, _∙_}
+use mathlib.Core.Path.{_≡_, sym, _∙_}
 use borrow.Author.Needs.{needs}
-use borrow.Author.Tests.{not-true, not-false}
-use Rattle.figures.proofs.Answered.{amounts-refused, sums-refused, sums-taken}
+use Rattle.reading.specs.Answers.{readGround}
+use Rattle.figures.proofs.Answered.{tests-refuse, sums-not-refused, sums-taken}
 use Rattle.figures.proofs.figures_of.Statement.{statement}
 use Rattle.figures.proofs.figures_of.Tie as tie
 
-are-amounts-requires : tie.Need-are-amounts-requires
-are-amounts-requires c κs = search needs
+-- the tests passed
+abbrev entry : tie.After-totals → tie.Start
+entry c = c .before .before .before .before .before .before .before .before
+
+passed : (c : tie.After-totals) → (let a = entry c .args in readGround (a .reading) (a .b .now) (a .ledger .now) (a .map .now) ≡ 0)
+passed c =
+    let else = c .before .before .before .before in
+    sym (else .before .read-refusal .ensures) ∙ else .if1 .left
+
+read-refusal-requires : tie.Need-read-refusal-requires
+read-refusal-requires c κs = search needs
 
 refused-requires : tie.Need-refused-requires
 refused-requires c κs = search needs
 
 returns : tie.Need-returns
 returns c =
-    let asked = c .before .before in
-    c .refused .ensures ∙ amounts-refused _ _ _ _ _ _ _ (sym (asked .are-amounts .ensures) ∙ not-true _ (c .before .if1 .taken))
+    let tested = c .before .before in
+    let a = tested .before .before .before .args in
+    c .refused .ensures
+    ∙ tests-refuse (a .reading) (a .b .now) (a .ledger .now) (a .map .now) _ (tested .read-refusal .ensures) (c .before .if1 .taken)
 
 totals-requires : tie.Need-totals-requires
 totals-requires c κs = search needs
@@ -33,29 +44,27 @@ enum-known-answer-2 c = search needs
 figures-with-requires : tie.Need-figures-with-requires
 figures-with-requires c κs = search needs
 
+-- the judge refuses nothing that the tests let through
 returns-2 : tie.Need-returns-2
 returns-2 c =
     let known = c .before .before in
     let summed = known .before .before in
-    let asked = summed .before .before in
-    c .refused2 .ensures
-    ∙ sums-refused _ _ _ _ _ _ _ (sym (asked .are-amounts .ensures) ∙ not-false _ (summed .before .if1 .left)) _
-    (sym (summed .totals .ensures) ∙ known .answer .given .1)
+    let a = entry summed .args in
+    absurd (sums-not-refused (a .reading) (a .b .now) (a .ledger .now) (a .map .now) (passed summed) (sym (summed .totals .ensures) ∙ known .answer .given .1))
 
 returns-3 : tie.Need-returns-3
 returns-3 c =
     let known = c .before .before in
     let summed = known .before .before in
-    let asked = summed .before .before in
+    let a = entry summed .args in
     (λ i. record { refusal = 0; figures = c .figures-with .ensures i })
-    ∙ sums-taken _ _ _ _ _ _ _ (sym (asked .are-amounts .ensures) ∙ not-false _ (summed .before .if1 .left)) _
-    (sym (summed .totals .ensures) ∙ known .answer2 .given .1)
+    ∙ sums-taken (a .reading) (a .b .now) (a .ledger .now) (a .map .now) (passed summed) _ (sym (summed .totals .ensures) ∙ known .answer2 .given .1)
 
 pub figures-of-spec : {M : Type 1} → statement M
 figures-of-spec =
     tie.close
     (tie.spec
-    are-amounts-requires
+    read-refusal-requires
     refused-requires
     returns
     totals-requires

@@ -26,7 +26,7 @@ returns c =
 
 slice-aggregate-figures-of : tie.Need-slice-aggregate-figures-of
 slice-aggregate-figures-of c =
-    let room = c .before .before .before .before .before in
+    let room = c .before .before in
     let a = room .before .before .before .before .before .args in
     sym (length-take-le (a .desk .opening .cycle) (a .room .now) (room .if1 .left))
 
@@ -43,7 +43,7 @@ returns-2 : tie.Need-returns-2
 returns-2 c =
     let line = c .before .before in
     let found = line .before .before .before in
-    let room = found .before .before .before .before .before .before in
+    let room = found .before .before .before in
     let s = room .before .before .before .before .before in
     as-text (s .args .out .now) (figures-refused (laid s) (room .if1 .left) _ (found .figures-of .ensures) (line .before .before .if2 .taken)) (line .refuse2 .ensures)
 
@@ -58,7 +58,7 @@ returns-3 c =
     let lines = c .before .before in
     let none = lines .before .before .before in
     let found = none .before in
-    let room = found .before .before .before .before .before .before in
+    let room = found .before .before .before in
     let s = room .before .before .before .before .before in
     as-text (s .args .out .now) (figures-found (laid s) (room .if1 .left) _ (found .figures-of .ensures) (none .if2 .left)) (lines .sheet-lines .ensures)
 
