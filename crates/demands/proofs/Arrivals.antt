@@ -16,10 +16,12 @@ use Rattle.sheet.specs.Laid.{laid}
 use Rattle.sheet.specs.Text.{mostSheet, refusalText}
 use Rattle.desk.specs.declared.Outcome.{Outcome}
 use Rattle.desk.specs.declared.Outcome.the-variants.{More, Refused}
-use Rattle.desk.specs.Feeding.{Laid, Taken, laidOf, emptyDesk, feedOf}
+use Rattle.desk.specs.Feeding.{Laid, Taken, laidOf, emptyDesk, stops, feedOf, deskGround}
+use Rattle.desk.proofs.Grounds.{feed-refuses}
 use Rattle.desk.proofs.Arriving.{Arrived, arrived-none, arrived-more, arrived-refused}
 use Rattle.desk.proofs.feed
 use Rattle.prints.specs.Printed.{nextField, refuseText, closeText, printed}
+use Rattle.prints.proofs.Texts.{desk-refused}
 use Rattle.prints.proofs.Printing as printing
 use Rattle.prints.proofs.refuse
 use Rattle.prints.proofs.close
@@ -95,6 +97,18 @@ pub record RefuseOn (x : Laid) (k : ℕ) (c : RefuseCall) : Type 0 where
   pub desk : c .args .0 ≡ x .desk
   pub number : c .args .1 .0 ≡ k
   pub long : mostSheet ≤ length (now (c .args .1 .1 .0))
+
+-- "Before all else it refuses 1 .. Then it refuses 2", and changes nothing: of any desk, whether a record's bytes brought it or not
+module _ (x : Laid) (some : deskGround x ≡ 0 → ⊥) where
+  pub feed-before-all : (i : List ℕ) (c : FeedCall) → FeedOn x i c → record { laid = laidBy c; used = c .answer .used; outcome = c .answer .outcome } ≡ stops x (Refused (deskGround x))
+  feed-before-all i c on = fed-by c on ∙ feed-refuses x i some
+
+  pub close-before-all : (rest : List ℕ) (c : CloseCall) → CloseOn x rest c
+      → take (c .answer) (c .lasts .1 .1 .1 .1 .1 .0) ≡ refusalText (deskGround x) (nextField (x .desk .fields))
+  close-before-all rest c on =
+      text-is _ _ (c .kept .0) (c .kept .1) (on .long)
+      ∙ (λ j. closeText (laidOf (on .desk j) (on .room j) (on .ledger j) (on .map j)) (on .left j))
+      ∙ sym (desk-refused x (length rest) (deskGround x) refl some)
 
 module _ (lent : Lent) {w rest : List ℕ} {x : Laid} (h : FedIn lent w x rest) where
   -- "Every figure equals the rules of document 01": where the input ends, the bytes printed are those that the rules give for the bytes read

@@ -1,9 +1,9 @@
 -- A record's bytes as a program reads them: what is left over stands before the bytes that follow. This is what its loop keeps.
 -- Assumes nothing.
-use mathlib.Core.Bool.{true, false, false≢true}
+use mathlib.Core.Bool.{false≢true}
 use mathlib.Core.List.{List, [], _++_, append-assoc}
 use mathlib.Core.Path.{_≡_, refl, sym, ap, subst, _∙_}
-use Prim.Native.Nat.{ℕ, suc, _-_, _<_}
+use Prim.Native.Nat.{ℕ, suc, _-_, _≤_, _<_}
 use native.Mathlib.Omega.{arith}
 use lib.ListN.{length, take, drop, length-drop, take-append-drop}
 use lib.Dec.{lit<}
@@ -14,11 +14,20 @@ use Rattle.reader.specs.Answers.{endingOf}
 use Rattle.records.specs.Records.{refused, blank, startRefused, begunBy, sheetOf}
 use Rattle.records.proofs.Openings.{no-bytes}
 use Rattle.records.proofs.Calls.{Lent}
-use Rattle.records.proofs.Records.{Handed}
+use Rattle.records.proofs.Records.{Handed, until-ready, never-refused-1-or-2}
 use Rattle.desk.specs.declared.Outcome.the-variants.{More, Refused}
-use Rattle.desk.specs.Feeding.{Laid, laidOf, emptyDesk, cycleOf, feedOf}
+use Rattle.desk.specs.Feeding.{Laid, laidOf, emptyDesk, cycleOf, feedOf, mostFields, deskGround}
 use Rattle.desk.proofs.Short.{longest}
-use Rattle.desk.proofs.Feeds.{Stands, stands-empty, stands-on, feed-refused, feed-more-short, feed-ended-refused, feed-ended-whole}
+use Rattle.desk.proofs.Grounds.{of-opening, of-reading}
+use Rattle.desk.proofs.Feeds.{Stands, opens, reads, stands-empty, stands-few, stands-on, feed-refused, feed-more-short, feed-ended-refused, feed-ended-whole}
+
+-- a record's desk has no 1 or 2: "such a call is never refused 1 or 2"
+pub stands-ground : (lent : Lent) {p : List ℕ} {x : Laid} → Stands lent p x → deskGround x ≡ 0
+stands-ground lent h = go h (stands-few lent h)
+  where
+    go : {p : List ℕ} {x : Laid} → Stands lent p x → x .desk .fields ≤ mostFields → deskGround x ≡ 0
+    go (opens e u n) few = sym (of-opening _ few e) ∙ until-ready lent u
+    go (reads e h s) few = sym (of-reading _ few e h) ∙ never-refused-1-or-2 lent s
 
 -- no bytes: "Empty input: `refused 15 field 1`"
 pub sheet-empty : sheetOf [] ≡ refused 15 1

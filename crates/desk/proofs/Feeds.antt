@@ -43,6 +43,7 @@ use Rattle.desk.specs.declared.Desk.{Desk}
 use Rattle.desk.specs.declared.Outcome.{Outcome}
 use Rattle.desk.specs.declared.Outcome.the-variants.{More, Refused}
 use Rattle.desk.specs.Feeding.{Laid, Taken, laidOf, emptyDesk, stops, behind, opensTo, openOne, goOn, openUpto, outcomeOf, cycleOf, readOn, mostFields, thenRead, feedOf}
+use Rattle.desk.proofs.Grounds.{opens-nothing}
 use Rattle.desk.proofs.Turns.{accepted-size, all-size}
 use Rattle.desk.proofs.Short.{longest, open-short, all-short}
 use Rattle.desk.proofs.Few.{since-few}
@@ -161,13 +162,6 @@ module _ (lent : Lent) where
     call-starts n r e =
         let w = starts hold cycleIn (λ b t. startRefusal b t l₀ m₀) (begunOf o room) i n r (sym (ap (λ (x : Opened Held). x .step) call-is) ∙ e) in
         (w .three, ap (λ (x : Opened Held). x .begun) call-is ∙ w .begun)
-
-  -- a desk whose run has started opens nothing
-  opens-nothing : (n : ℕ) (x : Laid) (i : List ℕ) → x .desk .started ≡ true → openUpto n x i ≡ stops x More
-  unfolding openUpto
-  opens-nothing zero x i e = refl
-  opens-nothing (suc n) x i e =
-      ap (λ (t : Bool). cond t (stops x More) (goOn (openOne x i) (openUpto n (openOne x i .laid) (drop (openOne x i .used) i)))) e
 
   -- at most n fields are opened, and they are enough
   abbrev Opens : ℕ → Type 0

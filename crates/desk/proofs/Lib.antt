@@ -1,4 +1,5 @@
 -- The laws of a desk that is fed.
+pub mod Grounds
 pub mod Turns
 pub mod Short
 pub mod Few

@@ -17,8 +17,8 @@ use Rattle.opening.specs.declared.OpenStep.{OpenStep}
 use Rattle.opening.specs.declared.OpenStep.the-variants as opening
 use Rattle.reading.specs.Reading.{Read}
 use Rattle.opening.specs.Opening.{Opened}
-use Rattle.opening.specs.Answers.{Held, nothing, openingOf, openOf, memoryAfter}
-use Rattle.reading.specs.Answers.{startedReading, readingOf, readAllOf}
+use Rattle.opening.specs.Answers.{Held, nothing, openingOf, openGround, openOf, memoryAfter}
+use Rattle.reading.specs.Answers.{startedReading, readingOf, readGround, readAllOf}
 pub use Rattle.desk.specs.declared.Desk.{Desk}
 pub use Rattle.desk.specs.declared.Outcome.{Outcome}
 pub use Rattle.desk.specs.declared.Outcome.the-variants.{More, Refused}
@@ -153,3 +153,13 @@ thenRead y i = cond (y .laid .desk .started) (behind (y .used) (readOn (y .laid)
 -- "works through its bytes field by field": until the start and after it
 unfoldable pub feedOf : Laid → List ℕ → Taken
 feedOf x i = unless (stops x (Refused 1)) (leb (x .desk .fields) mostFields) (thenRead (openUpto 4 x i) i)
+
+-- ---- before all else
+
+-- 1 where the room is too short for the cycle; "In a started run 1 and 2 come before all others"
+abbrev pub startedGround : Laid → ℕ
+startedGround x = unless 1 (leb (x .desk .opening .cycle) (length (x .room))) (readGround (x .desk .reading) (cycleOf x) (x .ledger) (x .map))
+
+-- the 1 or 2 of a desk, 0 where it has none: of its number of fields, then until the start of the opening, after it of the reading
+unfoldable pub deskGround : Laid → ℕ
+deskGround x = unless 1 (leb (x .desk .fields) mostFields) (cond (x .desk .started) (startedGround x) (openGround (x .desk .opening) (x .room)))

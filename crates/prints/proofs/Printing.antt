@@ -1,15 +1,14 @@
 -- What the report prints is what the rules say of the record, however its bytes arrive.
 -- Assumes nothing.
-use mathlib.Core.Bool.{Bool, true, false, false≢true}
+use mathlib.Core.Bool.{true}
 use mathlib.Core.List.{List, _++_}
 use mathlib.Core.Path.{_≡_, refl, sym, ap, _∙_}
-use Prim.Native.Nat.{ℕ, suc, _+_, _≤_}
+use Prim.Native.Nat.{ℕ, suc, _≤_}
 use native.Mathlib.Numerals.{add-one}
 use native.Mathlib.Omega.{arith}
-use borrow.Author.Tests.{lt-ltb, le-leb}
+use borrow.Author.Tests.{lt-ltb}
 use lib.IntN.{ℤ}
 use lib.ListN.{length}
-use Rattle.numbers.specs.Tests.{unless}
 use Rattle.numbers.proofs.Tests.{not-refused}
 use Rattle.reader.specs.declared.Ending.{Ending}
 use Rattle.reader.specs.declared.Ending.the-variants as ending
@@ -18,14 +17,16 @@ use Rattle.reading.specs.Answers.{isReading, readGround}
 use Rattle.reader.specs.Answers.{endingOf}
 use Rattle.records.specs.Records.{sheetOf}
 use Rattle.records.proofs.Calls.{Lent}
-use Rattle.sheet.specs.Text.{refusalText}
+use Rattle.sheet.specs.Text.{sheetText, refusalText}
+use Rattle.figures.specs.declared.Found.{Found}
 use Rattle.figures.specs.Figured.{figuresBy}
 use Rattle.figures.proofs.OfRun.{figures-of-run}
 use Rattle.desk.specs.declared.Outcome.the-variants.{Refused}
 use Rattle.desk.specs.Feeding.{Laid, cycleOf, feedOf, mostFields}
-use Rattle.desk.proofs.Feeds.{Stands, opens, reads, stands-few, stands-on}
-use Rattle.desk.proofs.Arriving.{Arrived, arrived-refused}
-use Rattle.prints.specs.Printed.{nextField, refuseText, foundOn, foundText, runText, textBy, closeText, printed}
+use Rattle.desk.proofs.Feeds.{stands-few, stands-on}
+use Rattle.desk.proofs.Arriving.{Arrived, stands-ground, arrived-refused}
+use Rattle.prints.specs.Printed.{nextField, refuseText, foundOn, textBy, closeText, printed}
+use Rattle.prints.proofs.Texts.{by-ending}
 
 -- the number of the next field, of which there are not too many
 next : (n : ℕ) → n ≤ mostFields → nextField n ≡ suc n
@@ -35,39 +36,26 @@ reading-in-limits : (r : Reading) (b : List ℕ) (l : List ℤ) (m : List ℕ) �
 unfolding readGround
 reading-in-limits r b l m e = not-refused 0 _ _ e .0
 
--- the input may end only after the start
-started-whole : (s : Bool) (n : ℕ) → endingOf s n ≡ ending.Whole → s ≡ true
-unfolding endingOf unless
-started-whole true n e = refl
-started-whole false n e = absurd (false≢true cc)
-
 module _ (lent : Lent) where
-  -- a started desk has room for its cycle
-  cycle-fits : {p : List ℕ} {x : Laid} → Stands lent p x → x .desk .started ≡ true → x .desk .opening .cycle ≤ length (x .room)
-  cycle-fits (opens e u n) s = absurd (false≢true (sym e ∙ s))
-  cycle-fits (reads e h n) s = h
-
   module _ {w rest : List ℕ} {x : Laid} (h : Arrived lent w x rest) where
     refusal-printed : (k : ℕ) → endingOf (x .desk .started) (length rest) ≡ ending.Refused k → refuseText x k ≡ printed (sheetOf w)
     refusal-printed k e =
         ap (refusalText k) (next (x .desk .fields) (stands-few lent (h .stands))) ∙ ap printed (sym (h .ends-refused k e))
 
-    sheet-printed : endingOf (x .desk .started) (length rest) ≡ ending.Whole → x .desk .started ≡ true → runText x ≡ printed (sheetOf w)
-    unfolding runText
-    sheet-printed e s =
+    sheet-printed : endingOf (x .desk .started) (length rest) ≡ ending.Whole → textBy ending.Whole x ≡ printed (sheetOf w)
+    sheet-printed e =
         let y = h .ends-whole e in
         let r = x .desk .reading in
         let found : foundOn x ≡ record { refusal = 0; figures = figuresBy (r .vehicle) (r .passed) (r .amounts) (cycleOf x) (r .run .tolerances) (y .samples) } =
         figures-of-run (cycleOf x) (r .run .tolerances) (lent .l₀) (lent .m₀) r (y .reached) (reading-in-limits r (cycleOf x) (x .ledger) (x .map) (y .ground)) in
-        rw (le-leb (x .desk .opening .cycle) (length (x .room)) (cycle-fits (h .stands) s)) (ap (foundText x) found ∙ ap printed (sym (y .tells)))
+        ap (λ (f : Found). sheetText (f .figures)) found ∙ ap printed (sym (y .tells))
 
     -- "Every figure equals the rules of document 01": where the input ends, the bytes printed are those that the rules give for the bytes read
     pub report-prints : closeText x (length rest) ≡ printed (sheetOf w)
-    unfolding closeText
-    report-prints = go (endingOf (x .desk .started) (length rest)) refl
+    report-prints = sym (by-ending x (length rest) (stands-ground lent (h .stands)) _ _ refl refl) ∙ go (endingOf (x .desk .started) (length rest)) refl
       where
         go : (y : Ending) → endingOf (x .desk .started) (length rest) ≡ y → textBy y x ≡ printed (sheetOf w)
-        go ending.Whole e = sheet-printed e (started-whole (x .desk .started) (length rest) e)
+        go ending.Whole e = sheet-printed e
         go (ending.Refused k) e = refusal-printed k e
 
     -- and where a field is refused, whatever would follow it

@@ -3,8 +3,7 @@
 use mathlib.Core.Bool.{cond}
 use mathlib.Core.List.{List}
 use Prim.Native.Nat.{ℕ, _+_}
-use lib.Dec.{leb, ltb}
-use lib.ListN.{length, take}
+use lib.Dec.{ltb}
 use Rattle.numbers.specs.Tests.{settled}
 use Rattle.reader.specs.declared.Ending.{Ending}
 use Rattle.reader.specs.declared.Ending.the-variants as ending
@@ -13,7 +12,7 @@ use Rattle.records.specs.Records.{Sheet, told, refused}
 use Rattle.sheet.specs.Text.{sheetText, refusalText}
 use Rattle.figures.specs.declared.Found.{Found}
 use Rattle.figures.specs.Figured.{foundOf, figuresBy}
-use Rattle.desk.specs.Feeding.{Laid}
+use Rattle.desk.specs.Feeding.{Laid, cycleOf, deskGround}
 
 -- ---- of a desk
 
@@ -27,22 +26,16 @@ refuseText x number = refusalText number (nextField (x .desk .fields))
 
 -- the figures of the reading on the desk
 abbrev pub foundOn : Laid → Found
-foundOn x = foundOf (x .desk .reading) (take (x .desk .opening .cycle) (x .room)) (x .ledger) (x .map)
+foundOn x = foundOf (x .desk .reading) (cycleOf x) (x .ledger) (x .map)
 
-abbrev pub foundText : Laid → Found → List ℕ
-foundText x f = settled (f .refusal) (sheetText (f .figures)) (refuseText x (f .refusal))
-
--- a record that was read to its end; a cycle longer than the room is a state out of bounds
-unfoldable pub runText : Laid → List ℕ
-runText x = cond (leb (x .desk .opening .cycle) (length (x .room))) (foundText x (foundOn x)) (refuseText x 1)
-
+-- by whether the input may end here
 abbrev pub textBy : Ending → Laid → List ℕ
-textBy ending.Whole x = runText x
+textBy ending.Whole x = sheetText (foundOn x .figures)
 textBy (ending.Refused number) x = refuseText x number
 
--- where the input ends, with so many bytes of an unfinished field left over
+-- where the input ends, with so many bytes of an unfinished field left over: 1 and 2 before all else, then 15, then the sheet
 unfoldable pub closeText : Laid → ℕ → List ℕ
-closeText x left = textBy (endingOf (x .desk .started) left) x
+closeText x left = settled (deskGround x) (textBy (endingOf (x .desk .started) left) x) (refuseText x (deskGround x))
 
 -- ---- of a record, by the rules alone
 

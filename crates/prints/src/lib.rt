@@ -1,18 +1,22 @@
 // What the report prints of a record: its sheet, or the refusal with the number of its field.
 use desk::Desk;
 use figures::figures_of;
+use opening::open_refusal;
 use reader::Ending;
 use reader::ended;
+use reading::read_refusal;
 use sheet::refusal_line;
 use sheet::sheet_lines;
 ghost use mathlib.Core.Path.{_≡_};
+ghost use Prim.Native.Nat.{_≤_};
 ghost use lib.Dec.{leb};
 ghost use lib.ListN.{length};
 ghost use Rattle.numbers.specs.Tests.{unless};
 ghost use Rattle.sheet.specs.Laid.{laid};
 ghost use Rattle.sheet.specs.Text.{mostSheet, refusalText};
-ghost use Rattle.desk.specs.Feeding.{laidOf};
-ghost use Rattle.prints.specs.Printed.{nextField, closeText, runText};
+ghost use Rattle.reader.specs.declared.Ending.the-variants.{Whole};
+ghost use Rattle.desk.specs.Feeding.{laidOf, deskGround};
+ghost use Rattle.prints.specs.Printed.{nextField, textBy, closeText};
 
 // "K is the number of accepted fields .. plus one".
 fn next_field(fields: u64) -> u64
@@ -32,22 +36,34 @@ pub fn refuse(desk: Desk, number: u32, out: &mut [u8]) -> usize
     refusal_line(number, next_field(desk.fields), &mut *out)
 }
 
-// A record that was read to its end.
-fn print_run(desk: Desk, room: &[u8], ledger: &[i64], map: &[u64], out: &mut [u8]) -> usize
-    ensures { λ r. ⌜ r ≡ unless 0 (leb mostSheet (length (now (out .entry)))) (length (runText (laidOf desk (now (room .entry)) (now (ledger .entry)) (now (map .entry))))) ⌝ }
-    ensures { λ _. ⌜ now (out .exit) ≡ unless (now (out .entry)) (leb mostSheet (length (now (out .entry)))) (laid (now (out .entry)) 0 (runText (laidOf desk (now (room .entry)) (now (ledger .entry)) (now (map .entry))))) ⌝ }
+// 1 or 2, or 0 where the desk may be closed.
+fn desk_refusal(desk: Desk, room: &[u8], ledger: &[i64], map: &[u64]) -> u32
+    ensures { λ r. ⌜ r ≡ deskGround (laidOf desk (now (room .entry)) (now (ledger .entry)) (now (map .entry))) ⌝ }
 {
+    if 8_000_008 < desk.fields {
+        return 1;
+    }
     let opening = desk.opening;
+    if !desk.started {
+        return open_refusal(opening, room);
+    }
     let size = opening.cycle;
     if room.len() < size {
-        return refuse(desk, 1, &mut *out);
+        return 1;
     }
     let reading = desk.reading;
-    let found = figures_of(reading, &room[..size], ledger, map);
-    let refusal = found.refusal;
-    if refusal != 0 {
-        return refuse(desk, refusal, &mut *out);
-    }
+    read_refusal(reading, &room[..size], ledger, map)
+}
+
+// A record that was read to its end.
+fn print_run(desk: Desk, room: &[u8], ledger: &[i64], map: &[u64], out: &mut [u8]) -> usize
+    requires { ⌜ desk .opening .cycle ≤ length (now room) ⌝ }
+    ensures { λ r. ⌜ r ≡ unless 0 (leb mostSheet (length (now (out .entry)))) (length (textBy Whole (laidOf desk (now (room .entry)) (now (ledger .entry)) (now (map .entry))))) ⌝ }
+    ensures { λ _. ⌜ now (out .exit) ≡ unless (now (out .entry)) (leb mostSheet (length (now (out .entry)))) (laid (now (out .entry)) 0 (textBy Whole (laidOf desk (now (room .entry)) (now (ledger .entry)) (now (map .entry))))) ⌝ }
+{
+    let opening = desk.opening;
+    let reading = desk.reading;
+    let found = figures_of(reading, &room[..opening.cycle], ledger, map);
     let figures = found.figures;
     sheet_lines(figures, &mut *out)
 }
@@ -64,6 +80,10 @@ pub fn close(
     ensures { λ r. ⌜ r ≡ unless 0 (leb mostSheet (length (now (out .entry)))) (length (closeText (laidOf desk (now (room .entry)) (now (ledger .entry)) (now (map .entry))) left)) ⌝ }
     ensures { λ _. ⌜ now (out .exit) ≡ unless (now (out .entry)) (leb mostSheet (length (now (out .entry)))) (laid (now (out .entry)) 0 (closeText (laidOf desk (now (room .entry)) (now (ledger .entry)) (now (map .entry))) left)) ⌝ }
 {
+    let refusal = desk_refusal(desk, room, ledger, map);
+    if refusal != 0 {
+        return refuse(desk, refusal, &mut *out);
+    }
     let started = desk.started;
     let ending = ended(started, left);
     match ending {
