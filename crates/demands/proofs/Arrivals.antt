@@ -2,17 +2,11 @@
 -- Assumes nothing.
 use mathlib.Core.List.{List, [], _++_}
 use mathlib.Core.Path.{_≡_, refl, sym, ap, ap₂, subst, _∙_}
-use Prim.Native.Nat.{ℕ, suc, _+_, _≤_}
-use borrow.Author.Tests.{le-leb}
-use lib.Dec.{leb}
+use Prim.Native.Nat.{ℕ, suc, _≤_}
 use lib.ListN.{length, take, drop}
-use lib.Seq.{take-at}
 use denote.Ref.{now}
-use Rattle.numbers.specs.Tests.{unless}
-use Rattle.numbers.proofs.Tests.{pass}
 use Rattle.records.specs.Records.{refused, sheetOf}
 use Rattle.records.proofs.Calls.{Lent}
-use Rattle.sheet.specs.Laid.{laid}
 use Rattle.sheet.specs.Text.{mostSheet, refusalText}
 use Rattle.desk.specs.declared.Outcome.{Outcome}
 use Rattle.desk.specs.declared.Outcome.the-variants.{More, Refused}
@@ -21,7 +15,7 @@ use Rattle.desk.proofs.Grounds.{feed-refuses}
 use Rattle.desk.proofs.Arriving.{Arrived, arrived-none, arrived-more, arrived-refused}
 use Rattle.desk.proofs.feed
 use Rattle.prints.specs.Printed.{nextField, refuseText, closeText, printed}
-use Rattle.prints.proofs.Texts.{desk-refused}
+use Rattle.prints.proofs.Texts.{text-is, desk-refused}
 use Rattle.prints.proofs.Printing as printing
 use Rattle.prints.proofs.refuse
 use Rattle.prints.proofs.close
@@ -68,14 +62,6 @@ module _ (lent : Lent) where
       (arrived-more lent (fed-arrived h) new (sym (ap (λ (y : Taken). y .outcome) f) ∙ e))
 
 -- ---- what is printed
-
--- the bytes that a call printed are its text, where its lines are at least 512 bytes
-text-is : (text out : List ℕ) {r : ℕ} {o : List ℕ} → r ≡ unless 0 (leb mostSheet (length out)) (length text)
-    → o ≡ unless out (leb mostSheet (length out)) (laid out 0 text) → mostSheet ≤ length out → take r o ≡ text
-unfolding laid
-text-is text out p q h =
-    let t = le-leb mostSheet (length out) h in
-    ap₂ take (p ∙ sym (pass 0 t refl)) (q ∙ sym (pass out t refl)) ∙ take-at text (drop (0 + length text) out) (length text) refl
 
 abbrev pub CloseCall : Type 0
 CloseCall = Call close.ended close.Reads.Learnt

@@ -1,2 +1,4 @@
 -- Laws of a turn of reading.
 pub mod Fed
+pub mod Coming
+pub mod Told

@@ -1,17 +1,26 @@
--- What a turn of reading leaves: counts within the buffer and within the record. Which bytes a file gives, nothing here can say.
+-- What a turn of reading leaves: counts within the buffer and within the record, and what of the bytes that came stands on the desk and in the buffer.
+-- Which bytes a file gives, nothing here can say.
 -- Assumes nothing.
-use mathlib.Core.Bool.{Bool, true, false}
+use mathlib.Core.Bool.{Bool, true, false, cond}
 use mathlib.Core.Path.{_≡_}
-use mathlib.Core.List.{List}
-use Prim.Native.Nat.{ℕ, _-_, _≤_, _<_}
-use lib.ListN.{drop}
+use mathlib.Core.List.{List, [], _++_}
+use Prim.Native.Nat.{ℕ, _+_, _-_, _≤_, _<_}
+use lib.Dec.{leb}
+use lib.IntN.{ℤ}
+use lib.ListN.{length, take, drop}
 use lib.Seq.{paste}
+use Rattle.numbers.specs.Tests.{unless}
+use Rattle.sheet.specs.Laid.{laid}
+use Rattle.sheet.specs.Text.{mostSheet}
+use Rattle.prints.specs.Printed.{refuseText, closeText}
+use Rattle.desk.specs.declared.Desk.{Desk}
 use Rattle.desk.specs.declared.Outcome.{Outcome}
 use Rattle.desk.specs.declared.Outcome.the-variants.{More}
 use Rattle.desk.specs.declared.Outcome.the-variants as outcome
-use Rattle.desk.specs.Feeding.{Taken}
+use Rattle.desk.specs.Feeding.{Laid, Taken, laidOf, feedOf}
 use Rattle.intake.specs.declared.Got.{Got}
 use Rattle.intake.specs.declared.Got.the-variants as got
+use Rattle.intake.specs.declared.Intake.{Intake}
 use Rattle.intake.specs.declared.Turn.{Turn}
 use Rattle.intake.specs.declared.Turned.{Turned}
 use Rattle.intake.specs.declared.Turned.the-variants.{On, Ended, Failed, Refused}
@@ -53,3 +62,64 @@ isOn (Refused k) = false
 pub record Goes (size n : ℕ) (t : Turn) : Type 0 where
   pub held : t .held ≤ size
   pub falls : isOn (t .turned) ≡ true → t .left < n
+
+-- ---- the bytes of a record, as they come
+
+-- the bytes w came in parts, each behind what was left over of those before it: the desk x has taken all but the rest, and what became of the last part
+pub data Came (x₀ : Laid) : List ℕ → Laid → List ℕ → Outcome → Type 0 where
+  none : Came x₀ [] x₀ [] More
+  part : {w rest : List ℕ} {x : Laid} → Came x₀ w x rest More → (new : List ℕ)
+      → Came x₀ (w ++ new) (feedOf x (rest ++ new) .laid) (drop (feedOf x (rest ++ new) .used) (rest ++ new)) (feedOf x (rest ++ new) .outcome)
+
+-- what a turn says of the bytes: no field was refused, or one was
+abbrev pub outcomeBy : Turned → Outcome
+outcomeBy On = More
+outcomeBy Ended = More
+outcomeBy Failed = More
+outcomeBy (Refused k) = outcome.Refused k
+
+-- a turn with its buffer and memory
+pub record Place : Type 0 where
+  pub turn : Turn
+  pub buffer : List ℕ
+  pub room : List ℕ
+  pub ledger : List ℤ
+  pub map : List ℕ
+
+abbrev pub placeOf : Turn → List ℕ → List ℕ → List ℤ → List ℕ → Place
+placeOf t buffer room l m = record { turn = t; buffer = buffer; room = room; ledger = l; map = m }
+
+-- before a turn
+abbrev pub onwards : Desk → ℕ → ℕ → Turn
+onwards desk held left = record { turned = On; desk = desk; held = held; left = left }
+
+-- so a record of at most so many bytes stands there: the rest of the bytes that came is held at the front of the buffer
+pub record Stood (x₀ : Laid) (most : ℕ) (p : Place) : Type 0 where
+  pub bytes : List ℕ
+  pub rest : List ℕ
+  pub came : Came x₀ bytes (laidOf (p .turn .desk) (p .room) (p .ledger) (p .map)) rest (outcomeBy (p .turn .turned))
+  pub held : outcomeBy (p .turn .turned) ≡ More → (rest ≡ take (p .turn .held) (p .buffer)) × (length rest ≡ p .turn .held)
+  pub all : length bytes + p .turn .left ≡ most
+
+-- a turn leads from place to place: whatever record stood here stands there
+abbrev pub Leads : Place → Place → Type 0
+Leads p q = (x₀ : Laid) (most : ℕ) → Stood x₀ most p → Stood x₀ most q
+
+-- ---- a whole record
+
+-- what is printed of the desk x, with so many bytes left over: the line of a refused field, or what stands where the input ends
+abbrev pub textOf : Outcome → Laid → ℕ → List ℕ
+textOf More x left = closeText x left
+textOf (outcome.Refused k) x left = refuseText x k
+
+-- a record of at most so many bytes was read and printed to the lines out. Which bytes came, and in which parts, is the file's; all else follows from them
+pub record Recorded (x₀ : Laid) (most : ℕ) (out : List ℕ) (r : Intake) (room : List ℕ) (ledger : List ℤ) (map after : List ℕ) : Type 0 where
+  pub desk : Desk
+  pub bytes : List ℕ
+  pub rest : List ℕ
+  pub outcome : Outcome
+  pub came : Came x₀ bytes (laidOf desk room ledger map) rest outcome
+  pub all : length bytes + r .left ≡ most
+  -- where reading failed, nothing is printed
+  pub printed : r .printed ≡ cond (r .failed) 0 (unless 0 (leb mostSheet (length out)) (length (textOf outcome (laidOf desk room ledger map) (length rest))))
+  pub lines : after ≡ cond (r .failed) out (unless out (leb mostSheet (length out)) (laid out 0 (textOf outcome (laidOf desk room ledger map) (length rest))))

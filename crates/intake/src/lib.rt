@@ -5,12 +5,13 @@ use desk::empty;
 use desk::feed;
 use prints::close;
 use prints::refuse;
+ghost use mathlib.Core.Bool.{true};
 ghost use mathlib.Core.Path.{_≡_};
 ghost use Prim.Native.Nat.{_+_, _-_, _≤_, _<_};
 ghost use lib.ListN.{length, take, drop};
 ghost use lib.Seq.{paste};
-ghost use Rattle.desk.specs.Feeding.{laidOf, feedOf};
-ghost use Rattle.intake.specs.Turns.{Within, turnOf, bufferAfter, isOn, Goes};
+ghost use Rattle.desk.specs.Feeding.{laidOf, emptyDesk, feedOf};
+ghost use Rattle.intake.specs.Turns.{Within, turnOf, bufferAfter, isOn, Goes, placeOf, onwards, Stood, Leads, Recorded};
 
 // What became of a turn: bytes were taken, the input ended, reading failed, or a field was refused.
 pub enum Turned {
@@ -133,6 +134,7 @@ fn read_once(
 ) -> Turn
     requires { ⌜ held ≤ length (now buffer) ⌝ }
     ensures { λ r. ⌜ Goes (length (now (buffer .entry))) left r ⌝ }
+    ensures { λ r. ⌜ Leads (placeOf (onwards desk held left) (now (buffer .entry)) (now (room .entry)) (now (ledger .entry)) (now (map .entry))) (placeOf r (now (buffer .exit)) (now (room .exit)) (now (ledger .exit)) (now (map .exit))) ⌝ }
 {
     let space = buffer.len() - held;
     let end = held + at_most(space, left);
@@ -182,7 +184,9 @@ fn read_through(
     room: &mut [u8],
     ledger: &mut [i64],
     map: &mut [u64],
-) -> Turn {
+) -> Turn
+    ensures { λ r. ⌜ Stood (laidOf emptyDesk (now (room .entry)) (now (ledger .entry)) (now (map .entry))) most (placeOf r (now (buffer .exit)) (now (room .exit)) (now (ledger .exit)) (now (map .exit))) ⌝ }
+{
     let mut desk = empty();
     let mut held = 0;
     let mut left = most;
@@ -222,14 +226,16 @@ pub fn take_record(
     ledger: &mut [i64],
     map: &mut [u64],
     lines: &mut [u8],
-) -> Intake {
+) -> Intake
+    ensures { λ r. ⌜ Recorded (laidOf emptyDesk (now (room .entry)) (now (ledger .entry)) (now (map .entry))) most (now (lines .entry)) r (now (room .exit)) (now (ledger .exit)) (now (map .exit)) (now (lines .exit)) ⌝ }
+{
     let t = read_through(fd, most, &mut *buffer, &mut *room, &mut *ledger, &mut *map);
     let desk = t.desk;
     let turned = t.turned;
     match turned {
         Turned::Failed => Intake {
             printed: 0,
-            left: 0,
+            left: t.left,
             failed: true,
         },
         Turned::Refused(number) => Intake {
@@ -239,12 +245,12 @@ pub fn take_record(
         },
         Turned::On => Intake {
             printed: close(desk, t.held, &room[..], &ledger[..], &map[..], &mut *lines),
-            left: 0,
+            left: t.left,
             failed: false,
         },
         Turned::Ended => Intake {
             printed: close(desk, t.held, &room[..], &ledger[..], &map[..], &mut *lines),
-            left: 0,
+            left: t.left,
             failed: false,
         },
     }
@@ -264,7 +270,9 @@ pub fn skip(fd: i32, most: u64, buffer: &mut [u8]) {
 }
 
 // The first bytes of the lines, so many of them, go out.
-pub fn print(fd: i32, lines: &[u8], n: usize) -> bool {
+pub fn print(fd: i32, lines: &[u8], n: usize) -> bool
+    ensures { λ r. ⌜ (r ≡ true → n ≤ length (now (lines .entry))) ⌝ }
+{
     if lines.len() < n {
         return false;
     }

@@ -2,12 +2,14 @@
 -- Assumes nothing.
 use mathlib.Core.Bool.{Bool, true, false, false≢true}
 use mathlib.Core.List.{List}
-use mathlib.Core.Path.{_≡_, refl, sym, ap, subst, _∙_}
-use Prim.Native.Nat.{ℕ}
+use mathlib.Core.Path.{_≡_, refl, sym, ap, ap₂, subst, _∙_}
+use Prim.Native.Nat.{ℕ, _+_, _≤_}
+use borrow.Author.Tests.{le-leb}
 use lib.Dec.{leb}
-use lib.ListN.{length}
+use lib.ListN.{length, take, drop}
+use lib.Seq.{take-at}
 use Rattle.numbers.specs.Tests.{unless}
-use Rattle.numbers.proofs.Tests.{settled-taken, settled-refused}
+use Rattle.numbers.proofs.Tests.{pass, settled-taken, settled-refused}
 use Rattle.reader.specs.declared.Ending.{Ending}
 use Rattle.reader.specs.declared.Ending.the-variants as ending
 use Rattle.reader.specs.Answers.{endingOf}
@@ -23,6 +25,14 @@ Prints text out r after = (r ≡ unless 0 (leb mostSheet (length out)) (length t
 -- by what the text is known to be
 pub as-text : (out : List ℕ) {text text′ after : List ℕ} {r : ℕ} → text ≡ text′ → Prints text out r after → Prints text′ out r after
 as-text out {after = after} {r = r} e h = subst (λ (x : List ℕ). Prints x out r after) e h
+
+-- the bytes printed are the text, where the lines are at least 512 bytes
+pub text-is : (text out : List ℕ) {r : ℕ} {after : List ℕ} → r ≡ unless 0 (leb mostSheet (length out)) (length text)
+    → after ≡ unless out (leb mostSheet (length out)) (laid out 0 text) → mostSheet ≤ length out → take r after ≡ text
+unfolding laid
+text-is text out p q h =
+    let t = le-leb mostSheet (length out) h in
+    ap₂ take (p ∙ sym (pass 0 t refl)) (q ∙ sym (pass out t refl)) ∙ take-at text (drop (0 + length text) out) (length text) refl
 
 module _ (x : Laid) (left : ℕ) where
   -- 1 and 2 before all else

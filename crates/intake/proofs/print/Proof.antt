@@ -1,5 +1,6 @@
--- `intake::print` is safe: no more is written than there is.
+-- `intake::print` meets its contract: no more is written than there is.
 -- Assumes nothing.
+use mathlib.Core.Bool.{false≢true}
 use mathlib.Core.Path.{sym}
 use lib.Seq.{length-take-le}
 use borrow.Author.Needs.{needs}
@@ -7,7 +8,7 @@ use Rattle.intake.proofs.print.Statement.{statement}
 use Rattle.intake.proofs.print.Tie as tie
 
 returns : tie.Need-returns
-returns c = search needs
+returns c = λ e. absurd (false≢true e)
 
 slice-aggregate-write-all : tie.Need-slice-aggregate-write-all
 slice-aggregate-write-all c = let e = c .before in sym (length-take-le (e .before .before .args .n) (e .before .before .args .lines .now) (e .if1 .left))
@@ -16,7 +17,7 @@ write-all-requires : tie.Need-write-all-requires
 write-all-requires c κs = search needs
 
 returns-2 : tie.Need-returns-2
-returns-2 c = search needs
+returns-2 c = λ _. c .before .before .if1 .left
 
 pub print-spec : {M : Type 1} → statement M
 print-spec = tie.close (tie.spec returns slice-aggregate-write-all write-all-requires returns-2)

@@ -1,12 +1,15 @@
 -- `intake::read_once` meets its contract: what is read stands in the buffer and belongs to the record.
 -- Assumes nothing.
 use mathlib.Core.Bool.{false≢true}
-use mathlib.Core.Path.{_≡_, subst}
-use Prim.Native.Nat.{_+_, _-_, _≤_}
+use mathlib.Core.List.{List}
+use mathlib.Core.Path.{_≡_, refl, subst}
+use Prim.Native.Nat.{ℕ, _+_, _-_, _≤_}
 use native.Mathlib.Omega.{arith}
-use lib.ListN.{length, drop, length-take}
+use lib.ListN.{length, take, drop, length-take}
 use Rattle.intake.specs.Turns.{Within}
 use borrow.Author.Needs.{needs}
+use borrow.Rule.Slice.PartMut.{putMid, take-put}
+use Rattle.intake.proofs.Coming.{nothing-came, bytes-came}
 use Rattle.intake.proofs.read_once.Statement.{statement}
 use Rattle.intake.proofs.read_once.Tie as tie
 
@@ -33,6 +36,19 @@ fill-requires c κs = search needs
 
 enum-known-got : tie.Need-enum-known-got
 enum-known-got c = search needs
+
+-- the buffer when its part has come back: what was held stands where it stood
+abbrev filled : tie.After-fill → List ℕ
+filled f =
+    let s = f .before .before .before .before .before .before in
+    let n = f .before .before .at-most .result in
+    putMid (s .args .held) (s .args .held + n - s .args .held) (s .args .buffer .now) (f .fill .last .1 .0)
+
+still-held : (f : tie.After-fill) → (let s = f .before .before .before .before .before .before in take (s .args .held) (filled f) ≡ take (s .args .held) (s .args .buffer .now))
+still-held f =
+    let s = f .before .before .before .before .before .before in
+    let n = f .before .before .at-most .result in
+    take-put (s .args .held) (s .args .held + n - s .args .held) (s .args .buffer .now) (f .fill .last .1 .0) (s .pre)
 
 -- so many bytes were read: as many as the part has at most
 abbrev answer : tie.After-got → tie.After-fill
@@ -90,23 +106,36 @@ returns : tie.Need-returns
 returns c =
     let taken = c .before .before .before .before .before .before .before in
     let known = taken .before .before .before .before .before .before in
-    let e = taken .digest .ensures .0 in
-    record {
-      held = omega (arith, within known, e .0);
-      falls = λ _. omega (arith, came known, within known, e .1);
-    }
+    let s = entry known in
+    let e = taken .digest .ensures in (
+      record {
+        held = omega (arith, within known, e .0 .0);
+        falls = λ _. omega (arith, came known, within known, e .0 .1);
+      },
+      λ x₀ most stood.
+          bytes-came x₀ most _ _ _ _ _ _ _ stood (filled (answer known)) (still-held (answer known)) (known .got .given .0 .0) (digest-requires (taken .before) (taken .digest .lifetimes)) (within known .1)
+          (e .1 .0) (e .1 .1 .0) (e .1 .1 .1 .0) (e .1 .1 .1 .1 .0) (e .1 .1 .1 .1 .1),
+    )
 
 same-length-5 : tie.Need-same-length-5
 same-length-5 c = search needs
 
 returns-2 : tie.Need-returns-2
-returns-2 c = record { held = c .before .before .before .before .before .before .before .before .before .before .pre; falls = λ e. absurd (false≢true e) }
+returns-2 c =
+    let s = c .before .before .before .before .before .before .before .before .before .before in (
+      record { held = s .pre; falls = λ e. absurd (false≢true e) },
+      λ x₀ most stood. nothing-came x₀ most _ _ _ _ _ _ _ stood (filled (c .before .before .before .before)) (still-held (c .before .before .before .before)) _ refl,
+    )
 
 same-length-6 : tie.Need-same-length-6
 same-length-6 c = search needs
 
 returns-3 : tie.Need-returns-3
-returns-3 c = record { held = c .before .before .before .before .before .before .before .before .before .before .pre; falls = λ e. absurd (false≢true e) }
+returns-3 c =
+    let s = c .before .before .before .before .before .before .before .before .before .before in (
+      record { held = s .pre; falls = λ e. absurd (false≢true e) },
+      λ x₀ most stood. nothing-came x₀ most _ _ _ _ _ _ _ stood (filled (c .before .before .before .before)) (still-held (c .before .before .before .before)) _ refl,
+    )
 
 pub read-once-spec : {M : Type 1} → statement M
 read-once-spec =

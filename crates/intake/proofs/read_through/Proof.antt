@@ -1,4 +1,4 @@
--- `intake::read_through` is safe and ends: each turn that goes on leaves fewer bytes of the record to read.
+-- `intake::read_through` meets its contract and ends: each turn begins where the one before stood, and one that goes on leaves fewer bytes to read.
 -- Assumes nothing.
 use mathlib.Core.Path.{_≡_, refl, sym, _∙_}
 use Prim.Native.Nat.{_≤_, zero-le}
@@ -6,6 +6,9 @@ use native.Mathlib.Omega.{arith}
 use borrow.Author.Needs.{needs}
 use borrow.Author.Tests.{not-false}
 use lib.ListN.{length}
+use Rattle.desk.specs.Feeding.{laidOf, emptyDesk}
+use Rattle.intake.specs.Turns.{placeOf, onwards, Stood}
+use Rattle.intake.proofs.Coming.{nothing-yet, on-again, all-came}
 use Rattle.intake.proofs.read_through.Statement.{statement}
 use Rattle.intake.proofs.read_through.Tie as tie
 
@@ -13,6 +16,7 @@ abbrev Inv-loop : tie.InvT-loop
 Inv-loop fd most buffer₀ room₀ ledger₀ map₀ desk₀ held₀ left₀ buffer room ledger map desk held left =
     (held ≤ length buffer₀)
     × ((length buffer ≡ length buffer₀) × ((length room ≡ length room₀) × ((length ledger ≡ length ledger₀) × (length map ≡ length map₀))))
+    × Stood (laidOf emptyDesk room₀ ledger₀ map₀) most (placeOf (onwards desk held left) buffer room ledger map)
 
 abbrev μ-loop : tie.MeasureT-loop
 μ-loop fd most buffer₀ room₀ ledger₀ map₀ desk₀ held₀ left₀ buffer room ledger map desk held left = left
@@ -28,7 +32,7 @@ empty-requires : tie.Need-empty-requires Inv-loop μ-loop
 empty-requires c κs = search needs
 
 loop-holds : tie.Need-loop-holds Inv-loop μ-loop
-loop-holds c = (zero-le, (refl, (refl, (refl, refl))))
+loop-holds c = (zero-le, (refl, (refl, (refl, refl))), nothing-yet _ _ _ _ _ _ (c .empty .ensures))
 
 read-once-requires : tie.Need-read-once-requires Inv-loop μ-loop
 read-once-requires c κs = let at = c .before .before .before .before .before in omega (arith, at .loop .inv .0, at .loop .inv .1 .0)
@@ -49,20 +53,23 @@ same-length-4 : tie.Need-same-length-4 Inv-loop μ-loop
 same-length-4 c = turn (c .before) .read-once .kept .1 .1 .1 .1 .1 .1 .1 .0 ∙ place (c .before) .loop .inv .1 .1 .1 .1
 
 returns : tie.Need-returns Inv-loop μ-loop
-returns c = search needs
+returns c = turn (c .before) .read-once .ensures .1 _ _ (place (c .before) .loop .inv .2)
 
 loop-less : tie.Need-loop-less Inv-loop μ-loop
 loop-less c =
     let f = c .before .before in
-    turn f .read-once .ensures .falls (sym (f .goes-on .ensures) ∙ not-false _ (c .before .if1 .left))
+    turn f .read-once .ensures .0 .falls (sym (f .goes-on .ensures) ∙ not-false _ (c .before .if1 .left))
 
 loop-again : tie.Need-loop-again Inv-loop μ-loop
 loop-again c =
     let f = c .before .before in
     let k = turn f .read-once .kept .1 .1 .1 .1 in
     let i = place f .loop .inv in
-    let held = turn f .read-once .ensures .held in
-    (omega (arith, held, i .1 .0), (k .0 ∙ i .1 .0, (k .1 .0 ∙ i .1 .1 .0, (k .1 .1 .0 ∙ i .1 .1 .1 .0, k .1 .1 .1 .0 ∙ i .1 .1 .1 .1))))
+    let e = turn f .read-once .ensures in (
+      omega (arith, e .0 .held, i .1 .0),
+      (k .0 ∙ i .1 .0, (k .1 .0 ∙ i .1 .1 .0, (k .1 .1 .0 ∙ i .1 .1 .1 .0, k .1 .1 .1 .0 ∙ i .1 .1 .1 .1))),
+      on-again _ _ _ _ _ _ _ (sym (f .goes-on .ensures) ∙ not-false _ (c .before .if1 .left)) (e .1 _ _ (i .2)),
+    )
 
 same-length-5 : tie.Need-same-length-5 Inv-loop μ-loop
 same-length-5 c = c .before .loop .inv .1 .0
@@ -77,7 +84,10 @@ same-length-8 : tie.Need-same-length-8 Inv-loop μ-loop
 same-length-8 c = c .before .loop .inv .1 .1 .1 .1
 
 returns-2 : tie.Need-returns-2 Inv-loop μ-loop
-returns-2 c = search needs
+returns-2 c =
+    let at = c .before .loop in
+    let e : at .left ≡ 0 = omega arith in
+    all-came _ _ _ _ _ _ _ _ _ e (at .inv .2)
 
 pub read-through-spec : {M : Type 1} → statement M
 read-through-spec =

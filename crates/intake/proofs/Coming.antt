@@ -1,0 +1,155 @@
+-- The bytes of a record as they come: what a turn leaves stands as the bytes that came say.
+-- Assumes nothing.
+use mathlib.Core.Bool.{true, false, false≢true}
+use mathlib.Core.List.{List, [], _++_}
+use mathlib.Core.Path.{_≡_, refl, sym, ap, subst, subst⁻¹, _∙_}
+use Prim.Native.Nat.{ℕ, _+_, _-_, _≤_, zero-le}
+use native.Mathlib.Nat.{zero-add}
+use native.Mathlib.Omega.{arith}
+use lib.IntN.{ℤ}
+use lib.ListN.{length, take, drop, length-append, length-drop}
+use lib.Seq.{paste, take-add, take-paste, length-take-le, drop-at}
+use Rattle.desk.specs.declared.Desk.{Desk}
+use Rattle.desk.specs.declared.Outcome.{Outcome}
+use Rattle.desk.specs.declared.Outcome.the-variants.{More, Refused as refused}
+use Rattle.desk.specs.Feeding.{Laid, Taken, laidOf, emptyDesk, feedOf}
+use Rattle.prints.specs.Printed.{refuseText, closeText}
+use Rattle.prints.proofs.Texts.{Prints, as-text}
+use Rattle.intake.specs.declared.Turn.{Turn}
+use Rattle.intake.specs.declared.Turned.{Turned}
+use Rattle.intake.specs.declared.Turned.the-variants.{On, Ended, Failed, Refused}
+use Rattle.intake.specs.Turns.{turnedBy, heldBy, turnOf, bufferBy, bufferAfter, isOn, Came, none, part, outcomeBy, placeOf, onwards, Stood, textOf, Recorded}
+use Rattle.intake.proofs.Fed.{feed-used}
+
+-- a turn that fed the desk says what the desk did
+outcome-of : (o : Outcome) → o ≡ outcomeBy (turnedBy o)
+outcome-of More = refl
+outcome-of (refused k) = refl
+
+-- the bytes before place k, from place u on
+between-places : (u k : ℕ) (b : List ℕ) → u ≤ k → k ≤ length b → drop u (take k b) ≡ take (k - u) (drop u b)
+between-places u k b h g =
+    let n = k - u in
+    let split : u + n ≡ k = omega arith in
+    ap (λ (j : ℕ). drop u (take j b)) (sym split)
+    ∙ ap (drop u) (take-add u n b)
+    ∙ drop-at (take u b) (take n (drop u b)) u (length-take-le u b (omega arith))
+
+-- what was not taken of the first k bytes stands at the front
+to-the-front : (u k : ℕ) (b : List ℕ) → u ≤ k → k ≤ length b → drop u (take k b) ≡ take (k - u) (paste b 0 (drop u b) (k - u))
+to-the-front u k b h g =
+    between-places u k b h g
+    ∙ sym (take-paste b 0 (drop u b) (k - u) zero-le (omega (arith, length-drop u b)))
+    ∙ ap (λ (j : ℕ). take j (paste b 0 (drop u b) (k - u))) (zero-add (k - u))
+
+-- before the first turn nothing came
+pub nothing-yet : (most : ℕ) (desk : Desk) (b room : List ℕ) (l : List ℤ) (m : List ℕ) → desk ≡ emptyDesk
+    → Stood (laidOf emptyDesk room l m) most (placeOf (onwards desk 0 most) b room l m)
+nothing-yet most desk b room l m e = record {
+  bytes = [];
+  rest = [];
+  came = subst⁻¹ (λ (d : Desk). Came (laidOf emptyDesk room l m) [] (laidOf d room l m) [] More) e none;
+  held = λ _. (refl, refl);
+  all = zero-add most;
+}
+
+is-on : (t : Turned) → isOn t ≡ true → t ≡ On
+is-on On e = refl
+is-on Ended e = absurd (false≢true e)
+is-on Failed e = absurd (false≢true e)
+is-on (Refused k) e = absurd (false≢true e)
+
+-- where another turn follows, it begins where the one before stood
+pub on-again : (x₀ : Laid) (most : ℕ) (t : Turn) (b room : List ℕ) (l : List ℤ) (m : List ℕ) → isOn (t .turned) ≡ true
+    → Stood x₀ most (placeOf t b room l m) → Stood x₀ most (placeOf (onwards (t .desk) (t .held) (t .left)) b room l m)
+on-again x₀ most t b room l m e s = subst (λ (z : Turned). Stood x₀ most (placeOf (record { turned = z; desk = t .desk; held = t .held; left = t .left }) b room l m)) (is-on (t .turned) e) s
+
+module _ (x₀ : Laid) (most : ℕ) (desk : Desk) (held left : ℕ) (b₀ room : List ℕ) (l : List ℤ) (m : List ℕ) (s : Stood x₀ most (placeOf (onwards desk held left) b₀ room l m))
+    (b : List ℕ) (same : take held b ≡ take held b₀) where
+  rest-is : s .rest ≡ take held b
+  rest-is = s .held refl .0 ∙ sym same
+
+  -- nothing came
+  pub nothing-came : (t : Turned) → outcomeBy t ≡ More → Stood x₀ most (placeOf (record { turned = t; desk = desk; held = held; left = left }) b room l m)
+  nothing-came t e = record {
+    bytes = s .bytes;
+    rest = s .rest;
+    came = subst (Came x₀ (s .bytes) (laidOf desk room l m) (s .rest)) (sym e) (s .came);
+    held = λ _. (rest-is, s .held refl .1);
+    all = s .all;
+  }
+
+  -- n bytes came, behind those held, and went to the desk with them
+  module _ (n : ℕ) (fits : held + n ≤ length b) (few : n ≤ left) where
+    abbrev fed : Taken
+    fed = feedOf (laidOf desk room l m) (take (held + n) b)
+
+    came-new : List ℕ
+    came-new = take n (drop held b)
+
+    input-is : s .rest ++ came-new ≡ take (held + n) b
+    unfolding came-new
+    input-is = ap (λ (q : List ℕ). q ++ came-new) rest-is ∙ sym (take-add held n b)
+
+    size-new : length came-new ≡ n
+    unfolding came-new
+    size-new = length-take-le n (drop held b) (omega (arith, length-drop held b))
+
+    used-within : fed .used ≤ held + n
+    used-within = omega (arith, feed-used (laidOf desk room l m) (take (held + n) b), length-take-le (held + n) b fits)
+
+    front-held : (o : Outcome) (u : ℕ) → u ≤ held + n → outcomeBy (turnedBy o) ≡ More
+        → (drop u (take (held + n) b) ≡ take (heldBy o u (held + n)) (bufferBy o u (held + n) b)) × (length (drop u (take (held + n) b)) ≡ heldBy o u (held + n))
+    front-held More u h e = (to-the-front u (held + n) b h fits, omega (arith, length-drop u (take (held + n) b), length-take-le (held + n) b fits))
+    front-held (refused k) u h e = absurd (false≢true cc)
+
+    digested : Stood x₀ most (placeOf (turnOf fed (held + n) (left - n)) (bufferAfter fed (held + n) b) (fed .laid .room) (fed .laid .ledger) (fed .laid .map))
+    digested = record {
+      bytes = s .bytes ++ came-new;
+      rest = drop (fed .used) (take (held + n) b);
+      came = subst (Came x₀ (s .bytes ++ came-new) (fed .laid) (drop (fed .used) (take (held + n) b))) (outcome-of (fed .outcome))
+          (subst (λ (i : List ℕ). (let y = feedOf (laidOf desk room l m) i in Came x₀ (s .bytes ++ came-new) (y .laid) (drop (y .used) i) (y .outcome))) input-is (part (s .came) came-new));
+      held = front-held (fed .outcome) (fed .used) used-within;
+      all = omega (arith, length-append (s .bytes) came-new, size-new, s .all);
+    }
+
+    pub bytes-came : {t : Turn} {b′ room′ : List ℕ} {l′ : List ℤ} {m′ : List ℕ} → t ≡ turnOf fed (held + n) (left - n) → b′ ≡ bufferAfter fed (held + n) b
+        → room′ ≡ fed .laid .room → l′ ≡ fed .laid .ledger → m′ ≡ fed .laid .map → Stood x₀ most (placeOf t b′ room′ l′ m′)
+    bytes-came p q r u v = subst (Stood x₀ most) (λ i. placeOf (sym p i) (sym q i) (sym r i) (sym u i) (sym v i)) digested
+
+-- no more is to be read of the record
+pub all-came : (x₀ : Laid) (most : ℕ) (desk : Desk) (held left : ℕ) (b room : List ℕ) (l : List ℤ) (m : List ℕ) → left ≡ 0
+    → Stood x₀ most (placeOf (onwards desk held left) b room l m) → Stood x₀ most (placeOf (record { turned = Ended; desk = desk; held = held; left = 0 }) b room l m)
+all-came x₀ most desk held left b room l m e s =
+    subst (λ (n : ℕ). Stood x₀ most (placeOf (record { turned = Ended; desk = desk; held = held; left = n }) b room l m)) e
+    (nothing-came x₀ most desk held left b room l m s b refl Ended refl)
+
+-- ---- a whole record
+module _ (x₀ : Laid) (most : ℕ) (out : List ℕ) (t : Turn) (b room : List ℕ) (l : List ℤ) (m : List ℕ) (s : Stood x₀ most (placeOf t b room l m)) where
+  abbrev x : Laid
+  x = laidOf (t .desk) room l m
+
+  recorded : (o : Outcome) → outcomeBy (t .turned) ≡ o → (n : ℕ) (after : List ℕ) → Prints (textOf o x (length (s .rest))) out n after
+      → Recorded x₀ most out (record { printed = n; left = t .left; failed = false }) room l m after
+  recorded o e n after p = record {
+    desk = t .desk;
+    bytes = s .bytes;
+    rest = s .rest;
+    outcome = o;
+    came = subst (Came x₀ (s .bytes) x (s .rest)) e (s .came);
+    all = s .all;
+    printed = p .0;
+    lines = p .1;
+  }
+
+  -- a field was refused
+  pub recorded-refused : (k : ℕ) → t .turned ≡ Refused k → {n : ℕ} {after : List ℕ} → Prints (refuseText x k) out n after
+      → Recorded x₀ most out (record { printed = n; left = t .left; failed = false }) room l m after
+  recorded-refused k e p = recorded (refused k) (ap outcomeBy e) _ _ p
+
+  -- the input ended
+  pub recorded-closed : (z : Turned) → t .turned ≡ z → outcomeBy z ≡ More → {n : ℕ} {after : List ℕ} → Prints (closeText x (t .held)) out n after
+      → Recorded x₀ most out (record { printed = n; left = t .left; failed = false }) room l m after
+  recorded-closed z e f p =
+      let more = ap outcomeBy e ∙ f in
+      recorded More more _ _ (as-text out (ap (closeText x) (sym (s .held more .1))) p)

@@ -1,0 +1,56 @@
+-- What is printed of a file is what the rules say of the bytes that came from it, in whatever parts they came.
+-- Assumes nothing.
+use mathlib.Core.Bool.{Bool, false, cond}
+use mathlib.Core.List.{List, [], _++_, append-nil}
+use mathlib.Core.Path.{_≡_, refl, ap, _∙_}
+use Prim.Native.Nat.{ℕ, _≤_}
+use lib.Dec.{leb}
+use lib.IntN.{ℤ}
+use lib.ListN.{length, take, drop}
+use Rattle.numbers.specs.Tests.{unless}
+use Rattle.records.specs.Records.{sheetOf}
+use Rattle.records.proofs.Calls.{Lent}
+use Rattle.sheet.specs.Laid.{laid}
+use Rattle.sheet.specs.Text.{mostSheet}
+use Rattle.desk.specs.declared.Outcome.{Outcome}
+use Rattle.desk.specs.declared.Outcome.the-variants.{More, Refused}
+use Rattle.desk.specs.Feeding.{Laid, Taken, laidOf, emptyDesk, feedOf}
+use Rattle.desk.proofs.Arriving.{Arrived, arrived-none, arrived-more}
+use Rattle.prints.specs.Printed.{printed}
+use Rattle.prints.proofs.Texts.{text-is}
+use Rattle.prints.proofs.Printing.{report-prints, refusal-prints}
+use Rattle.intake.specs.declared.Intake.{Intake}
+use Rattle.intake.specs.Turns.{Came, none, part, textOf, Recorded}
+
+-- on a room, a ledger and a map that are long enough
+module _ (lent : Lent) where
+  abbrev pub begin : Laid
+  begin = laidOf emptyDesk (lent .room₀) (lent .l₀) (lent .m₀)
+
+  came-arrived : {w rest : List ℕ} {x : Laid} {o : Outcome} → Came begin w x rest o → o ≡ More → Arrived lent w x rest
+  came-arrived none e = arrived-none lent
+  came-arrived (part h new) e = arrived-more lent (came-arrived h refl) new e
+
+  came-prints : {w rest : List ℕ} {x : Laid} {o : Outcome} → Came begin w x rest o → textOf o x (length rest) ≡ printed (sheetOf w)
+  came-prints none = report-prints lent (arrived-none lent)
+  came-prints (part {w = w} {rest = rest} {x = x} h new) = go (y .outcome) refl
+    where
+      arrived : Arrived lent w x rest
+      arrived = came-arrived h refl
+
+      y : Taken
+      y = feedOf x (rest ++ new)
+
+      go : (o : Outcome) → y .outcome ≡ o → textOf o (y .laid) (length (drop (y .used) (rest ++ new))) ≡ printed (sheetOf (w ++ new))
+      go More e = report-prints lent (arrived-more lent arrived new e)
+      go (Refused k) e = refusal-prints lent arrived new k e [] ∙ ap (λ (q : List ℕ). printed (sheetOf q)) (append-nil (w ++ new))
+
+  -- "Every figure equals the rules of document 01", to the bytes that are written: the lines are what the rules give for the bytes that came
+  pub take-record-prints : {most : ℕ} {out room after : List ℕ} {l : List ℤ} {m : List ℕ} {r : Intake} (c : Recorded begin most out r room l m after)
+      → r .failed ≡ false → mostSheet ≤ length out → take (r .printed) after ≡ printed (sheetOf (c .bytes))
+  take-record-prints {out = out} {room = room} {l = l} {m = m} c e h =
+      let text = textOf (c .outcome) (laidOf (c .desk) room l m) (length (c .rest)) in
+      text-is text out
+      (c .printed ∙ ap (λ (t : Bool). cond t 0 (unless 0 (leb mostSheet (length out)) (length text))) e)
+      (c .lines ∙ ap (λ (t : Bool). cond t out (unless out (leb mostSheet (length out)) (laid out 0 text))) e) h
+      ∙ came-prints (c .came)
