@@ -40,6 +40,12 @@ pub record Beyond (l : List ℤ) (m : List ℕ) (l′ : List ℤ) (m′ : List �
   pub in-ledger : drop 576 l′ ≡ drop 576 l
   pub in-map : drop 750 m′ ≡ drop 750 m
 
+pub untouched : {l : List ℤ} {m : List ℕ} → Beyond l m l m
+untouched = record { in-ledger = refl; in-map = refl }
+
+pub beyond-then : {l l₁ l₂ : List ℤ} {m m₁ m₂ : List ℕ} → Beyond l m l₁ m₁ → Beyond l₁ m₁ l₂ m₂ → Beyond l m l₂ m₂
+beyond-then g h = record { in-ledger = h .in-ledger ∙ g .in-ledger; in-map = h .in-map ∙ g .in-map }
+
 -- ---- one sample, and several
 
 plus-beyond : (l : List ℤ) (i : ℕ) (z : ℤ) → i < 576 → drop 576 (plus l i z) ≡ drop 576 l
@@ -79,16 +85,14 @@ module _ (b : List ℕ) (t : Tolerances) where
             in-ledger = added-beyond (cycleOf b (a .counted)) (a .ledger) c<64 (phaseAt b p) (drawn x) (pos (distance x)) (outNow b t a x) (t .allowance) (four b p s there);
             in-map = drop-markedIf (opened (a .map) p) p (outNow b t a x) (omega (arith, there, s .short)) ∙ drop-opened (a .map) p;
           }
-      go false e = record { in-ledger = refl; in-map = refl }
+      go false e = untouched
 
   pub steps-beyond : (a : State) (s : ℕ → Sample) (n : ℕ) → Kept b t (goingOf b a) (a .ledger) (a .map) → ((i : ℕ) → i < n → isSample (s i) ≡ true)
       → Beyond (a .ledger) (a .map) (steps b t a s n .ledger) (steps b t a s n .map)
   unfolding fold
-  steps-beyond a s zero k h = record { in-ledger = refl; in-map = refl }
+  steps-beyond a s zero k h = untouched
   steps-beyond a s (suc n) k h =
-      let before = steps-beyond a s n k (λ i g. h i (le-step g)) in
-      let one = step-beyond (steps b t a s n) (s n) (kept-steps b t a s n k (λ i g. h i (le-step g))) in
-      record { in-ledger = one .in-ledger ∙ before .in-ledger; in-map = one .in-map ∙ before .in-map }
+      beyond-then (steps-beyond a s n k (λ i g. h i (le-step g))) (step-beyond (steps b t a s n) (s n) (kept-steps b t a s n k (λ i g. h i (le-step g))))
 
 -- ---- the calls
 

@@ -33,25 +33,26 @@ use Rattle.reading.specs.Answers.{offeredOf, takeBlock, taleOf, readGround, rea
 use Rattle.reading.proofs.Onwards.{by-front, kept}
 use Rattle.reader.proofs.open
 use Rattle.demands.proofs.NoDoubt.{Call}
-use Rattle.demands.proofs.Beyond.{Beyond, steps-beyond}
+use Rattle.demands.proofs.Beyond.{Beyond, untouched, beyond-then, steps-beyond}
 use Rattle.demands.proofs.LaterCalls.{ReadCall, AllCall}
 
-same-beyond : {l l′ u : List ℤ} {m m′ v : List ℕ} → u ≡ l′ → v ≡ m′ → Beyond l m l′ m′ → Beyond l m u v
+pub same-beyond : {l l′ u : List ℤ} {m m′ v : List ℕ} → u ≡ l′ → v ≡ m′ → Beyond l m l′ m′ → Beyond l m u v
 same-beyond p q h = record { in-ledger = ap (drop 576) p ∙ h .in-ledger; in-map = ap (drop 750) q ∙ h .in-map }
 
 -- ---- until the start
+
+-- the memory is set to zero at the start, and left by all other answers
+pub memory-beyond : (l : List ℤ) (m : List ℕ) (s : OpenStep) → Beyond l m (memoryAfter s (startOf l m .ledger) l) (memoryAfter s (startOf l m .map) m)
+memory-beyond l m (opening.Taken n) = untouched
+memory-beyond l m (opening.Started n r) = record { in-ledger = drop-cleared (pos 0) 576 l; in-map = drop-cleared 0 750 m }
+memory-beyond l m opening.Incomplete = untouched
+memory-beyond l m (opening.Refused n) = untouched
 
 pub open-beyond : (c : Call open.ended open.Reads.Learnt) → (let (_, (_, (_, (l, (m, _))))) = c .args in
     Beyond (now l) (now m) (c .lasts .1 .1 .1 .0) (c .lasts .1 .1 .1 .1 .0))
 open-beyond c =
     let (o, (i, (room, (l, (m, _))))) = c .args in
-    same-beyond (c .kept .1 .1 .0) (c .kept .1 .1 .1) (go (now l) (now m) (openOf o (now room) (now l) (now m) (now i) .step))
-  where
-    go : (l : List ℤ) (m : List ℕ) (s : OpenStep) → Beyond l m (memoryAfter s (startOf l m .ledger) l) (memoryAfter s (startOf l m .map) m)
-    go l m (opening.Taken n) = record { in-ledger = refl; in-map = refl }
-    go l m (opening.Started n r) = record { in-ledger = drop-cleared (pos 0) 576 l; in-map = drop-cleared 0 750 m }
-    go l m opening.Incomplete = record { in-ledger = refl; in-map = refl }
-    go l m (opening.Refused n) = record { in-ledger = refl; in-map = refl }
+    same-beyond (c .kept .1 .1 .0) (c .kept .1 .1 .1) (memory-beyond (now l) (now m) (openOf o (now room) (now l) (now m) (now i) .step))
 
 -- ---- after it: what every field keeps, on memory that was l and m
 
@@ -65,10 +66,9 @@ module _ (me b : List ℕ) (t : Tolerances) (l : List ℤ) (m : List ℕ) where
   content-keeps k tag v content.Own s h =
       let q = samplesOf v in
       let good = samples-at q (samplesIn q) (s .1 .samples) in
-      let more = steps-beyond b t (k .run) (sampleAt q) (samplesIn q) (h .kept) good in
       record {
         kept = kept-steps b t (k .run) (sampleAt q) (samplesIn q) (h .kept) good;
-        beyond = record { in-ledger = more .in-ledger ∙ h .beyond .in-ledger; in-map = more .in-map ∙ h .beyond .in-map };
+        beyond = beyond-then (h .beyond) (steps-beyond b t (k .run) (sampleAt q) (samplesIn q) (h .kept) good);
       }
   content-keeps k tag v content.Foreign s h = record { kept = h .kept; beyond = h .beyond }
   content-keeps k tag v (content.Before e) s h = record { kept = h .kept; beyond = h .beyond }
@@ -92,7 +92,7 @@ module _ (r : Reading) (b : List ℕ) (l : List ℤ) (m i : List ℕ) where
   unfolding readGround
   at-first e = record {
     kept = kept-ground (r .run) b l m (ground-passed (not-refused 0 _ _ e .1));
-    beyond = record { in-ledger = refl; in-map = refl };
+    beyond = untouched;
   }
 
   read-of-beyond : (let x = readOf r b l m i .tale .run in Beyond l m (x .ledger) (x .map))
@@ -104,9 +104,9 @@ module _ (r : Reading) (b : List ℕ) (l : List ℤ) (m i : List ℕ) where
 
       go : (y : Bool) → eqb (readGround r b l m) 0 ≡ y → Beyond l m (call y .tale .run .ledger) (call y .tale .run .map)
       go true e = field-keeps (r .vehicle) b t l m (taleOf r l m) i (at-first (eqb-true _ 0 e)) .beyond
-      go false e = record { in-ledger = refl; in-map = refl }
+      go false e = untouched
 
-  read-all-of-beyond : (let x = readAllOf r b l m i .tale .run in Beyond l m (x .ledger) (x .map))
+  pub read-all-of-beyond : (let x = readAllOf r b l m i .tale .run in Beyond l m (x .ledger) (x .map))
   unfolding readAllOf
   read-all-of-beyond = go (eqb (readGround r b l m) 0) refl
     where
@@ -119,7 +119,7 @@ module _ (r : Reading) (b : List ℕ) (l : List ℤ) (m i : List ℕ) where
       go true e =
           kept offeredOf (takeBlock b t) (r .vehicle) (Keeps (r .vehicle) b t l m) (field-keeps (r .vehicle) b t l m) (length i) (taleOf r l m) i
           (at-first (eqb-true _ 0 e)) .beyond
-      go false e = record { in-ledger = refl; in-map = refl }
+      go false e = untouched
 
 pub read-beyond : (c : ReadCall) → (let (_, (_, (_, (l, (m, _))))) = c .args in
     Beyond (now l) (now m) (c .lasts .1 .1 .1 .0) (c .lasts .1 .1 .1 .1 .0))

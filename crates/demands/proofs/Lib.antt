@@ -19,6 +19,8 @@ pub mod Splits
 pub mod Lines
 pub mod ForeignBlocks
 pub mod Arrivals
+pub mod SomeRecord
+pub mod BeyondDesk
 pub mod Demand3
 pub mod Demand3Runs
 pub mod WrongAnswers

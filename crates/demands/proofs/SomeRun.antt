@@ -25,7 +25,7 @@ use Rattle.demands.proofs.Driven.Driven.{begins, takes}
 use Rattle.demands.proofs.Demand2.{state-shows}
 
 -- a reference somewhere
-abbrev to : {A : Type 0} → A → RefT A
+abbrev pub to : {A : Type 0} → A → RefT A
 to x = record { ptr = (0, 0); name = 0; now = x }
 
 -- a call with the answer that the contract asks for

@@ -1,0 +1,54 @@
+-- What is said of records speaks of something: by calls that keep the contracts every record whose fields are none refused is fed, in any parts, and closed.
+-- Assumes nothing.
+use mathlib.Core.List.{List, [], _++_}
+use mathlib.Core.Path.{_≡_, refl}
+use Prim.Native.Nat.{ℕ, _≤_}
+use lib.Dec.{leb}
+use lib.ListN.{length, drop}
+use Rattle.numbers.specs.Tests.{unless}
+use Rattle.records.proofs.Calls.{Lent}
+use Rattle.sheet.specs.Laid.{laid}
+use Rattle.sheet.specs.Text.{mostSheet}
+use Rattle.desk.specs.declared.Outcome.the-variants.{More}
+use Rattle.desk.specs.Feeding.{Laid, laidOf, emptyDesk, fedOf, feedOf}
+use Rattle.prints.specs.Printed.{closeText}
+use Rattle.demands.proofs.SomeRun.{to}
+use Rattle.demands.proofs.Arrivals.{FeedCall, CloseCall, CloseOn, FedIn}
+use Rattle.demands.proofs.Arrivals.FedIn.{empty, more}
+
+-- calls with the answers that the contracts ask for
+abbrev feedCall : Laid → List ℕ → FeedCall
+feedCall x i =
+    let y = feedOf x i in
+    record {
+      κs = ([], ([], ([], ([], tt))));
+      args = (x .desk, (to i, (to (x .room), (to (x .ledger), (to (x .map), tt)))));
+      answer = fedOf y;
+      lasts = (tt, (tt, (y .laid .room, (y .laid .ledger, (y .laid .map, tt)))));
+      kept = (refl, (refl, (refl, refl)));
+    }
+
+abbrev closeCall : Laid → ℕ → List ℕ → CloseCall
+closeCall x left out =
+    let text = closeText x left in
+    record {
+      κs = ([], ([], ([], ([], tt))));
+      args = (x .desk, (left, (to (x .room), (to (x .ledger), (to (x .map), (to out, tt))))));
+      answer = unless 0 (leb mostSheet (length out)) (length text);
+      lasts = (tt, (tt, (tt, (tt, (tt, (unless out (leb mostSheet (length out)) (laid out 0 text), tt))))));
+      kept = (refl, refl);
+    }
+
+module _ (lent : Lent) where
+  -- one part more, of which no field is refused
+  pub some-part : {w rest : List ℕ} {x : Laid} → FedIn lent w x rest → (new : List ℕ) → feedOf x (rest ++ new) .outcome ≡ More
+      → FedIn lent (w ++ new) (feedOf x (rest ++ new) .laid) (drop (feedOf x (rest ++ new) .used) (rest ++ new))
+  some-part {rest = rest} {x = x} h new e = more h new (feedCall x (rest ++ new)) (record { desk = refl; input = refl; room = refl; ledger = refl; map = refl }) e
+
+  -- a record in one part
+  pub some-record : (w : List ℕ) → (let y = feedOf (laidOf emptyDesk (lent .room₀) (lent .l₀) (lent .m₀)) w in y .outcome ≡ More → FedIn lent w (y .laid) (drop (y .used) w))
+  some-record w e = some-part empty w e
+
+-- where the input ends
+pub some-close : (x : Laid) (rest out : List ℕ) → mostSheet ≤ length out → CloseOn x rest (closeCall x (length rest) out)
+some-close x rest out h = record { desk = refl; left = refl; room = refl; ledger = refl; map = refl; long = h }
