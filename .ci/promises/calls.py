@@ -1,0 +1,56 @@
+# The functions of the sources, which calls which, and in which of them a must-fail edit stands.
+import glob
+import re
+
+
+def functions_of(path):
+    """Name and text of each function, in order."""
+    text = open(path).read()
+    starts = [m for m in re.finditer(r'^(?:pub )?(?:extern "C" )?fn (\w+)', text, re.M)]
+    ends = [m.start() for m in starts[1:]] + [len(text)]
+    return [(m.group(1), text[m.start():end]) for m, end in zip(starts, ends)]
+
+
+class Calls:
+    def __init__(self):
+        self.text = {}
+        self.imports = {}
+        for path in sorted(glob.glob("crates/*/src/*.rt")):
+            crate, file = path.split("/")[1], path.split("/")[3]
+            # the names that the file imports from other crates
+            used = re.findall(r"^use (\w+)(?:::\w+)*::(\w+);", open(path).read(), re.M)
+            self.imports[crate, file] = {name: source for source, name in used if source != "super"}
+            for name, text in functions_of(path):
+                self.text[crate, file, name] = text
+        self.called = {f: self.calls(f) for f in self.text}
+
+    def named(self, crate, name):
+        return {f for f in self.text if f[0] == crate and f[2] == name}
+
+    def calls(self, function):
+        crate, file, _ = function
+        code = "\n".join(line for line in self.text[function].splitlines() if not re.match(r"\s*(//|requires|ensures)", line))
+        found = set()
+        for first, name in re.findall(r"\b(?:(\w+)::)?(?:\w+::)*(\w+)\(", code):
+            found |= self.named(first, name) or self.named(self.imports[crate, file].get(name, crate), name)
+        return found
+
+    def reached(self, crate, name):
+        """All functions that run when this one does."""
+        todo, seen = list(self.named(crate, name)), set()
+        while todo:
+            f = todo.pop()
+            if f not in seen:
+                seen.add(f)
+                todo += self.called[f]
+        return seen
+
+    def runs(self, function, edit):
+        """Whether what the edit changes is a part of the function, or of one that it calls; of a definition, whether its crate has such a function."""
+        crate, name = edit.split("/")
+        lines = open(f"crates/{crate}/must-fail/{name}.edit").read().splitlines()
+        file, old = lines[0].split(": ")[1], lines[1][len("old: "):]
+        reached = self.reached(function.split("::")[0], function.split("::")[-1])
+        if not file.startswith("src/"):
+            return any(f[0] == crate for f in reached)
+        return any(old in self.text[f] for f in reached if f[:2] == (crate, file[len("src/"):]))
