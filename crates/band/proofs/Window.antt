@@ -12,5 +12,5 @@ pub window-more : (op : ℕ → ℕ → ℕ) (f : ℕ → ℕ) (a k : ℕ)
 unfolding fold
 window-more op f a k = rw add-one
 
-pub weighted : (r x : ℕ) → r ≤ 20 → x < 65536 → r * x ≤ 1310700
-weighted r x p q = mul-le-mul p (le-pred-of-lt q)
+pub product-small : (r x : ℕ) → r ≤ 20 → x < 65536 → r * x ≤ 1310700
+product-small r x p q = mul-le-mul p (le-pred-of-lt q)

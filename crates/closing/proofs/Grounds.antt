@@ -15,14 +15,15 @@ use mir.Val.{SFits, toZ, ofZ}
 use Rattle.numbers.specs.Tests.{unless, settled}
 use Rattle.numbers.specs.Whole.{up, Sized}
 use Rattle.numbers.proofs.Tests.{not-refused, both, pass, settled-taken, settled-refused}
-use Rattle.numbers.proofs.Whole.{sum-fits, sum-read, abs-is, sized-add, sized-between, weaken}
+use Rattle.numbers.proofs.Whole.{abs-is, sized-add, sized-between, weaken}
+use Rattle.numbers.proofs.Signed.{sum-fits, sum-read}
 use Rattle.rules.specs.declared.Charge.the-variants.{Wh as wh}
 use Rattle.rules.specs.declared.Amounts.{Amounts}
 use Rattle.rules.specs.Closing.{mostRate, isCharge, areAmounts, weightedFigure, rangeFigure, closingRefusal, rechargeFigure, rechargeRefusal}
 use Rattle.rules.proofs.Closes.{closes, some-energy}
 use Rattle.rules.specs.Run.{finishedCycles}
 use Rattle.ledger.specs.Row.{energyIn, distanceIn, energyAll}
-use Rattle.ledger.proofs.Rows.{energy-all-sized}
+use Rattle.ledger.proofs.Bounded.{energy-all-sized}
 use Rattle.state.specs.declared.Run.{Run}
 use Rattle.state.specs.State.{ground}
 use Rattle.state.proofs.Checked.{Ground, ground-passed, ground-zero, ground-on, ground-off, progress-most}

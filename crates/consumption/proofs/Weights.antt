@@ -23,7 +23,7 @@ use Rattle.wide.specs.declared.Ratio.the-variants.{Over}
 use Rattle.wide.specs.Ratio.{ratio}
 use Rattle.wide.proofs.Answers.{over-quotient}
 use Rattle.ledger.specs.Row.{bounded, energyIn, distanceIn}
-use Rattle.ledger.proofs.Rows.{energy-sized, distance-natural}
+use Rattle.ledger.proofs.Bounded.{energy-sized, distance-natural}
 use Rattle.consumption.specs.declared.Closed.{Closed}
 use Rattle.consumption.specs.Figures.{closedOf, Closable}
 

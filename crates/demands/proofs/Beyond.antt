@@ -27,7 +27,7 @@ use Rattle.map.proofs.Marks.{drop-markedIf, drop-opened}
 use Rattle.state.specs.declared.Run.{Run}
 use Rattle.state.proofs.Checked.{ground-passed}
 use Rattle.step.specs.Step.{State, Kept, outNow, passed, judge, step, steps, goingOf, stateOf}
-use Rattle.step.proofs.Steps.{kept-steps}
+use Rattle.step.proofs.Keeping.{kept-steps}
 use Rattle.blocks.specs.Blocks.{sampleAt, samplesIn}
 use Rattle.blocks.proofs.Bytes.{taken-one, taken, samples-at}
 use Rattle.judge.specs.declared.Answer.{Answer}

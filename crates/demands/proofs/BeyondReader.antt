@@ -14,7 +14,7 @@ use Rattle.numbers.proofs.Tests.{not-refused}
 use Rattle.rules.specs.declared.Tolerances.{Tolerances}
 use Rattle.state.proofs.Checked.{ground-passed}
 use Rattle.step.specs.Step.{State, Kept, goingOf, startOf}
-use Rattle.step.proofs.Steps.{kept-steps}
+use Rattle.step.proofs.Keeping.{kept-steps}
 use Rattle.blocks.specs.Blocks.{sampleAt, samplesIn}
 use Rattle.blocks.proofs.Bytes.{samples-at}
 use Rattle.judge.proofs.Calls.{kept-ground}

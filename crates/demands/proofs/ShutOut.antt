@@ -31,7 +31,8 @@ use Rattle.state.specs.declared.Run.{Run}
 use Rattle.state.specs.State.{ground}
 use Rattle.state.specs.Refusals.{startRefusal, sampleRefusal}
 use Rattle.step.specs.Step.{State, outNow, stateOf, runOf}
-use Rattle.step.proofs.Steps.{step-offered, steps-offered}
+use Rattle.step.proofs.Steps.{step-offered}
+use Rattle.step.proofs.Keeping.{steps-offered}
 use Rattle.blocks.specs.Blocks.{sampleAt, samplesIn, areSamples, isBlock, blockRefusal}
 use Rattle.blocks.proofs.Bytes.{block-of, taken}
 use Rattle.judge.specs.declared.Answer.{Answer}

@@ -15,7 +15,7 @@ use Rattle.rules.specs.declared.Tolerances.{Tolerances}
 use Rattle.rules.specs.Bench.{mostOffered, mostPassed}
 use Rattle.step.specs.Step.{State}
 use Rattle.blocks.specs.Blocks.{samplesIn, sampleAt, areSamples, isBlock}
-use Rattle.step.proofs.Steps.{steps-offered}
+use Rattle.step.proofs.Keeping.{steps-offered}
 use Rattle.fields.specs.Fields.{valueIn}
 use Rattle.fields.specs.Values.{isNumber, sameNumber, firstIn, samplesOf, energyIn, rechargeIn}
 use Rattle.contents.specs.declared.Content.{Content}

@@ -1,6 +1,6 @@
 -- The ledger's numbers by cycle and place: number 9 × c + a, a below 9.
 -- Assumes nothing.
-use mathlib.Core.Bool.{Bool, true, false, cond, _&&_}
+use mathlib.Core.Bool.{Bool, true, false, cond, _&&_, and-true}
 use mathlib.Core.List.{List}
 use mathlib.Core.Path.{_≡_, refl, sym, ap, _∙_}
 use Prim.Native.Nat.{ℕ, _+_, _*_, _<_}
@@ -36,11 +36,7 @@ pub outside-add : (l : List ℤ) (q c : ℕ) (out : Bool) → 9 * q + 8 < length
     → at (outsideAdded (9 * q) l out) (9 * c + 8) ≡ at l (9 * c + 8) +ℤ cond (eqb q c) (pos (bit out)) (pos 0)
 outside-add l q c true h =
     entry-add l q 8 c 8 (pos 1) h (omega arith) (omega arith)
-    ∙ ap (λ (t : Bool). at l (9 * c + 8) +ℤ cond t (pos 1) (pos 0)) (and-true-r (eqb q c))
-  where
-    and-true-r : (t : Bool) → (t && eqb 8 8) ≡ t
-    and-true-r true = refl
-    and-true-r false = refl
+    ∙ ap (λ (t : Bool). at l (9 * c + 8) +ℤ cond t (pos 1) (pos 0)) (and-true (eqb q c))
 outside-add l q c false h = sym (ap (λ (z : ℤ). at l (9 * c + 8) +ℤ z) (none (eqb q c)) ∙ +ℤ-idr _)
   where
     none : (t : Bool) → cond t (pos 0) (pos 0) ≡ pos 0

@@ -2,11 +2,10 @@
 -- Assumes nothing.
 use mathlib.Core.List.{List}
 use mathlib.Core.Logic.{⊎-elim}
-use mathlib.Core.Path.{_≡_, ap, _∙_}
+use mathlib.Core.Path.{_≡_, sym, ap, subst, _∙_}
 use Prim.Native.Nat.{ℕ, suc, _+_, _-_, _*_, _/_, _%_, _<_}
 use native.Mathlib.Omega.{arith}
 use lib.IntN.{ℤ, pos, _+ℤ_}
-use borrow.Author.Tests.{lt-ltb, le-ltb}
 use Rattle.numbers.proofs.Order.{side}
 use Rattle.numbers.proofs.Range.{fold-same}
 use Rattle.numbers.proofs.Sums.{sum-pos}
@@ -15,6 +14,7 @@ use Rattle.rules.specs.declared.Tolerances.{Tolerances}
 use Rattle.rules.specs.Run.{phaseDistance, cycleEnergy, cycleDistance, energy, over, most, counted, judged}
 use Rattle.rules.specs.Shown.{figure}
 use Rattle.rules.proofs.Figures.{distance-phases, energy-phases, energy-cycles}
+use Rattle.rules.proofs.NineNumbers.{energy-figure, distance-figure, outside-figure}
 use Rattle.rules.proofs.Sound.{Sound}
 use Rattle.rules.proofs.Tally.{counted-le}
 use Rattle.ledger.specs.Row.{at, energyIn, distanceIn, energyAll}
@@ -22,27 +22,24 @@ use Rattle.judge.proofs.LedgerShows.{LedgerShows}
 
 module _ (b : List ℕ) (t : Tolerances) (s : ℕ → Sample) (l₀ : List ℤ) (n : ℕ) (l : List ℤ)
     (h : LedgerShows b t s l₀ (counted b t s n) (judged b t s n) l) where
-  -- number i, by its cycle and its place among the nine
-  number : (i : ℕ) → i < 576 → at l (9 * (i / 9) + i % 9) ≡ figure b t s n i
-  unfolding figure
-  number i g =
-      let c = i / 9 in
-      let a = i % 9 in
-      ⊎-elim (λ e. simp (lt-ltb a 4 e) (h .energies c a (omega arith) e))
+  -- number a of cycle c
+  of-nine : (c a : ℕ) → c < 64 → a < 9 → at l (9 * c + a) ≡ figure b t s n (9 * c + a)
+  of-nine c a g f =
+      ⊎-elim (λ e. h .energies c a g e ∙ sym (energy-figure b t s n c a e))
       (λ (e : 4 < suc a). ⊎-elim
-      (λ f.
+      (λ (k : a < 8).
       let q : a ≡ 4 + (a - 4) = omega arith in
-      simp (le-ltb a 4 (omega arith), lt-ltb a 8 f) (ap (λ (k : ℕ). at l (9 * c + k)) q ∙ h .distances c (a - 4) (omega arith) (omega arith)))
-      (λ (f : 8 < suc a).
+      rw q (h .distances c (a - 4) g (omega arith) ∙ sym (distance-figure b t s n c (a - 4) (omega arith))))
+      (λ (k : 8 < suc a).
       let q : a ≡ 8 = omega arith in
-      simp (le-ltb a 4 (omega arith), le-ltb a 8 (omega arith)) (ap (λ (k : ℕ). at l (9 * c + k)) q ∙ h .outsides c (omega arith)))
+      rw q (h .outsides c g ∙ sym (outside-figure b t s n c)))
       (side (suc a) 8))
       (side (suc a) 4)
 
   pub number-is : (i : ℕ) → i < 576 → at l i ≡ figure b t s n i
   number-is i g =
-      let q : i ≡ 9 * (i / 9) + i % 9 = omega arith in
-      ap (at l) q ∙ number i g
+      let q : 9 * (i / 9) + i % 9 ≡ i = omega arith in
+      subst (λ (j : ℕ). at l j ≡ figure b t s n j) q (of-nine (i / 9) (i % 9) (omega arith) (omega arith))
 
   -- a cycle's energy and distance
   pub cycle-energy-is : Sound b → (c : ℕ) → c < 64 → energyIn l c ≡ cycleEnergy b s c (counted b t s n)

@@ -3,12 +3,12 @@
 use mathlib.Core.Bool.{Bool, true, false, _&&_}
 use mathlib.Core.List.{List}
 use mathlib.Core.Path.{_≡_, refl, ap, _∙_}
-use Prim.Native.Nat.{ℕ, suc, _+_, _-_, _*_, _≤_, _<_}
+use Prim.Native.Nat.{ℕ, suc, _+_, _*_, _≤_, _<_}
 use native.Mathlib.Nat.{div-lt-iff-lt-mul, mod-lt}
 use native.Mathlib.Omega.{arith}
 use lib.Dec.{eqb}
 use lib.IntN.{ℤ, pos}
-use lib.ListN.{length, drop, length-set}
+use lib.ListN.{length, drop}
 use lib.Seq.{drop-set-lt}
 use lib.Signed.{ltZ}
 use Rattle.numbers.specs.Lists.{plus}
@@ -21,7 +21,7 @@ use Rattle.rules.specs.Run.{cycleOf, positionOf, phaseOf, phaseEnergy, phaseDis
 use Rattle.rules.specs.Tally as tally
 use Rattle.rules.proofs.Sound.{Sound, real, four}
 use Rattle.ledger.specs.Row.{at, outsideAdded, isOver, sampleAdded}
-use Rattle.ledger.proofs.Rows.{added-over, added-not-over}
+use Rattle.ledger.proofs.Rows.{length-plus, length-outside, added-over, added-not-over}
 use Rattle.judge.proofs.Entries.{entry-off, entry-add, outside-off, outside-add, pos-cond}
 
 -- a ledger that shows the figures of m counted and j judged samples, and is beyond its 576 numbers as l₀
@@ -61,10 +61,6 @@ module _ (b : List ℕ) (t : Tolerances) (s : ℕ → Sample) (l₀ : List ℤ) 
     q<64 : q < 64
     q<64 = div-lt-iff-lt-mul (real sound) .1 small
 
-    length₁ : (o : Bool) → length (outsideAdded (9 * q) l o) ≡ length l
-    length₁ true = length-set l _ _
-    length₁ false = refl
-
     beyond₁ : (o : Bool) → drop 576 (outsideAdded (9 * q) l o) ≡ drop 576 l
     beyond₁ true = plus-beyond l (9 * q + 8) (pos 1) (omega (arith, q<64))
     beyond₁ false = refl
@@ -72,7 +68,7 @@ module _ (b : List ℕ) (t : Tolerances) (s : ℕ → Sample) (l₀ : List ℤ) 
     shown-stop : LedgerShows b t s l₀ n (suc n) l₁
     unfolding fold gather
     shown-stop = record {
-      long = omega (arith, length₁ (out b t s n), h .long);
+      long = omega (arith, length-outside (9 * q) l (out b t s n), h .long);
       energies = λ c k g f. outside-off l q c k (out b t s n) (omega arith) ∙ h .energies c k g f;
       distances = λ c k g f. outside-off l q c (4 + k) (out b t s n) (omega arith) ∙ h .distances c k g f;
       outsides = λ c g. outside-add l q c (out b t s n) (omega (arith, h .long, q<64)) ∙ rw (h .outsides c g) (pos-cond (eqb q c) _ _);
@@ -86,8 +82,8 @@ module _ (b : List ℕ) (t : Tolerances) (s : ℕ → Sample) (l₀ : List ℤ) 
         let ql = q<64 in
         let m = shown-stop in
         let long₁ = m .long in
-        let size₂ : length l₂ ≡ length l₁ = length-set l₁ _ _ in
-        let size₃ : length l₃ ≡ length l₂ = length-set l₂ _ _ in
+        let size₂ : length l₂ ≡ length l₁ = length-plus l₁ _ _ in
+        let size₃ : length l₃ ≡ length l₂ = length-plus l₂ _ _ in
         record {
           long = omega arith;
           energies = λ c k g f.

@@ -9,7 +9,7 @@ use native.Mathlib.Nat.{le-refl, le-trans}
 use native.Mathlib.Omega.{arith}
 use lib.Dec.{ltb}
 use borrow.Author.Tests.{ltb-true, ltb-false, lt-ltb, le-leb, eq-eqb}
-use Rattle.numbers.proofs.Range.{first-le}
+use Rattle.numbers.proofs.Firsts.{first-le}
 use Rattle.rules.specs.declared.End.the-variants.{None as none, Stop as stop, Limit as limit}
 use Rattle.rules.specs.Cycle.{phases, phaseEnd}
 use Rattle.rules.specs.Tally.{room, counted, stopped, ending}

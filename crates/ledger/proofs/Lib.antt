@@ -1,2 +1,3 @@
--- The laws of the ledger's nine numbers of a cycle.
+-- The laws of the ledger's nine numbers of a cycle, and of the bounds of all 576.
 pub mod Rows
+pub mod Bounded

@@ -1,29 +1,22 @@
--- The ledger's nine numbers of a cycle: what a sample adds to them, in the ledger and in the stretch that is lent, and what the bounds of the
--- 576 numbers say.
+-- The ledger's nine numbers of a cycle: what a sample adds to them, in the ledger and in the stretch that is lent.
 -- Assumes nothing.
 use mathlib.Core.Path.{_≡_, refl, sym, ap, ap₂, _∙_, subst}
 use mathlib.Core.Bool.{Bool, true, false, cond}
 use mathlib.Core.List.{List}
-use Prim.Native.Nat.{ℕ, _+_, _*_, _%_, _≤_, _<_}
+use Prim.Native.Nat.{ℕ, _+_, _≤_, _<_}
 use native.Mathlib.Decide.{decLt}
 use native.Mathlib.Nat.{zero-add, le-refl}
 use native.Mathlib.Omega.{arith}
-use borrow.Author.Tests.{leb-true, le-leb, lt-ltb, le-ltb}
 use borrow.Rule.Slice.PartMut.{putMid, midOf, put-same}
-use lib.Dec.{leb, ltb, lit≤}
-use lib.IntN.{ℤ, pos, negℤ, _+ℤ_, +ℤ-idr}
+use lib.IntN.{ℤ, pos, _+ℤ_}
 use lib.ListN.{length, set, drop, length-take, length-drop, length-set, List·getD-eq-default}
 use lib.Seq.{getD-set-same, getD-set-other, getD-take, getD-drop}
-use lib.Signed.{leZ, ltZ}
+use lib.Signed.{ltZ}
 use Rattle.numbers.specs.Lists.{plus}
-use Rattle.numbers.specs.Tests.{bit}
-use Rattle.numbers.specs.Whole.{between, Sized, Small}
+use Rattle.numbers.specs.Whole.{Sized, Small}
 use Rattle.numbers.proofs.Lists.{put-set, put-getD}
-use Rattle.numbers.proofs.Tests.{both, all-at, all-by}
-use Rattle.numbers.proofs.Whole.{of-nat, weaken, small-plus, sized-between, sized-upto}
-use Rattle.rules.specs.Shown.{inBounds, mostEnergy, mostDistance, mostOutside}
-use Rattle.ledger.specs.Row.{at, bounded, outsideAdded, isOver, sampleAdded, energyIn, distanceIn, outsideIn, energyAll}
-use Rattle.numbers.proofs.Sums.{sized-sum, between-sum}
+use Rattle.numbers.proofs.Whole.{of-nat, weaken, small-plus}
+use Rattle.ledger.specs.Row.{at, outsideAdded, isOver, sampleAdded}
 
 -- ---- one number
 
@@ -37,14 +30,6 @@ pub length-plus : (l : List ℤ) (i : ℕ) (z : ℤ) → length (plus l i z) ≡
 length-plus l i z = length-set l i (at l i +ℤ z)
 
 -- ---- a sample
-
-pub at-outside : (a : ℕ) (l : List ℤ) (out : Bool) → a + 8 < length l → at (outsideAdded a l out) (a + 8) ≡ at l (a + 8) +ℤ pos (bit out)
-at-outside a l true h = at-plus-same l (a + 8) (pos 1) h
-at-outside a l false h = sym (+ℤ-idr (at l (a + 8)))
-
-pub at-outside-other : (a : ℕ) (l : List ℤ) (out : Bool) (j : ℕ) → (j ≡ a + 8 → ⊥) → at (outsideAdded a l out) j ≡ at l j
-at-outside-other a l true j n = at-plus-other l (a + 8) j (pos 1) n
-at-outside-other a l false j n = refl
 
 pub length-outside : (a : ℕ) (l : List ℤ) (out : Bool) → length (outsideAdded a l out) ≡ length l
 length-outside a l true = length-plus l (a + 8) (pos 1)
@@ -147,68 +132,3 @@ part-small n m a k l s h j = go (decLt j k)
     go : Dec (j < k) → Sized n (at (midOf a k l) j)
     go (yes g) = subst (Sized n) (sym (getD-take k (drop a l) j (pos 0) g ∙ getD-drop a l j (pos 0))) (s (a + j) (omega arith))
     go (no g) = subst (Sized n) (sym (List·getD-eq-default (midOf a k l) (pos 0) (omega (arith, length-take k (drop a l))))) (of-nat (omega arith))
-
--- ---- bounds
-
--- by its place among the nine
-pub bounds-energy : (i : ℕ) (z : ℤ) → i % 9 < 4 → inBounds i z ≡ between (negℤ (pos mostEnergy)) (pos mostEnergy) z
-unfolding inBounds
-bounds-energy i z h = rw (lt-ltb (i % 9) 4 h)
-
-pub bounds-distance : (i : ℕ) (z : ℤ) → 4 ≤ i % 9 → i % 9 < 8 → inBounds i z ≡ between (pos 0) (pos mostDistance) z
-unfolding inBounds
-bounds-distance i z h g = rw (le-ltb (i % 9) 4 h, lt-ltb (i % 9) 8 g)
-
-pub bounds-outside : (i : ℕ) (z : ℤ) → 8 ≤ i % 9 → inBounds i z ≡ between (pos 0) (pos mostOutside) z
-unfolding inBounds
-bounds-outside i z h = rw (le-ltb (i % 9) 4 (omega arith), le-ltb (i % 9) 8 h)
-
-in-bounds-sized : (i : ℕ) (z : ℤ) → inBounds i z ≡ true → Sized 7_200_000_000_000 z
-unfolding inBounds
-in-bounds-sized i z = go (ltb (i % 9) 4) (ltb (i % 9) 8)
-  where
-    go : (x y : Bool)
-        → cond x (between (negℤ (pos mostEnergy)) (pos mostEnergy) z)
-        (cond y (between (pos 0) (pos mostDistance) z) (between (pos 0) (pos mostOutside) z))
-        ≡ true
-        → Sized 7_200_000_000_000 z
-    go true y e = sized-between mostEnergy z e
-    go false true e = weaken (lit≤ tt) (sized-upto mostDistance z e)
-    go false false e = weaken (lit≤ tt) (sized-upto mostOutside z e)
-
-pub bounded-by : (l : List ℤ) → 576 ≤ length l → ((i : ℕ) → i < 576 → inBounds i (at l i) ≡ true) → bounded l ≡ true
-unfolding bounded
-bounded-by l h g = rw (le-leb 576 (length l) h) (all-by 576 (λ i. inBounds i (at l i)) g)
-
-module _ (l : List ℤ) (b : bounded l ≡ true) where
-  pub bounded-long : 576 ≤ length l
-  unfolding bounded
-  bounded-long = leb-true 576 (length l) (both (leb 576 (length l)) _ b .0)
-
-  module _ (i : ℕ) (h : i < 576) where
-    pub bounded-at : inBounds i (at l i) ≡ true
-    unfolding bounded
-    bounded-at = all-at 576 (λ j. inBounds j (at l j)) (both (leb 576 (length l)) _ b .1) i h
-
-    pub bounded-sized : Sized 7_200_000_000_000 (at l i)
-    bounded-sized = in-bounds-sized i (at l i) bounded-at
-
-  -- the sums of a cycle
-  module _ (c : ℕ) (h : c < 64) where
-    pub outside-between : between (pos 0) (pos 48_000) (outsideIn l c) ≡ true
-    outside-between = sym (bounds-outside (9 * c + 8) (outsideIn l c) (omega arith)) ∙ bounded-at (9 * c + 8) (omega arith)
-
-    pub outside-natural : Sized 48_000 (outsideIn l c) × (leZ (pos 0) (outsideIn l c) ≡ true)
-    outside-natural = (sized-upto 48_000 (outsideIn l c) outside-between, both (leZ (pos 0) (outsideIn l c)) _ outside-between .0)
-
-    pub distance-natural : between (pos 0) (pos 288_000_000) (distanceIn l c) ≡ true
-    distance-natural =
-        between-sum 72_000_000 (λ k. at l (9 * c + 4 + k)) 4
-        (λ k g. sym (bounds-distance (9 * c + 4 + k) (at l (9 * c + 4 + k)) (omega arith) (omega arith)) ∙ bounded-at (9 * c + 4 + k) (omega arith))
-
-    pub energy-sized : Sized 28_800_000_000_000 (energyIn l c)
-    energy-sized = sized-sum 7_200_000_000_000 (λ k. at l (9 * c + k)) 4 (λ k g. bounded-sized (9 * c + k) (omega arith))
-
-  -- and of all cycles
-  pub energy-all-sized : Sized 1_843_200_000_000_000 (energyAll l)
-  energy-all-sized = sized-sum 28_800_000_000_000 (energyIn l) 64 energy-sized

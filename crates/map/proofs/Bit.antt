@@ -27,7 +27,7 @@ or-one n =
     ∙ ap₂ (λ (x y : ℕ). x * 2 + y) (or-zero-r (n / 2)) (max-eq-right (le-of-suc-le-suc (mod-lt n (lit< tt))))
 
 -- `w | (1 << k)` keeps the bits above and below place k and sets that one
-pub or-pow : (w k : ℕ) → bitOr w (2 ^ k) ≡ (w / 2 ^ k / 2 * 2 + 1) * 2 ^ k + w % 2 ^ k
+or-pow : (w k : ℕ) → bitOr w (2 ^ k) ≡ (w / 2 ^ k / 2 * 2 + 1) * 2 ^ k + w % 2 ^ k
 or-pow w k =
     ap₂ bitOr (sym (split w k)) (sym (add-zero (1 * 2 ^ k) ∙ one-mul (2 ^ k)))
     ∙ or-block k (w / 2 ^ k) 1 (w % 2 ^ k) 0 (mod-lt w (pow-pos k)) (pow-pos k)

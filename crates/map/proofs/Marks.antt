@@ -69,31 +69,23 @@ bit-unset m p e =
     omega (arith, eqb-false (bitOf (getD m (p / 64) 0) (p % 64)) 1 e, mod-lt (getD m (p / 64) 0 / 2 ^ (p % 64)) (lit< {m = 0} {n = 2} tt))
 
 -- a mark where none was makes one more
-pub ones-in-mark : (n : ℕ) (m : List ℕ) (p : ℕ) → p / 64 < n → n ≤ length m → isSet m p ≡ false → onesIn n (mark m p) ≡ onesIn n m + 1
-ones-in-mark n m p h g e =
+pub ones-mark : (m : List ℕ) (p : ℕ) → p < 48_000 → 750 ≤ length m → isSet m p ≡ false → onesOf (mark m p) ≡ onesOf m + 1
+ones-mark m p h g e =
     let w : ℕ = getD m (p / 64) 0 in
     let v : ℕ = bitOr w (2 ^ (p % 64)) in
-    sum-grown (λ k. ones (getD (mark m p) k 0)) (λ k. ones (getD m k 0)) (p / 64) 1 n h
+    sum-grown (λ k. ones (getD (mark m p) k 0)) (λ k. ones (getD m k 0)) (p / 64) 1 750 (omega arith)
     (ap ones (getD-set-same m (p / 64) v 0 (omega arith)) ∙ ones-or w (p % 64) (bit-unset m p e))
     (λ k d. ap ones (getD-set-other m (p / 64) k v 0 d))
 
-pub ones-mark : (m : List ℕ) (p : ℕ) → p < 48_000 → 750 ≤ length m → isSet m p ≡ false → onesOf (mark m p) ≡ onesOf m + 1
-ones-mark m p h g e = ones-in-mark 750 m p (omega arith) g e
-
 -- ---- a cleared map
 
-pub set-in-cleared : (n : ℕ) (m : List ℕ) (p : ℕ) → p / 64 < n → isSet (cleared 0 n m) p ≡ false
-set-in-cleared n m p h =
-    ap (λ (w : ℕ). eqb (bitOf w (p % 64)) 1) (getD-cleared 0 n m (p / 64) 0 h) ∙ ap (λ (x : ℕ). eqb (x % 2) 1) (zero-div (2 ^ (p % 64)))
-
 pub set-cleared : (m : List ℕ) (p : ℕ) → p < 48_000 → isSet (cleared 0 750 m) p ≡ false
-set-cleared m p h = set-in-cleared 750 m p (omega arith)
-
-pub ones-in-cleared : (n : ℕ) (m : List ℕ) → onesIn n (cleared 0 n m) ≡ 0
-ones-in-cleared n m = sum-none (λ k. ones (getD (cleared 0 n m) k 0)) n (λ k l. ap ones (getD-cleared 0 n m k 0 l) ∙ ones-bit 0 (lit< tt))
+set-cleared m p h =
+    ap (λ (w : ℕ). eqb (bitOf w (p % 64)) 1) (getD-cleared 0 750 m (p / 64) 0 (omega arith))
+    ∙ ap (λ (x : ℕ). eqb (x % 2) 1) (zero-div (2 ^ (p % 64)))
 
 pub ones-cleared : (m : List ℕ) → onesOf (cleared 0 750 m) ≡ 0
-ones-cleared m = ones-in-cleared 750 m
+ones-cleared m = sum-none (λ k. ones (getD (cleared 0 750 m) k 0)) 750 (λ k l. ap ones (getD-cleared 0 750 m k 0 l) ∙ ones-bit 0 (lit< tt))
 
 -- ---- how many are set
 
@@ -104,7 +96,7 @@ bit-set (suc zero) h = refl
 bit-set (suc (suc b)) h = absurd (omega arith)
 
 -- the ones of n words of 64 bits are the positions that are set
-pub ones-in-set : (n : ℕ) (m : List ℕ) → ((k : ℕ) → getD m k 0 < 2 ^ 64) → onesIn n m ≡ sum (λ p. bit (isSet m p)) (n * 64)
+ones-in-set : (n : ℕ) (m : List ℕ) → ((k : ℕ) → getD m k 0 < 2 ^ 64) → onesIn n m ≡ sum (λ p. bit (isSet m p)) (n * 64)
 unfolding fold
 ones-in-set zero m h = refl
 ones-in-set (suc n) m h =
@@ -134,7 +126,7 @@ opened-either P m p x y = go (eqb p 0)
     go false = y
 
 -- the length is kept
-pub length-mark : (m : List ℕ) (p : ℕ) → length (mark m p) ≡ length m
+length-mark : (m : List ℕ) (p : ℕ) → length (mark m p) ≡ length m
 length-mark m p = length-set m (p / 64) (bitOr (getD m (p / 64) 0) (2 ^ (p % 64)))
 
 pub length-markedIf : (m : List ℕ) (p : ℕ) (out : Bool) → length (markedIf m p out) ≡ length m

@@ -30,6 +30,6 @@ markedIf m p out = cond out (mark m p) m
 unfoldable pub opened : List ℕ → ℕ → List ℕ
 opened m p = cond (eqb p 0) (cleared 0 mapWords m) m
 
--- "The count of ones in the map"
+-- "The count of ones in the map": as many as positions are set (law `ones-set`)
 abbrev pub onesOf : List ℕ → ℕ
 onesOf m = sum (λ k. ones (getD m k 0)) mapWords

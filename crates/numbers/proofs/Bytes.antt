@@ -28,6 +28,10 @@ be-more m (suc n) b i =
     let e : getD b (i + (m + n)) 0 ≡ getD b (i + m + n) 0 = ap (λ (k : ℕ). getD b k 0) (sym (add-assoc i m n)) in
     rw (add-suc m n, pow-suc) (omega (arith, e, be-more m n b i))
 
+-- n bytes, and as many more
+pub be-halves : (n : ℕ) (b : List ℕ) (i : ℕ) {x y : ℕ} → x ≡ be n b i → y ≡ be n b (i + n) → 256 ^ n * x + y ≡ be (n + n) b i
+be-halves n b i p q = ap₂ (λ (x y : ℕ). 256 ^ n * x + y) p q ∙ sym (be-more n n b i)
+
 -- of joined bytes
 pub be-left : (n : ℕ) (p q : List ℕ) (i : ℕ) → i + n ≤ length p → be n (p ++ q) i ≡ be n p i
 unfolding be

@@ -50,7 +50,7 @@ module _ {A : Type 0} where
   clear-suc z zero (x ∷ l) h = refl
   clear-suc z (suc n) (x ∷ l) h = ap {B = List A} (λ t. z ∷ t) (clear-suc z n l (le-of-suc-le-suc h))
 
-  pub clear-more : (z : A) (n : ℕ) (l : List A) → n < length l → set (cleared z n l) n z ≡ cleared z (n + 1) l
+  clear-more : (z : A) (n : ℕ) (l : List A) → n < length l → set (cleared z n l) n z ≡ cleared z (n + 1) l
   clear-more z n l h = rw (add-one n) (clear-suc z n l h)
 
   pub length-cleared : (z : A) (n : ℕ) (l : List A) → n ≤ length l → length (cleared z n l) ≡ length l
@@ -64,6 +64,21 @@ module _ {A : Type 0} where
   pub drop-cleared : (z : A) (n : ℕ) (l : List A) → drop n (cleared z n l) ≡ drop n l
   unfolding cleared
   drop-cleared z n l = drop-at (replicate n z) (drop n l) n (length-replicate n z)
+
+  -- a loop clears the first n elements of l: i of them are, and l′ is what it has
+  pub record Clearing (z : A) (n : ℕ) (l l′ : List A) (i : ℕ) : Type 0 where
+    pub most : i ≤ n
+    pub is : l′ ≡ cleared z i l
+
+  module _ {z : A} {n : ℕ} {l l′ : List A} {i : ℕ} (p : Clearing z n l l′ i) where
+    pub clearing-length : n ≤ length l → length l′ ≡ length l
+    clearing-length h = ap length (p .is) ∙ length-cleared z i l (omega (arith, p .most))
+
+    pub clearing-more : n ≤ length l → i < n → Clearing z n l (set l′ i z) (i + 1)
+    clearing-more h g = record { most = omega arith; is = ap (λ (t : List A). set t i z) (p .is) ∙ clear-more z i l (omega arith) }
+
+    pub clearing-all : n ≤ i → l′ ≡ cleared z n l
+    clearing-all h = let e : i ≡ n = omega (arith, p .most) in p .is ∙ ap (λ (k : ℕ). cleared z k l) e
 
   -- ---- the part from place n on, as a loan writes it
   pub part-rest : (n : ℕ) (l : List A) → take (length l - n) (drop n l) ≡ drop n l

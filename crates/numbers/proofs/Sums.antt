@@ -10,13 +10,14 @@ use borrow.Author.Tests.{le-leb}
 use lib.Dec.{T, ltb}
 use lib.IntN.{ℤ, pos, _+ℤ_}
 use lib.Signed.{leZ}
-use mir.Syntax.{w64}
+use mir.Syntax.{Width}
 use mir.Val.{SFits, hbits, toZ, ofZ}
 use Rattle.numbers.specs.Range.{fold, sum, sumℤ}
 use Rattle.numbers.specs.Whole.{between, Sized}
 use Rattle.numbers.proofs.Range.{fold-same, fold-more, fold-none, sum-ℕ}
 use Rattle.numbers.proofs.Tests.{both}
-use Rattle.numbers.proofs.Whole.{of-nat, weaken, sized-add, le-add, sfits, read}
+use Rattle.numbers.proofs.Whole.{of-nat, weaken, sized-add, le-add}
+use Rattle.numbers.proofs.Signed.{sfits, read}
 
 pub sum-none : (f : ℕ → ℕ) (n : ℕ) → ((k : ℕ) → k < n → f k ≡ 0) → sum f n ≡ 0
 sum-none = fold-none _+_ 0 sum-ℕ
@@ -73,21 +74,31 @@ between-sum b f (suc n) h =
     let (lo′, hi′) = both (leZ (pos 0) (f n)) _ (h n (le-refl (suc n))) in
     rw (suc-mul n b, le-add (pos 0) (sumℤ f n) (pos 0) (f n) lo lo′, le-add (sumℤ f n) (pos (n * b)) (f n) (pos b) hi hi′)
 
--- a loop forms the sum of f 0, f 1, .. in the bits s of an `i64`: the term x that it adds after k terms fits, and gives the sum of one more
-pub record Next (f : ℕ → ℤ) (s k : ℕ) (x : ℤ) : Type 0 where
-  pub fits : SFits w64 (toZ w64 s +ℤ x)
-  pub is : toZ w64 (ofZ w64 (toZ w64 s +ℤ x)) ≡ sumℤ f (k + 1)
+-- ---- a loop that forms the sum of n terms f 0, f 1, .. in the bits of a signed number of width w
 
--- of n terms within b either way
-pub next : (b n : ℕ) → T (ltb (n * b) (2 ^ hbits w64)) → (f : ℕ → ℤ) → ((k : ℕ) → k < n → Sized b (f k))
-    → (s k : ℕ) (x : ℤ) → k < n → toZ w64 s ≡ sumℤ f k → x ≡ f k → Next f s k x
-next b n small f h s k x l before term = record { fits = fits; is = read fits ∙ more }
+-- k terms are added, and their sum stands in the bits s
+pub record Summed (w : Width) (n : ℕ) (f : ℕ → ℤ) (s k : ℕ) : Type 0 where
+  pub most : k ≤ n
+  pub is : toZ w s ≡ sumℤ f k
+
+-- the term x is added: that fits, and the sum is of one term more
+pub record Added (w : Width) (n : ℕ) (f : ℕ → ℤ) (s k : ℕ) (x : ℤ) : Type 0 where
+  pub fits : SFits w (toZ w s +ℤ x)
+  pub summed : Summed w n f (ofZ w (toZ w s +ℤ x)) (k + 1)
+
+pub summed-all : {w : Width} {n : ℕ} {f : ℕ → ℤ} {s k : ℕ} → Summed w n f s k → n ≤ k → toZ w s ≡ sumℤ f n
+summed-all {n = n} {f} {k = k} p h = let e : k ≡ n = omega arith in p .is ∙ ap (sumℤ f) e
+
+-- of terms within b either way
+pub added : {w : Width} {b n : ℕ} {f : ℕ → ℤ} {s k : ℕ} {x : ℤ} → T (ltb (n * b) (2 ^ hbits w)) → ((k : ℕ) → k < n → Sized b (f k))
+    → Summed w n f s k → k < n → x ≡ f k → Added w n f s k x
+added {w} {b} {n} {f} {s} {k} {x} small h p l term = record { fits = fits; summed = record { most = omega arith; is = read fits ∙ more } }
   where
-    more : toZ w64 s +ℤ x ≡ sumℤ f (k + 1)
-    more = ap₂ _+ℤ_ before term ∙ sym (fold-more _+ℤ_ (pos 0) f k)
+    more : toZ w s +ℤ x ≡ sumℤ f (k + 1)
+    more = ap₂ _+ℤ_ (p .is) term ∙ sym (fold-more _+ℤ_ (pos 0) f k)
 
     sized : Sized (n * b) (sumℤ f (k + 1))
     sized = weaken (mul-le-mul-right b (let g : k + 1 ≤ n = omega arith in g)) (sized-sum b f (k + 1) (λ j m. h j (omega arith)))
 
-    fits : SFits w64 (toZ w64 s +ℤ x)
-    fits = rw more (sfits w64 small sized)
+    fits : SFits w (toZ w s +ℤ x)
+    fits = rw more (sfits w small sized)

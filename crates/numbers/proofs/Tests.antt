@@ -1,6 +1,6 @@
 -- Laws of tests: joined, at every number below n as a loop builds it, at every element, and along a chain of refusals.
 -- Assumes nothing.
-use mathlib.Core.Bool.{Bool, true, false, not, _&&_, false≢true}
+use mathlib.Core.Bool.{Bool, true, false, not, _&&_, false≢true, and-false}
 use mathlib.Core.List.{List, [], _∷_, _++_}
 use mathlib.Core.Logic.{_⊎_, inl, inr, ⊎-elim}
 use mathlib.Core.Path.{_≡_, refl, sym, ap, ap₂, subst, _∙_}
@@ -19,10 +19,6 @@ use Rattle.numbers.specs.Tests.{bit, allBelow, every, unless, settled}
 pub both : (x y : Bool) → (x && y) ≡ true → (x ≡ true) × (y ≡ true)
 both true y e = (refl, e)
 both false y e = absurd (false≢true e)
-
-pub and-false : (x : Bool) → (x && false) ≡ false
-and-false true = refl
-and-false false = refl
 
 -- the same of `T`
 pub both-T : (x y : Bool) → T (x && y) → T x × T y
@@ -99,6 +95,21 @@ unfolding allBelow
 all-same zero f g h = refl
 all-same (suc n) f g h = ap₂ _&&_ (all-same n f g (λ k l. h k (le-step l))) (h n (le-refl (suc n)))
 
+-- a loop tests the numbers below n, and all below k have passed
+pub record Passing (n : ℕ) (test : ℕ → Bool) (k : ℕ) : Type 0 where
+  pub most : k ≤ n
+  pub all : allBelow k test ≡ true
+
+pub passing-none : {n : ℕ} {test : ℕ → Bool} → Passing n test 0
+unfolding allBelow
+passing-none = record { most = zero-le; all = refl }
+
+pub passing-more : {n : ℕ} {test : ℕ → Bool} {k : ℕ} → Passing n test k → k < n → test k ≡ true → Passing n test (k + 1)
+passing-more {n} {test} {k} p h e = record { most = omega arith; all = all-more k test (p .all) e }
+
+pub passing-all : {n : ℕ} {test : ℕ → Bool} {k : ℕ} → Passing n test k → n ≤ k → true ≡ allBelow n test
+passing-all {n} {test} {k} p h = let e : k ≡ n = omega arith in sym (subst (λ (m : ℕ). allBelow m test ≡ true) e (p .all))
+
 -- ---- at every element
 
 module _ {A : Type 0} (p : A → Bool) where
@@ -151,6 +162,10 @@ settled-taken {n = n} b e = rw (eq-eqb n 0 e)
 
 pub settled-refused : {A : Type 0} {n : ℕ} (a : A) {b : A} → (n ≡ 0 → ⊥) → settled n a b ≡ b
 settled-refused {n = n} a h = rw (ne-eqb n 0 h)
+
+-- a call that finds x, the number n of its refusal, not 0 answers with it
+pub settled-answer : {A : Type 0} {x n : ℕ} (answer : ℕ → A) (new : A) → x ≡ n → (x ≡ 0 → ⊥) → answer x ≡ settled n new (answer n)
+settled-answer answer new e d = ap answer e ∙ sym (settled-refused new (λ z. d (e ∙ z)))
 
 -- for `omega`, at a test of numbers
 pub ruleset tests = (arith, lt-ltb, le-ltb, le-leb, lt-leb, eq-eqb)

@@ -1,22 +1,17 @@
 -- ℤ for `omega`, which reads only ℕ. An integer z is `up z` less `down z`, two naturals. Sums, negation, order, equality and size of
 -- integers are stated here once, each as a linear fact on those naturals, so that a fact on integers is `omega` on theirs. Assumes nothing.
-use mathlib.Core.Path.{_≡_, refl, sym, ap, ap₂, _∙_, subst}
-use mathlib.Core.Bool.{Bool, true, false, cond, not, false≢true}
+use mathlib.Core.Path.{_≡_, refl, sym, ap, _∙_, subst}
+use mathlib.Core.Bool.{Bool, true, false, cond, not}
 use mathlib.Core.List.{List}
-use Prim.Native.Nat.{ℕ, zero, suc, _+_, _*_, _-_, _^_, _≤_}
-use native.Mathlib.Nat.{lt-of-lt-of-le, le-trans, mul-le-mul}
-use native.Mathlib.Decide.{ℕ-discrete}
+use Prim.Native.Nat.{ℕ, zero, suc, _+_, _*_, _-_, _≤_}
+use native.Mathlib.Nat.{le-trans, mul-le-mul}
 use native.Mathlib.Omega.{arith}
-use borrow.Author.Tests.{ltb-true, ltb-false, leb-true, leb-false, le-leb, lt-leb, eq-eqb, ne-eqb}
-use lib.Dec.{T, leb, ltb, eqb, leb→le, ltb→lt}
+use borrow.Author.Tests.{ltb-true, ltb-false, leb-true, leb-false, le-leb, lt-leb}
+use lib.Dec.{leb, ltb}
 use lib.IntN.{ℤ, pos, negsuc, negℤ, natAbs, subℕ, _+ℤ_, _*ℤ_}
 use lib.ListN.{getD}
-use lib.Pow.{pow-mono}
 use lib.Signed.{leZ, ltZ}
-use mir.Syntax.{Width}
-use mir.Val.{SFits, bits, hbits, toZ, ofZ}
-use mir.ValLaws.{toZ-ofZ, pow-bits}
-use Rattle.numbers.specs.Whole.{up, down, between, eqZ, Sized, Small}
+use Rattle.numbers.specs.Whole.{up, down, between, Sized, Small}
 use Rattle.numbers.specs.Lists.{plus}
 use Rattle.numbers.specs.Range.{fold, gather, sumOf, sumOfℤ}
 use Rattle.numbers.proofs.Tests.{both}
@@ -99,7 +94,7 @@ abs-is (pos n) = omega arith
 abs-is (negsuc n) = omega arith
 
 -- one of the two parts is zero, so that a bound on either side bounds the size
-pub abs-le : (a : ℤ) (n : ℕ) → up a ≤ n + down a → down a ≤ n + up a → natAbs a ≤ n
+abs-le : (a : ℤ) (n : ℕ) → up a ≤ n + down a → down a ≤ n + up a → natAbs a ≤ n
 abs-le (pos a) n h k = omega arith
 abs-le (negsuc a) n h k = omega arith
 
@@ -164,11 +159,6 @@ between-sized n z s =
 pub between-upto : (n m : ℕ) → m ≤ n → between (pos 0) (pos n) (pos m) ≡ true
 between-upto n m h = rw (up-le (pos 0) (pos m) (omega arith), up-le (pos m) (pos n) (omega arith))
 
--- a number that is not negative is a natural one
-pub natural-is : (n : ℕ) (z : ℤ) → between (pos 0) (pos n) z ≡ true → (pos (up z) ≡ z) × (up z ≤ n)
-natural-is n (pos m) e = (refl, leb-true m n (both (leb 0 m) (leb m n) e .1))
-natural-is n (negsuc m) e = absurd (false≢true e)
-
 -- the size of a sum is at most the sum of the sizes
 pub sized-gather : (test : ℕ → Bool) (f : ℕ → ℤ) (m : ℕ) → Sized (sumOf test (λ j. natAbs (f j)) m) (sumOfℤ test f m)
 unfolding fold gather
@@ -179,58 +169,10 @@ sized-gather test f (suc m) = sized-add (sized-gather test f m) (go (test m))
     go true = record { size = omega arith }
     go false = of-nat (omega arith)
 
--- z is added to one number of a list: no number is larger than before by more than z's size
+-- z is added to number k of a list: number j is larger than before by no more than z's size, and so is every number
+pub sized-plus : {m n : ℕ} {z : ℤ} (l : List ℤ) (k j : ℕ) → Sized m (getD l k (pos 0)) → Sized m (getD l j (pos 0)) → Sized n z
+    → Sized (m + n) (getD (plus l k z) j (pos 0))
+sized-plus {m} {n} {z} l k j s t h = set-either (Sized (m + n)) l k j (getD l k (pos 0) +ℤ z) (pos 0) (sized-add s h) (weaken (omega arith) t)
+
 pub small-plus : {m n : ℕ} {z : ℤ} (l : List ℤ) (k : ℕ) → Small m l → Sized n z → Small (m + n) (plus l k z)
-small-plus {m} {n} {z} l k s h j =
-    set-either (Sized (m + n)) l k j (getD l k (pos 0) +ℤ z) (pos 0) (sized-add (s k) h) (weaken (omega arith) (s j))
-
--- ---- signed machine numbers, whatever the width
-
--- a number fits where its size is below half the width's numbers
-pub sfits : (w : Width) {n : ℕ} {z : ℤ} → T (ltb n (2 ^ hbits w)) → Sized n z → SFits w z
-sfits w {n} {z = pos k} t s = record { sfits = omega (arith, s .size, ltb→lt n (2 ^ hbits w) t) }
-sfits w {n} {z = negsuc k} t s = record { sfits = omega (arith, s .size, ltb→lt n (2 ^ hbits w) t) }
-
-pub sized-fits : {w : Width} {z : ℤ} → SFits w z → Sized (2 ^ hbits w) z
-sized-fits {w} {z = pos n} h = record { size = omega (arith, h .sfits) }
-sized-fits {w} {z = negsuc n} h = record { size = h .sfits }
-
--- what fits a width fits a wider one
-pub widen : {w : Width} {z : ℤ} (w′ : Width) → T (leb (hbits w) (hbits w′)) → SFits w z → SFits w′ z
-widen {w} w′ t h = record { sfits = lt-of-lt-of-le (h .sfits) (pow-mono (leb→le (hbits w) (hbits w′) t)) }
-
--- what the machine reads back of a number, and of one that was cast to a wider type
-pub read : {w : Width} {z : ℤ} → SFits w z → toZ w (ofZ w z) ≡ z
-read {w} {z} h = toZ-ofZ w z h
-
-pub read-le : {w : Width} {a b : ℤ} → SFits w a → SFits w b → leZ (toZ w (ofZ w a)) (toZ w (ofZ w b)) ≡ leZ a b
-read-le h k = ap₂ leZ (read h) (read k)
-
-pub read-wide : {w : Width} {z : ℤ} (w′ : Width) → T (leb (hbits w) (hbits w′)) → SFits w z → toZ w′ (ofZ w′ (toZ w (ofZ w z))) ≡ z
-read-wide w′ t h = ap (λ (y : ℤ). toZ w′ (ofZ w′ y)) (read h) ∙ read (widen w′ t h)
-
--- a test of equality compares the bits
-pub read-eq : {w : Width} {a b : ℤ} → SFits w a → SFits w b → eqb (ofZ w a) (ofZ w b) ≡ eqZ a b
-read-eq {w} {a = pos a} {b = pos b} h k = refl
-read-eq {w} {a = pos a} {b = negsuc b} h k = ne-eqb a (2 ^ bits w - suc b) (λ e. omega (arith, h .sfits, k .sfits, pow-bits w))
-read-eq {w} {a = negsuc a} {b = pos b} h k = ne-eqb (2 ^ bits w - suc a) b (λ e. omega (arith, h .sfits, k .sfits, pow-bits w))
-read-eq {w} {a = negsuc a} {b = negsuc b} h k = go (ℕ-discrete a b)
-  where
-    go : Dec (a ≡ b) → eqb (2 ^ bits w - suc a) (2 ^ bits w - suc b) ≡ eqb a b
-    go (yes e) = eq-eqb (2 ^ bits w - suc a) (2 ^ bits w - suc b) (ap (λ (n : ℕ). 2 ^ bits w - suc n) e) ∙ sym (eq-eqb a b e)
-    go (no n) = ne-eqb (2 ^ bits w - suc a) (2 ^ bits w - suc b) (λ e. n (omega (arith, h .sfits, k .sfits, pow-bits w))) ∙ sym (ne-eqb a b n)
-
--- a sum, as the machine forms it
-
-module _ (w : Width) {m n : ℕ} {x y : ℤ} (t : T (ltb (m + n) (2 ^ hbits w))) (s : Sized m x) (u : Sized n y) where
-  sum-parts : toZ w (ofZ w x) +ℤ toZ w (ofZ w y) ≡ x +ℤ y
-  sum-parts =
-      let v : Sized (m + n) x = weaken (omega arith) s in
-      let z : Sized (m + n) y = weaken (omega arith) u in
-      ap₂ _+ℤ_ (read (sfits w t v)) (read (sfits w t z))
-
-  pub sum-fits : SFits w (toZ w (ofZ w x) +ℤ toZ w (ofZ w y))
-  sum-fits = subst (λ (z : ℤ). SFits w z) (sym sum-parts) (sfits w t (sized-add s u))
-
-  pub sum-read : toZ w (ofZ w (toZ w (ofZ w x) +ℤ toZ w (ofZ w y))) ≡ x +ℤ y
-  sum-read = read sum-fits ∙ sum-parts
+small-plus l k s h j = sized-plus l k j (s k) (s j) h

@@ -14,7 +14,7 @@ use Rattle.step.specs.declared.Going.{Going}
 use Rattle.step.specs.Step.{State, Kept, goingOf}
 use Rattle.blocks.specs.Blocks.{samplesIn, sampleAt}
 use Rattle.blocks.proofs.Bytes.{samples-at}
-use Rattle.step.proofs.Steps.{kept-steps, steps-offered}
+use Rattle.step.proofs.Keeping.{kept-steps, steps-offered}
 use Rattle.fields.specs.Fields.{valueIn}
 use Rattle.fields.specs.Values.{samplesOf}
 use Rattle.contents.specs.declared.Content.{Content}

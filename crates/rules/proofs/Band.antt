@@ -8,7 +8,7 @@ use native.Mathlib.Nat.{zero-mul, add-zero, le-refl, le-trans, add-le-add}
 use native.Mathlib.Omega.{arith}
 use borrow.Author.Tests.{leb-true}
 use lib.Dec.{T, eqb, leb, lit≤, nleb→lt}
-use Rattle.numbers.proofs.Range.{least-at, greatest-at, least-wider, greatest-wider}
+use Rattle.numbers.proofs.Extremes.{least-at, greatest-at, least-wider, greatest-wider}
 use Rattle.numbers.proofs.Tests.{both, and-mono, leb-mono}
 use Rattle.rules.specs.Bench.{Tolerances, tolerable}
 use Rattle.rules.specs.Cycle.{seconds, point, positions}

@@ -56,25 +56,26 @@ cycle-most b o c (suc m) = go (ofCycle b c m) refl (cycle-most b o c m)
     go false e (h, g) = omega arith
 
 module _ (b : List ℕ) (s : ℕ → Sample) (o : Sound b) (c m : ℕ) where
-  sum-most : (test : ℕ → Bool) (f : ℕ → ℕ) (x : ℕ) → ((j : ℕ) → T (test j) → T (ofCycle b c j)) → ((j : ℕ) → j < m → f j ≤ x)
+  -- a sum over samples of the cycle, each at most x
+  cycle-sum-most : (test : ℕ → Bool) (f : ℕ → ℕ) (x : ℕ) → ((j : ℕ) → T (test j) → T (ofCycle b c j)) → ((j : ℕ) → j < m → f j ≤ x)
       → sumOf test f m ≤ x * 48000
-  sum-most test f x h g =
+  cycle-sum-most test f x h g =
       le-trans (gather-most test (ofCycle b c) f x h m g) (mul-le-mul-left x (omega (arith, cycle-most b o c m .1, o .short)))
 
   in-cycle : (k j : ℕ) → T (ofPhase b c k j) → T (ofCycle b c j)
   in-cycle k j t = both-T (ofCycle b c j) _ t .0
 
   pub outside-most : (t : Tolerances) → outside b t s c m ≤ 48000
-  outside-most t = omega (arith, sum-most (ofCycle b c) (λ j. bit (out b t s j)) 1 (λ j h. h) (λ j l. bit-most (out b t s j)))
+  outside-most t = omega (arith, cycle-sum-most (ofCycle b c) (λ j. bit (out b t s j)) 1 (λ j h. h) (λ j l. bit-most (out b t s j)))
 
   -- of samples within their limits
   module _ (h : (j : ℕ) → j < m → Within (s j)) where
     pub distance-most : (k : ℕ) → phaseDistance b s c k m ≤ 72_000_000
-    distance-most k = sum-most (ofPhase b c k) (distanceShare s) 1500 (in-cycle k) (λ j l. h j l .speed)
+    distance-most k = cycle-sum-most (ofPhase b c k) (distanceShare s) 1500 (in-cycle k) (λ j l. h j l .speed)
 
     pub energy-most : (k : ℕ) → Sized 7_200_000_000_000 (phaseEnergy b s c k m)
     energy-most k =
-        weaken (sum-most (ofPhase b c k) (λ j. natAbs (energyShare s j)) 150_000_000 (in-cycle k) (λ j l. drawn-sized (h j l) .size))
+        weaken (cycle-sum-most (ofPhase b c k) (λ j. natAbs (energyShare s j)) 150_000_000 (in-cycle k) (λ j l. drawn-sized (h j l) .size))
         (sized-gather (ofPhase b c k) (energyShare s) m)
 
 -- every number of the ledger

@@ -1,7 +1,7 @@
 -- What it says that the closing refuses nothing, and what W then is: between the least and the greatest rate, never above the same weighting of the
 -- unrounded rates and less than 2 below it.
 -- Assumes nothing.
-use mathlib.Core.Bool.{true, false, false≢true}
+use mathlib.Core.Bool.{true, false≢true}
 use mathlib.Core.Path.{_≡_, refl, sym, subst}
 use Prim.Native.Nat.{ℕ, _+_, _*_, _≤_, _<_}
 use native.Mathlib.Omega.{arith}
@@ -16,18 +16,14 @@ use Rattle.rules.specs.Closing.{weight, weighing, isRate, rateOf, weight
 use Rattle.rules.proofs.Closeness.{never-above, two-below}
 use Rattle.rules.proofs.Weighing.{least-rate, greatest-rate}
 
--- an integer from 1 on, and one above 0, as natural numbers
-pub from-one : (z : ℤ) → leZ (pos 1) z ≡ true → (pos (up z) ≡ z) × (1 ≤ up z)
-from-one (pos m) e = (refl, leb-true 1 m e)
-from-one (negsuc m) e = absurd (false≢true e)
+-- an integer that is at least k, and one above 0, as natural numbers
+at-least : (k : ℕ) (z : ℤ) → leZ (pos k) z ≡ true → (pos (up z) ≡ z) × (k ≤ up z)
+at-least k (pos m) e = (refl, leb-true k m e)
+at-least k (negsuc m) e = absurd (false≢true e)
 
 above-zero : (z : ℤ) → ltZ (pos 0) z ≡ true → 0 < up z
 above-zero (pos m) e = ltb-true 0 m e
 above-zero (negsuc m) e = absurd (false≢true e)
-
-at-least : (k : ℕ) (z : ℤ) → leZ (pos k) z ≡ true → k ≤ up z
-at-least k (pos m) e = leb-true k m e
-at-least k (negsuc m) e = absurd (false≢true e)
 
 module _ (E : ℤ) (n : ℕ) (e d : ℕ → ℤ) where
   pub record Closes : Type 0 where
@@ -49,13 +45,13 @@ module _ (E : ℤ) (n : ℕ) (e d : ℕ → ℤ) where
       let (t₅, h₅) = not-refused 11 (allBelow n (λ c. isRate (rateOf e d c))) _ h₄ in
       let (t₆, h₆) = not-refused 12 (leb 1 (rangeFigure E n e d)) _ h₅ in
       let three = leb-true 3 n t₁ in
-      let one : (c : ℕ) → c < n → (pos (up (e c)) ≡ e c) × (1 ≤ up (e c)) = λ c l. from-one (e c) (all-at n _ t₂ c l) in
+      let one : (c : ℕ) → c < n → (pos (up (e c)) ≡ e c) × (1 ≤ up (e c)) = λ c l. at-least 1 (e c) (all-at n _ t₂ c l) in
       let sum : pos (up (e 0) + up (e 1)) ≡ e 0 +ℤ e 1 = λ i. one 0 (omega arith) .0 i +ℤ one 1 (omega arith) .0 i in
       record {
         three = three;
         drawn = λ c l. one c l .1;
         natural = λ c l. one c l .0;
-        fits = at-least _ E (subst (λ (z : ℤ). leZ z E ≡ true) (sym sum) t₃);
+        fits = at-least _ E (subst (λ (z : ℤ). leZ z E ≡ true) (sym sum) t₃) .1;
         moved = λ c l. above-zero (d c) (all-at n _ t₄ c l);
         rated = λ c l.
             let (lo, hi) = both (leb 1 (rateOf e d c)) _ (all-at n _ t₅ c l) in

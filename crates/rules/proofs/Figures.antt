@@ -9,7 +9,7 @@ use native.Mathlib.Omega.{arith}
 use lib.Dec.{T, ltb, ltb→lt, leb→le, eqb→eq}
 use lib.IntN.{pos, _+ℤ_, +ℤ-idr}
 use borrow.Author.Tests.{lt-ltb, le-leb}
-use Rattle.numbers.specs.Range.{fold, gather}
+use Rattle.numbers.specs.Range.{fold, gather, sum, sumℤ}
 use Rattle.numbers.proofs.Range.{gather-rest, gather-same, split, sum-ℕ, sum-ℤ}
 use Rattle.numbers.proofs.Tests.{both-T, and-T, true-T}
 use Rattle.rules.specs.Bench.{Sample, drawn, distance}
@@ -101,13 +101,13 @@ module _ (b : List ℕ) (s : ℕ → Sample) (o : Sound b) (m : ℕ) where
   in-four : (j : ℕ) → phaseOf b j < 4
   in-four j = four b (positionOf b j) o (mod-lt j (real o))
 
-  pub energy-phases : (c : ℕ) → fold _+ℤ_ (pos 0) (λ k. phaseEnergy b s c k m) 4 ≡ cycleEnergy b s c m
+  pub energy-phases : (c : ℕ) → sumℤ (λ k. phaseEnergy b s c k m) 4 ≡ cycleEnergy b s c m
   energy-phases c = split _+ℤ_ (pos 0) sum-ℤ (ofCycle b c) (phaseOf b) 4 (energyShare s) m (λ j l t. in-four j)
 
-  pub distance-phases : (c : ℕ) → fold _+_ 0 (λ k. phaseDistance b s c k m) 4 ≡ cycleDistance b s c m
+  pub distance-phases : (c : ℕ) → sum (λ k. phaseDistance b s c k m) 4 ≡ cycleDistance b s c m
   distance-phases c = split _+_ 0 sum-ℕ (ofCycle b c) (phaseOf b) 4 (distanceShare s) m (λ j l t. in-four j)
 
-  pub energy-cycles : m ≤ most b → fold _+ℤ_ (pos 0) (λ c. cycleEnergy b s c m) 64 ≡ energy s m
+  pub energy-cycles : m ≤ most b → sumℤ (λ c. cycleEnergy b s c m) 64 ≡ energy s m
   unfolding gather
   energy-cycles h =
       split _+ℤ_ (pos 0) sum-ℤ (λ j. true) (cycleOf b) 64 (energyShare s) m (λ j l t. div-lt-iff-lt-mul (real o) .1 (omega arith))

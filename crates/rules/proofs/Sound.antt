@@ -13,8 +13,8 @@ use lib.ListN.{length}
 use Rattle.numbers.specs.Tests.{allBelow}
 use Rattle.numbers.proofs.Tests.{both, refuted, all-at, true-T}
 use Rattle.numbers.proofs.Order.{side}
-use Rattle.numbers.proofs.Range.{first-at, first-before, first-least, first-is}
-use Rattle.rules.specs.Cycle.{phases, phaseStart, phaseEnd, seconds, point, rises, isSpeed, valid, positions, phaseAt}
+use Rattle.numbers.proofs.Firsts.{first-at, first-before, first-least, first-is}
+use Rattle.rules.specs.Cycle.{phases, phaseStart, phaseEnd, seconds, rises, isSpeed, valid, positions, phaseAt}
 
 pub record Sound (b : List ℕ) : Type 0 where
   pub some-phase : 1 ≤ phases b
@@ -53,12 +53,9 @@ valid-by-points b p₁ p₂ t₁ t₂ n e = simp (le-leb _ _ p₁, le-leb _ _ p�
 pub not-valid : (b : List ℕ) → (Sound b → ⊥) → valid b ≡ false
 not-valid b h = refuted (valid b) (λ e. h (sound b e))
 
--- phase k ends after it starts; point k is a speed
+-- phase k ends after it starts
 pub rising : {b : List ℕ} → Sound b → (k : ℕ) → k < phases b → phaseStart b k < phaseEnd b k
 rising {b} o k h = ltb-true _ _ (all-at (phases b) (rises b) (o .all-rise) k h)
-
-pub speeds : {b : List ℕ} → Sound b → (k : ℕ) → k < seconds b + 1 → point b k ≤ 1500
-speeds {b} o k h = leb-true _ _ (all-at (seconds b + 1) (isSpeed b) (o .all-speeds) k h)
 
 -- a cycle has a position
 pub real : {b : List ℕ} → Sound b → 0 < positions b
@@ -67,7 +64,7 @@ real o = omega (arith, o .long)
 -- ---- the phase of a position
 
 module _ (b : List ℕ) (p : ℕ) where
-  -- position p of phase k is before the phase's end, and at or after the end of the phase before
+  -- position p of phase k is before the phase's end
   pub phase-before : (k : ℕ) → k < phases b → phaseAt b p ≡ k → p < 20 * phaseEnd b k
   unfolding phaseAt
   phase-before k h e =

@@ -12,7 +12,8 @@ use borrow.Author.Tests.{lt-ltb, le-ltb, ltb-false}
 use Rattle.numbers.specs.Range.{first}
 use Rattle.numbers.specs.Tests.{bit}
 use Rattle.numbers.proofs.Order.{side}
-use Rattle.numbers.proofs.Range.{gather-le, gather-same, first-le, first-at, first-least, first-later, first-stays, first-next}
+use Rattle.numbers.proofs.Range.{gather-le, gather-same}
+use Rattle.numbers.proofs.Firsts.{first-le, first-at, first-least, first-later, first-stays, first-next}
 use Rattle.numbers.proofs.Tests.{leb-mono, bit-le, true-T}
 use Rattle.rules.specs.Bench.{End, none, stop, limit, isOpen}
 use Rattle.rules.specs.Tally.{outside, over, room, counted, stopped, judged, ending}

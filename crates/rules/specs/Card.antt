@@ -1,4 +1,4 @@
--- 'Rows on the test card': those marked P, and rows of our own, as one table with one claim.
+-- 'Rows on the test card': those marked P, and others, as one table with one claim.
 -- Assumes nothing.
 use mathlib.Core.Bool.{Bool, true, false, not, cond, _&&_}
 use mathlib.Core.List.{List, [], _∷_}
@@ -73,16 +73,16 @@ card =
     ∷ draws 15_000 (negℤ (pos 10_000)) (pos 150_000_000)
     ∷ weighs 100 30 20 3 (300 ∷ 100 ∷ 200 ∷ []) 210
     ∷ weighs 101 30 20 4 (300 ∷ 100 ∷ 200 ∷ 201 ∷ []) 210
-    -- ours: the window is clipped at place 20T (position 39) and at 0 (position 5)
+    -- not on the card: the window is clipped at place 20T (position 39) and at 0 (position 5)
     ∷ band (points 0 100 100) 39 20 0 (95 ∷ 100 ∷ []) (94 ∷ 101 ∷ [])
     ∷ band (points 100 0 100) 5 20 0 (0 ∷ 100 ∷ []) (101 ∷ [])
-    -- ours: the window is not taken across the joint, neither from the first position of the second cycle nor from the last of the first
+    -- not on the card: the window is not taken across the joint, neither from the first position of the second cycle nor from the last of the first
     ∷ band (points 100 50 0) 40 5 0 (88 ∷ 100 ∷ []) (87 ∷ 0 ∷ [])
     ∷ band (points 100 50 0) 39 5 0 (0 ∷ 15 ∷ []) (16 ∷ 100 ∷ [])
-    -- ours: a stop at the last position, here of the second cycle, leaves its cycle unfinished; the count begins afresh in each cycle
+    -- not on the card: a stop at the last position, here of the second cycle, leaves its cycle unfinished; the count begins afresh in each cycle
     ∷ drive 40 30 39 stop 79 1 (0 ∷ 40 ∷ 0 ∷ [])
     ∷ drive 20 30 39 stop 79 1 (20 ∷ 40 ∷ 0 ∷ [])
-    -- ours: the closing's order, each number with the next one's fault there too; E = e_1 + e_2 is good
+    -- not on the card: the closing's order, each number with the next one's fault there too; E = e_1 + e_2 is good
     ∷ closes (pos 9) (pos 0 ∷ pos 0 ∷ []) (pos 0 ∷ pos 0 ∷ []) 10
     ∷ closes (pos 9) (pos 1 ∷ pos 1 ∷ pos 0 ∷ []) (pos 1 ∷ pos 1 ∷ pos 0 ∷ []) 11
     ∷ closes (pos 1) (pos 1 ∷ pos 1 ∷ pos 1 ∷ []) (pos 1 ∷ pos 1 ∷ pos 0 ∷ []) 11

@@ -104,6 +104,6 @@ module _ (E : ℤ) (n : ℕ) (e d : ℕ → ℤ) where
       unless 14 (leZ (pos 1) (E +ℤ F))
       (unless 12 (leb (rechargeFigure F A) mostRate) 0)
 
--- "drawn energy .. within 10^13 either way", "recharge in Wh .. 1..2,000,000"
+-- no amount is beyond its limits: "within 10^13 either way", "1..2,000,000"
 unfoldable pub areAmounts : Amounts → Bool
 areAmounts a = isTransfer (a .before) && isTransfer (a .after) && isCharge (a .charge)

@@ -12,7 +12,8 @@ use lib.IntN.{ℤ, pos, negsuc, negℤ, natAbs, _+ℤ_, _-ℤ_}
 use lib.Signed.{ltZ, nonNeg}
 use mir.Syntax.{Width}
 use mir.Val.{SFits, hbits, toZ, ofZ}
-use Rattle.numbers.proofs.Whole.{of-nat, sized-neg, sfits, read, eq-of, sum-is, up-neg, down-neg}
+use Rattle.numbers.proofs.Whole.{of-nat, sized-neg, eq-of, sum-is, up-neg, down-neg}
+use Rattle.numbers.proofs.Signed.{sfits, read}
 
 -- z + 1, and its opposite
 abbrev pub raised : Width → ℤ → ℤ

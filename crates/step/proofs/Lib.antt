@@ -1,3 +1,4 @@
 -- The laws of where a run stands, and of accepted samples.
 pub mod Standing
 pub mod Steps
+pub mod Keeping

@@ -1,18 +1,42 @@
--- Where a run stands after one sample more.
+-- Where a run of a sound cycle stands, and where it stands after one sample more.
 -- Assumes nothing.
 use mathlib.Core.Bool.{true}
 use mathlib.Core.List.{List}
-use mathlib.Core.Path.{_≡_, sym}
+use mathlib.Core.Path.{_≡_, sym, ap}
 use Prim.Native.Nat.{ℕ, _+_, _≤_, _<_}
 use native.Mathlib.Nat.{mod-lt, div-add-mod', div-lt-iff-lt-mul}
 use native.Mathlib.Omega.{arith}
 use lib.Dec.{ltb}
 use borrow.Author.Tests.{lt-ltb}
 use Rattle.numbers.proofs.Order.{digits, ltb-div}
-use Rattle.rules.specs.Cycle.{positions}
+use Rattle.rules.specs.Cycle.{positions, phaseAt}
 use Rattle.rules.specs.Run.{cycleOf, positionOf, most}
-use Rattle.rules.proofs.Sound.{Sound, real}
+use Rattle.rules.proofs.Sound.{Sound, real, four}
+use Rattle.step.specs.Step.{Going, standing}
 
+module _ (b : List ℕ) (o : Sound b) (g : Going) (stands : g ≡ standing b (g .offered) (g .counted) (g .end)) where
+  pub position-is : g .position ≡ positionOf b (g .counted)
+  position-is = ap (λ (y : Going). y .position) stands
+
+  pub cycle-is : g .cycle ≡ cycleOf b (g .counted)
+  cycle-is = ap (λ (y : Going). y .cycle) stands
+
+  pub phase-is : g .phase ≡ phaseAt b (positionOf b (g .counted))
+  phase-is = ap (λ (y : Going). y .phase) stands
+
+  pub position-small : g .position < positions b
+  position-small = rw position-is (mod-lt (g .counted) (real o))
+
+  pub position-most : g .position < 48_000
+  position-most = omega (arith, position-small, o .short)
+
+  pub phase-small : g .phase < 4
+  phase-small = rw phase-is (four b (positionOf b (g .counted)) o (mod-lt (g .counted) (real o)))
+
+  pub cycle-small : g .counted < most b → g .cycle < 64
+  cycle-small h = rw cycle-is (div-lt-iff-lt-mul {x = g .counted} {y = 64} (real o) .1 h)
+
+-- after one sample more
 module _ (b : List ℕ) (o : Sound b) (n : ℕ) where
   -- within the cycle
   module _ (h : positionOf b n + 1 < positions b) where

@@ -50,6 +50,7 @@ module _ (b : List ℕ) (t : Tolerances) (a : State) (x : Sample) where
   abbrev pub overNow : Bool
   overNow = isOver (9 * cycleNow) (a .ledger) outNow (t .allowance)
 
+  -- the state after it
   unfoldable pub judge : State
   judge = record {
     offered = suc (a .offered);
@@ -59,6 +60,7 @@ module _ (b : List ℕ) (t : Tolerances) (a : State) (x : Sample) where
     map = markedIf (opened (a .map) positionNow) positionNow outNow;
   }
 
+-- a sample is judged while the run is open
 unfoldable pub step : List ℕ → Tolerances → State → Sample → State
 step b t a x = cond (isOpen (a .end)) (judge b t a x) (passed a)
 

@@ -6,7 +6,7 @@ use native.Mathlib.Omega.{arith}
 use borrow.Author.Needs.{needs}
 use Rattle.rules.specs.Band.{grid20}
 use Rattle.rules.proofs.Sound.{sound}
-use Rattle.band.proofs.Window.{weighted}
+use Rattle.band.proofs.Window.{product-small}
 use Rattle.band.proofs.target20.Statement.{statement}
 use Rattle.band.proofs.target20.Tie as tie
 
@@ -40,10 +40,10 @@ sub-result c = search needs
 
 -- the two products
 here-small : (c : tie.After-point-of2) → (20 - c .before .before .before .before .args .g % 20) * c .before .before .point-of .result ≤ 1310700
-here-small c = weighted _ _ (omega arith) (omega arith)
+here-small c = product-small _ _ (omega arith) (omega arith)
 
 next-small : (c : tie.After-point-of2) → c .before .before .before .before .args .g % 20 * c .point-of2 .result ≤ 1310700
-next-small c = weighted _ _ (omega arith) (omega arith)
+next-small c = product-small _ _ (omega arith) (omega arith)
 
 mul-result-2 : tie.Need-mul-result-2
 mul-result-2 c = omega (arith, here-small c)

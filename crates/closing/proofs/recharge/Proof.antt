@@ -6,7 +6,7 @@ use lib.IntN.{ℤ, pos}
 use lib.Signed.{leZ}
 use mir.Syntax.{w64}
 use mir.Val.{toZ, ofZ}
-use Rattle.numbers.proofs.Whole.{sfits, read}
+use Rattle.numbers.proofs.Signed.{sfits, read}
 use Rattle.rules.specs.declared.Charge.{Charge}
 use Rattle.rules.specs.Closing.{isCharge}
 use Rattle.rules.specs.Run.{finishedCycles}

@@ -9,7 +9,8 @@ use lib.Signed.{leZ, ltZ}
 use mir.Syntax.{w64}
 use mir.Val.{toZ, ofZ}
 use Rattle.numbers.specs.Tests.{allBelow}
-use Rattle.numbers.proofs.Whole.{read, le-not}
+use Rattle.numbers.proofs.Whole.{le-not}
+use Rattle.numbers.proofs.Signed.{read}
 use Rattle.ledger.specs.Row.{energyIn}
 use Rattle.consumption.proofs.Weights.{loop-ends, loop-goes}
 use Rattle.consumption.proofs.all_drawn.Statement.{statement}

@@ -9,7 +9,7 @@ use lib.Signed.{leZ, ltZ}
 use mir.Syntax.{w64}
 use mir.Val.{toZ, ofZ}
 use Rattle.numbers.specs.Tests.{allBelow}
-use Rattle.numbers.proofs.Whole.{read}
+use Rattle.numbers.proofs.Signed.{read}
 use Rattle.ledger.specs.Row.{distanceIn}
 use Rattle.consumption.proofs.Weights.{lt-not, loop-ends, loop-goes}
 use Rattle.consumption.proofs.all_moved.Statement.{statement}

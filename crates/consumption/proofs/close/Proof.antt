@@ -12,10 +12,11 @@ use mir.Syntax.{w64}
 use mir.Val.{SFits, toZ, ofZ}
 use Rattle.numbers.specs.Tests.{allBelow}
 use Rattle.numbers.proofs.Tests.{pass, stop, tests}
-use Rattle.numbers.proofs.Whole.{sized-add, sfits, read, le-not}
+use Rattle.numbers.proofs.Whole.{sized-add, le-not}
+use Rattle.numbers.proofs.Signed.{sfits, read}
 use Rattle.rules.specs.Closing.{closingRefusal}
 use Rattle.ledger.specs.Row.{energyIn, distanceIn}
-use Rattle.ledger.proofs.Rows.{energy-sized}
+use Rattle.ledger.proofs.Bounded.{energy-sized}
 use Rattle.consumption.specs.Figures.{Closable, closedOf}
 use Rattle.consumption.proofs.Weights.{Positive, positive, Cast, cast, machine, some, closed-refused}
 use Rattle.consumption.proofs.close.Statement.{statement}

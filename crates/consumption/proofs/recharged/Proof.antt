@@ -11,7 +11,8 @@ use mir.Syntax.{w64}
 use mir.Val.{toZ, ofZ}
 use Rattle.numbers.specs.Whole.{up, Sized}
 use Rattle.numbers.proofs.Tests.{pass, stop, tests}
-use Rattle.numbers.proofs.Whole.{le-up, le-not, abs-is, sized-add, read, sum-fits, sum-read}
+use Rattle.numbers.proofs.Whole.{le-up, le-not, abs-is, sized-add}
+use Rattle.numbers.proofs.Signed.{read, sum-fits, sum-read}
 use Rattle.wide.specs.Ratio.{ratio}
 use Rattle.wide.proofs.Answers.{is-quotient, over-quotient}
 use Rattle.rules.specs.Closing.{recharge}

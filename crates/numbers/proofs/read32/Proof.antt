@@ -1,8 +1,7 @@
 -- `numbers::read32` meets its contract: `read16` ensures the number of each two bytes.
 -- Assumes nothing.
-use native.Mathlib.Omega.{arith}
 use borrow.Author.Needs.{needs}
-use Rattle.numbers.proofs.Bytes.{be-more}
+use Rattle.numbers.proofs.Bytes.{be-halves}
 use Rattle.numbers.proofs.read32.Statement.{statement}
 use Rattle.numbers.proofs.read32.Tie as tie
 
@@ -30,7 +29,7 @@ add-result c = search needs
 returns : tie.Need-returns
 returns c =
     let s = c .before .before .before .args in
-    omega (arith, c .before .read16 .ensures, c .read162 .ensures, be-more 2 2 (s .b .now) (s .i))
+    be-halves 2 (s .b .now) (s .i) (c .before .read16 .ensures) (c .read162 .ensures)
 
 pub read32-spec : {M : Type 1} → statement M
 read32-spec =

@@ -1,8 +1,7 @@
 -- `numbers::read64` meets its contract: `read32` ensures the number of each four bytes.
 -- Assumes nothing.
-use native.Mathlib.Omega.{arith}
 use borrow.Author.Needs.{needs}
-use Rattle.numbers.proofs.Bytes.{be-more}
+use Rattle.numbers.proofs.Bytes.{be-halves}
 use Rattle.numbers.proofs.read64.Statement.{statement}
 use Rattle.numbers.proofs.read64.Tie as tie
 
@@ -30,7 +29,7 @@ add-result c = search needs
 returns : tie.Need-returns
 returns c =
     let s = c .before .before .before .args in
-    omega (arith, c .before .read32 .ensures, c .read322 .ensures, be-more 4 4 (s .b .now) (s .i))
+    be-halves 4 (s .b .now) (s .i) (c .before .read32 .ensures) (c .read322 .ensures)
 
 pub read64-spec : {M : Type 1} → statement M
 read64-spec =

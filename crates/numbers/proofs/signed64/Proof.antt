@@ -4,7 +4,7 @@ use Prim.Native.Nat.{_-_}
 use native.Mathlib.Omega.{arith}
 use borrow.Author.Needs.{needs}
 use mir.Syntax.{w64}
-use Rattle.numbers.proofs.Signed.{negation-fits, difference-fits, signed-is}
+use Rattle.numbers.proofs.Signed.{Formed, formed}
 use Rattle.numbers.proofs.signed64.Statement.{statement}
 use Rattle.numbers.proofs.signed64.Tie as tie
 
@@ -20,14 +20,18 @@ sub-result c = search needs
 cast-result-2 : tie.Need-cast-result-2
 cast-result-2 c = search needs
 
+-- the bits are of a number below 0
+below : (c : tie.Else1) → Formed w64 (c .before .args .x) (18_446_744_073_709_551_615 - c .before .args .x)
+below c = formed w64 _ _ (omega arith) (omega arith)
+
 sub-result-2 : tie.Need-sub-result-2
-sub-result-2 c = let x = c .before .args .x in negation-fits w64 x (18_446_744_073_709_551_615 - x) (omega arith) (omega arith)
+sub-result-2 c = below c .negation-fits
 
 sub-result-3 : tie.Need-sub-result-3
-sub-result-3 c = let x = c .before .args .x in difference-fits w64 x (18_446_744_073_709_551_615 - x) (omega arith) (omega arith)
+sub-result-3 c = below c .difference-fits
 
 returns-2 : tie.Need-returns-2
-returns-2 c = let x = c .before .args .x in signed-is w64 x (18_446_744_073_709_551_615 - x) (omega arith) (omega arith)
+returns-2 c = below c .signed-is
 
 pub signed64-spec : {M : Type 1} → statement M
 signed64-spec =

@@ -4,7 +4,7 @@ use mathlib.Core.Path.{_∙_}
 use native.Mathlib.Omega.{arith}
 use borrow.Author.Needs.{needs}
 use mir.Syntax.{w64}
-use Rattle.numbers.proofs.Whole.{read}
+use Rattle.numbers.proofs.Signed.{read}
 use Rattle.sheet.proofs.Signs.{sign-read, natural}
 use Rattle.played.proofs.say_signed.Statement.{statement}
 use Rattle.played.proofs.say_signed.Tie as tie

@@ -9,7 +9,7 @@ use lib.ListN.{length}
 use mir.Syntax.{w64}
 use mir.Val.{SFits}
 use Rattle.numbers.proofs.Lists.{part-rest}
-use Rattle.numbers.proofs.Whole.{read}
+use Rattle.numbers.proofs.Signed.{read}
 use Rattle.blocks.specs.Blocks.{samplesIn, areSamples}
 use Rattle.contents.specs.declared.Content.the-variants.{Before, After, Recharge}
 use Rattle.reading.specs.Along.{withAmount}

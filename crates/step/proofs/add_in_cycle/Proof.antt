@@ -10,7 +10,8 @@ use lib.ListN.{length}
 use mir.Syntax.{w64}
 use mir.Val.{toZ, ofZ}
 use mir.ValLaws.{toZ-pos}
-use Rattle.numbers.proofs.Whole.{of-nat, read, sfits}
+use Rattle.numbers.proofs.Whole.{of-nat}
+use Rattle.numbers.proofs.Signed.{read, sfits}
 use Rattle.rules.specs.Bench.{drawn}
 use Rattle.rules.proofs.Bounds.{Within, within, drawn-sized}
 use Rattle.ledger.specs.Row.{sampleAdded}

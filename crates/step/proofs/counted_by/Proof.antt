@@ -3,7 +3,6 @@
 use mathlib.Core.List.{List}
 use mathlib.Core.Path.{_≡_, sym, ap, _∙_}
 use Prim.Native.Nat.{ℕ, _+_, _≤_, _<_}
-use native.Mathlib.Nat.{mod-lt, div-lt-iff-lt-mul}
 use native.Mathlib.Omega.{arith}
 use borrow.Author.Needs.{needs}
 use lib.Dec.{ltb}
@@ -11,9 +10,9 @@ use mathlib.Core.Bool.{Bool, cond}
 use Rattle.rules.specs.declared.End.the-variants.{None as none, Limit as limit}
 use Rattle.rules.specs.Cycle.{positions, phaseAt}
 use Rattle.rules.specs.Run.{cycleOf, positionOf, most}
-use Rattle.rules.proofs.Sound.{Sound, sound, real, phase-first}
+use Rattle.rules.proofs.Sound.{Sound, sound, phase-first}
 use Rattle.step.specs.Step.{Going, standing}
-use Rattle.step.proofs.Standing.{same-cycle, next-position, still-open, next-cycle, first-position, limit-test}
+use Rattle.step.proofs.Standing.{position-is, cycle-is, phase-is, position-most, cycle-small, same-cycle, next-position, still-open, next-cycle, first-position, limit-test}
 use Rattle.step.proofs.counted_by.Statement.{statement}
 use Rattle.step.proofs.counted_by.Tie as tie
 
@@ -22,23 +21,23 @@ good : (c : tie.Start) → Sound (c .args .b .now)
 good c = sound _ (c .pre .0)
 
 at-position : (c : tie.Start) → c .args .g .position ≡ positionOf (c .args .b .now) (c .args .g .counted)
-at-position c = ap (λ (g : Going). g .position) (c .pre .1)
+at-position c = position-is (c .args .b .now) (good c) (c .args .g) (c .pre .1)
 
 at-cycle : (c : tie.Start) → c .args .g .cycle ≡ cycleOf (c .args .b .now) (c .args .g .counted)
-at-cycle c = ap (λ (g : Going). g .cycle) (c .pre .1)
+at-cycle c = cycle-is (c .args .b .now) (good c) (c .args .g) (c .pre .1)
 
 at-phase : (c : tie.Start) → c .args .g .phase ≡ phaseAt (c .args .b .now) (c .args .g .position)
-at-phase c = ap (λ (g : Going). g .phase) (c .pre .1) ∙ ap (phaseAt (c .args .b .now)) (sym (at-position c))
+at-phase c = phase-is (c .args .b .now) (good c) (c .args .g) (c .pre .1) ∙ ap (phaseAt (c .args .b .now)) (sym (at-position c))
 
 -- sizes
 small-position : (c : tie.Start) → c .args .g .position < 48_000
-small-position c = omega (arith, at-position c, mod-lt (c .args .g .counted) (real (good c)), good c .short)
+small-position c = position-most (c .args .b .now) (good c) (c .args .g) (c .pre .1)
 
 small-counted : (c : tie.Start) → c .args .g .counted < 3_072_000
 small-counted c = omega (arith, c .pre .3, good c .short)
 
 small-cycle : (c : tie.Start) → c .args .g .cycle < 64
-small-cycle c = omega (arith, at-cycle c, div-lt-iff-lt-mul {x = c .args .g .counted} {y = 64} (real (good c)) .1 (c .pre .3))
+small-cycle c = cycle-small (c .args .b .now) (good c) (c .args .g) (c .pre .1) (c .pre .3)
 
 -- the two places of the next sample, n the number counted
 module _ (b : List ℕ) (o : Sound b) (g : Going) (p : g .position ≡ positionOf b (g .counted)) (q : g .cycle ≡ cycleOf b (g .counted)) where

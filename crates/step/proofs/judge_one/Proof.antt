@@ -11,7 +11,10 @@ use Rattle.rules.specs.Band.{inside}
 use Rattle.ledger.specs.Row.{isOver, sampleAdded}
 use Rattle.map.specs.Map.{opened, markedIf}
 use Rattle.step.specs.Step.{judge, held, Kept}
-use Rattle.step.proofs.Steps.{position-small, position-most, phase-small, cycle-small, number-small, ledger-is, map-is, stops-is, goes-is}
+use Rattle.rules.proofs.Sound.{Sound, sound}
+use Rattle.step.proofs.Standing.{position-small, position-most, phase-small, cycle-small}
+use Rattle.step.proofs.Keeping.{number-small}
+use Rattle.step.proofs.Steps.{ledger-is, map-is, stops-is, goes-is}
 use Rattle.step.proofs.judge_one.Statement.{statement}
 use Rattle.step.proofs.judge_one.Tie as tie
 
@@ -27,6 +30,9 @@ m s = s .args .map .now
 
 kept : (s : tie.Start) → Kept (b s) (s .args .t) (s .args .g) (l s) (m s)
 kept s = s .pre .0
+
+good : (s : tie.Start) → Sound (b s)
+good s = sound (b s) (kept s .sound)
 
 -- the sample is outside
 abbrev out : tie.Start → Bool
@@ -66,7 +72,7 @@ cast-is-outside c = search needs
 is-outside-requires : tie.Need-is-outside-requires
 is-outside-requires c κs =
     let s = c .before .before .before in
-    (kept s .sound, kept s .time, position-small (b s) (s .args .t) (s .args .g) (l s) (m s) (kept s))
+    (kept s .sound, kept s .time, position-small (b s) (good s) (s .args .g) (kept s .stands))
 
 cast-mark-sample : tie.Need-cast-mark-sample
 cast-mark-sample c = search needs
@@ -74,14 +80,19 @@ cast-mark-sample c = search needs
 mark-sample-requires : tie.Need-mark-sample-requires
 mark-sample-requires c κs =
     let s = c .before .before .before .before .before in
-    (position-most (b s) (s .args .t) (s .args .g) (l s) (m s) (kept s), kept s .long-map)
+    (position-most (b s) (good s) (s .args .g) (kept s .stands), kept s .long-map)
 
 add-in-cycle-requires : tie.Need-add-in-cycle-requires
 add-in-cycle-requires c κs =
     let s = c .before .before .before .before .before .before .before .before .before in
     let k = kept s in (
-      (k .long-ledger, cycle-small (b s) (s .args .t) (s .args .g) (l s) (m s) k (s .pre .1 .2), phase-small (b s) (s .args .t) (s .args .g) (l s) (m s) k, s .pre .1 .1),
-      number-small (b s) (s .args .t) (s .args .g) (l s) (m s) k (s .pre .1 .0),
+      (
+        k .long-ledger,
+        cycle-small (b s) (good s) (s .args .g) (k .stands) (k .room (s .pre .1 .2)),
+        phase-small (b s) (good s) (s .args .g) (k .stands),
+        s .pre .1 .1,
+      ),
+      number-small k (s .pre .1 .0),
     )
 
 stopped-by-requires : tie.Need-stopped-by-requires

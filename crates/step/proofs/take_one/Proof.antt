@@ -1,12 +1,12 @@
 -- `step::take_one` meets its contract: by the run's end the sample is judged or passed by.
 -- Assumes nothing.
 use mathlib.Core.Bool.{false}
-use mathlib.Core.Path.{_≡_, sym, ap, _∙_}
+use mathlib.Core.Path.{_≡_, refl, sym, ap, _∙_}
 use Prim.Native.Nat.{_+_}
 use borrow.Author.Needs.{needs}
 use Rattle.rules.specs.Bench.{isOpen}
-use Rattle.step.specs.Step.{State, Going, step, goingOf, held}
-use Rattle.step.proofs.Steps.{step-open, step-ended, passed-is}
+use Rattle.step.specs.Step.{State, Going, step, held}
+use Rattle.step.proofs.Steps.{Leaves, leaves-same, step-open, step-ended, passed-is}
 use Rattle.step.proofs.take_one.Statement.{statement}
 use Rattle.step.proofs.take_one.Tie as tie
 
@@ -17,16 +17,13 @@ before s = held (s .args .g) (s .args .ledger .now) (s .args .map .now)
 abbrev after : tie.Start → State
 after s = step (s .args .b .now) (s .args .t) (before s) (s .args .x)
 
-module _ (s : tie.Start) where
-  -- where it stands after a sample that is passed by, and its memory
-  by : (r : Going) → isOpen (s .args .g .end) ≡ false
-      → r ≡ record { offered = s .args .g .offered + 1; counted = s .args .g .counted; end = s .args .g .end; cycle = s .args .g .cycle; position = s .args .g .position; phase = s .args .g .phase }
-      → (r ≡ goingOf (s .args .b .now) (after s)) × ((s .args .ledger .now ≡ after s .ledger) × (s .args .map .now ≡ after s .map))
-  by r e q =
-      let f = sym (step-ended (s .args .b .now) (s .args .t) (before s) (s .args .x) e) in (
-        q ∙ passed-is (s .args .b .now) (s .args .t) (s .args .g) (s .args .ledger .now) (s .args .map .now) (s .pre .0) ∙ ap (goingOf (s .args .b .now)) f,
-        (ap (λ (a : State). a .ledger) f, ap (λ (a : State). a .map) f),
-      )
+-- where it stands after a sample that is passed by, and its memory
+by : (s : tie.Start) (r : Going) → isOpen (s .args .g .end) ≡ false
+    → r ≡ record { offered = s .args .g .offered + 1; counted = s .args .g .counted; end = s .args .g .end; cycle = s .args .g .cycle; position = s .args .g .position; phase = s .args .g .phase }
+    → Leaves (s .args .b .now) (after s) r (s .args .ledger .now) (s .args .map .now)
+by s r e q =
+    leaves-same (s .args .b .now) (sym (step-ended (s .args .b .now) (s .args .t) (before s) (s .args .x) e))
+    (q ∙ passed-is (s .args .b .now) (s .args .t) (s .args .g) (s .args .ledger .now) (s .args .map .now) (s .pre .0), (refl, refl))
 
 enum-told : tie.Need-enum-told
 enum-told c = search needs
@@ -58,10 +55,9 @@ returns : tie.Need-returns
 returns c =
     let j = c .before .before .before in
     let s = j .before .before .before .before .before .before .before in
-    let f = sym (step-open (s .args .b .now) (s .args .t) (before s) (s .args .x) (ap isOpen (j .before .before .before .enum-told .given .1))) in (
-      j .judge-one .ensures .0 ∙ ap (goingOf (s .args .b .now)) f,
-      (j .judge-one .ensures .1 .0 ∙ ap (λ (a : State). a .ledger) f, j .judge-one .ensures .1 .1 ∙ ap (λ (a : State). a .map) f),
-    )
+    leaves-same (s .args .b .now)
+    (sym (step-open (s .args .b .now) (s .args .t) (before s) (s .args .x) (ap isOpen (j .before .before .before .enum-told .given .1))))
+    (j .judge-one .ensures)
 
 returns-2 : tie.Need-returns-2
 returns-2 c =

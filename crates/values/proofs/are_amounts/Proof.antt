@@ -5,7 +5,7 @@ use borrow.Author.Needs.{needs}
 use borrow.Author.Tests.{not-true, not-false}
 use mir.Syntax.{w64}
 use mir.Val.{SFits}
-use Rattle.numbers.proofs.Whole.{read}
+use Rattle.numbers.proofs.Signed.{read}
 use Rattle.rules.specs.Closing.{isTransfer, areAmounts}
 use Rattle.values.proofs.are_amounts.Statement.{statement}
 use Rattle.values.proofs.are_amounts.Tie as tie

@@ -10,7 +10,8 @@ use mir.Syntax.{w16, w64}
 use mir.Val.{Fits, SFits, toZ, ofZ}
 use mir.ValLaws.{toZ-pos}
 use Rattle.numbers.specs.Whole.{Sized}
-use Rattle.numbers.proofs.Whole.{of-nat, sized-add, sized-mul, sized-neg, sized-fits, sfits, widen, read, read-wide}
+use Rattle.numbers.proofs.Whole.{of-nat, sized-add, sized-mul, sized-neg}
+use Rattle.numbers.proofs.Signed.{sized-fits, sfits, widen, read, read-wide}
 use Rattle.rules.specs.Bench.{drawn}
 use Rattle.rules.specs.declared.Sample.{Sample}
 use Rattle.values.proofs.drawn_by.Statement.{statement}

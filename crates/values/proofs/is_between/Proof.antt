@@ -5,7 +5,8 @@ use mathlib.Core.Bool.{Bool, true, false, not, _&&_}
 use lib.Signed.{leZ, ltZ}
 use mir.Syntax.{w64}
 use mir.Val.{toZ, ofZ}
-use Rattle.numbers.proofs.Whole.{read, read-le, le-not}
+use Rattle.numbers.proofs.Whole.{le-not}
+use Rattle.numbers.proofs.Signed.{read, read-le}
 use Rattle.values.proofs.is_between.Statement.{statement}
 use Rattle.values.proofs.is_between.Tie as tie
 

@@ -14,7 +14,8 @@ use mir.Val.{SFits, toZ, ofZ}
 use mir.ValLaws.{toZ-pos}
 use Rattle.numbers.specs.Lists.{plus}
 use Rattle.numbers.specs.Whole.{Sized, Small}
-use Rattle.numbers.proofs.Whole.{sized-add, small-plus, sfits, read}
+use Rattle.numbers.proofs.Whole.{sized-add, small-plus}
+use Rattle.numbers.proofs.Signed.{sfits, read}
 use Rattle.ledger.specs.Row.{at, outsideAdded, isOver, sampleAdded}
 use Rattle.ledger.proofs.Rows.{small-outside, added-over, added-not-over}
 use Rattle.ledger.proofs.row.add_sample.Statement.{statement}

@@ -4,7 +4,8 @@ use borrow.Author.Needs.{needs}
 use mir.Syntax.{w64}
 use native.Mathlib.Nat.{le-refl}
 use native.Mathlib.Omega.{arith}
-use Rattle.numbers.proofs.Whole.{of-nat, sized-add, sfits}
+use Rattle.numbers.proofs.Whole.{of-nat, sized-add}
+use Rattle.numbers.proofs.Signed.{sfits}
 use Rattle.ledger.proofs.row.count_outside.Statement.{statement}
 use Rattle.ledger.proofs.row.count_outside.Tie as tie
 

@@ -1,17 +1,17 @@
 -- `ledger::totals::four_from` meets its contract. The loop's invariant: the sum is that of the numbers passed.
 -- Assumes nothing.
-use mathlib.Core.Path.{_≡_, refl, ap, _∙_}
+use mathlib.Core.Path.{refl}
 use mathlib.Core.List.{List}
-use Prim.Native.Nat.{ℕ, _+_, _-_, _≤_}
+use Prim.Native.Nat.{ℕ, _+_, _-_}
 use native.Mathlib.Omega.{arith}
 use lib.IntN.{ℤ}
 use mir.Syntax.{w64}
 use mir.Val.{toZ, ofZ}
-use Rattle.numbers.specs.Range.{fold, sumℤ}
-use Rattle.numbers.proofs.Whole.{read}
+use Rattle.numbers.specs.Range.{fold}
+use Rattle.numbers.proofs.Signed.{read}
+use Rattle.numbers.proofs.Sums.{Summed, Added, added, summed-all}
 use Rattle.ledger.specs.Row.{at}
-use Rattle.ledger.proofs.Rows.{bounded-long, bounded-sized}
-use Rattle.numbers.proofs.Sums.{Next, next}
+use Rattle.ledger.proofs.Bounded.{bounded-long, bounded-sized}
 use Rattle.ledger.proofs.totals.four_from.Statement.{statement}
 use Rattle.ledger.proofs.totals.four_from.Tie as tie
 
@@ -20,14 +20,14 @@ abbrev from : List ℤ → ℕ → ℕ → ℤ
 from l a k = at l (a + k)
 
 abbrev Inv-loop : tie.InvT-loop
-Inv-loop ledger a sum₀ k₀ sum k = (k ≤ 4) × (toZ w64 sum ≡ sumℤ (from ledger a) k)
+Inv-loop ledger a sum₀ k₀ sum k = Summed w64 4 (from ledger a) sum k
 
 abbrev μ-loop : tie.MeasureT-loop
 μ-loop ledger a sum₀ k₀ sum k = 4 - k
 
 loop-holds : tie.Need-loop-holds Inv-loop μ-loop
 unfolding fold
-loop-holds c = (omega arith, refl)
+loop-holds c = record { most = omega arith; is = refl }
 
 add-sum : tie.Need-add-sum Inv-loop μ-loop
 add-sum c = omega arith
@@ -39,20 +39,17 @@ shared-slice-copy-out-sum : tie.Need-shared-slice-copy-out-sum Inv-loop μ-loop
 shared-slice-copy-out-sum c = omega (arith, bounded-long _ (c .before .before .pre .0))
 
 -- the number at place a + k is added
-added : (c : tie.After-sum Inv-loop μ-loop) → (
+one-more : (c : tie.After-sum Inv-loop μ-loop) → (
     let a = c .before .before .before .args in
     let at-k = c .before .before .loop in
-    Next (from (a .ledger .now) (a .a)) (at-k .sum) (at-k .k) (toZ w64 (ofZ w64 (from (a .ledger .now) (a .a) (at-k .k)))))
-added c =
-    let a = c .before .before .before .args in
-    let p = c .before .before .before .pre in
-    let at-k = c .before .before .loop in
-    next 7_200_000_000_000 4 tt (from (a .ledger .now) (a .a)) (λ j l. bounded-sized (a .ledger .now) (p .0) (a .a + j) (omega arith))
-    (at-k .sum) (at-k .k) (toZ w64 (ofZ w64 (from (a .ledger .now) (a .a) (at-k .k)))) (omega arith) (at-k .inv .1)
+    Added w64 4 (from (a .ledger .now) (a .a)) (at-k .sum) (at-k .k) (toZ w64 (ofZ w64 (from (a .ledger .now) (a .a) (at-k .k)))))
+one-more c =
+    let s = c .before .before .before in
+    added tt (λ j l. bounded-sized _ (s .pre .0) (s .args .a + j) (omega arith)) (c .before .before .loop .inv) (c .before .loop-test .taken)
     (read (record { sfits = c .sum .given }))
 
 add-sum-2 : tie.Need-add-sum-2 Inv-loop μ-loop
-add-sum-2 c = added c .fits
+add-sum-2 c = one-more c .fits
 
 add-k : tie.Need-add-k Inv-loop μ-loop
 add-k c = omega arith
@@ -61,12 +58,10 @@ loop-less : tie.Need-loop-less Inv-loop μ-loop
 loop-less c = omega arith
 
 loop-again : tie.Need-loop-again Inv-loop μ-loop
-loop-again c = (omega arith, added c .is)
+loop-again c = one-more c .summed
 
 returns : tie.Need-returns Inv-loop μ-loop
-returns c =
-    let done : c .before .loop .k ≡ 4 = omega arith in
-    c .before .loop .inv .1 ∙ ap (sumℤ (from (c .before .before .args .ledger .now) (c .before .before .args .a))) done
+returns c = summed-all (c .before .loop .inv) (omega arith)
 
 pub four-from-spec : {M : Type 1} → statement M
 four-from-spec =

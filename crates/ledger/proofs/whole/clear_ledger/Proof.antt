@@ -1,35 +1,26 @@
 -- `ledger::whole::clear_ledger` meets its contract. The loop's invariant: the numbers passed are zero, and the others as they were.
 -- Assumes nothing.
-use mathlib.Core.Path.{_≡_, ap, _∙_}
-use mathlib.Core.List.{List}
-use Prim.Native.Nat.{ℕ, _-_, _≤_}
+use Prim.Native.Nat.{_-_}
 use native.Mathlib.Omega.{arith}
-use lib.IntN.{ℤ, pos}
-use lib.ListN.{length, set}
-use Rattle.numbers.specs.Lists.{cleared}
-use Rattle.numbers.proofs.Lists.{clear-none, clear-more, length-cleared}
+use lib.IntN.{pos}
+use Rattle.numbers.proofs.Lists.{Clearing, clear-none, clearing-length, clearing-more, clearing-all}
 use Rattle.ledger.proofs.whole.clear_ledger.Statement.{statement}
 use Rattle.ledger.proofs.whole.clear_ledger.Tie as tie
 
 abbrev Inv-loop : tie.InvT-loop
-Inv-loop l₀ i₀ l i = (i ≤ 576) × (l ≡ cleared (pos 0) i l₀)
+Inv-loop l₀ i₀ l i = Clearing (pos 0) 576 l₀ l i
 
 abbrev μ-loop : tie.MeasureT-loop
 μ-loop l₀ i₀ l i = 576 - i
 
 loop-holds : tie.Need-loop-holds Inv-loop μ-loop
-loop-holds c = (omega arith, clear-none (pos 0) (c .args .ledger .now))
+loop-holds c = record { most = omega arith; is = clear-none (pos 0) _ }
 
 mul-ledger : tie.Need-mul-ledger Inv-loop μ-loop
 mul-ledger c = omega arith
 
-long : (c : tie.At-loop Inv-loop μ-loop) → length (c .loop .ledger) ≡ length (c .before .args .ledger .now)
-long c =
-    ap length (c .loop .inv .1)
-    ∙ length-cleared (pos 0) (c .loop .i) (c .before .args .ledger .now) (omega (arith, c .loop .inv .0, c .before .pre))
-
 slice-set-of-ledger : tie.Need-slice-set-of-ledger Inv-loop μ-loop
-slice-set-of-ledger c = omega (arith, long (c .before))
+slice-set-of-ledger c = omega (arith, clearing-length (c .before .loop .inv) (c .before .before .pre))
 
 add-i : tie.Need-add-i Inv-loop μ-loop
 add-i c = omega arith
@@ -38,19 +29,13 @@ loop-less : tie.Need-loop-less Inv-loop μ-loop
 loop-less c = omega arith
 
 loop-again : tie.Need-loop-again Inv-loop μ-loop
-loop-again c = (
-  omega arith,
-  ap (λ (l : List ℤ). set l (c .before .loop .i) (pos 0)) (c .before .loop .inv .1)
-      ∙ clear-more (pos 0) (c .before .loop .i) (c .before .before .args .ledger .now) (omega (arith, c .before .before .pre)),
-)
+loop-again c = clearing-more (c .before .loop .inv) (c .before .before .pre) (omega arith)
 
 same-length : tie.Need-same-length Inv-loop μ-loop
-same-length c = long (c .before)
+same-length c = clearing-length (c .before .loop .inv) (c .before .before .pre)
 
 returns : tie.Need-returns Inv-loop μ-loop
-returns c =
-    let done : c .before .loop .i ≡ 576 = omega arith in
-    c .before .loop .inv .1 ∙ ap (λ (n : ℕ). cleared (pos 0) n (c .before .before .args .ledger .now)) done
+returns c = clearing-all (c .before .loop .inv) (omega arith)
 
 pub clear-ledger-spec : {M : Type 1} → statement M
 clear-ledger-spec =

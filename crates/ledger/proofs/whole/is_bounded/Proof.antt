@@ -1,19 +1,18 @@
 -- `ledger::whole::is_bounded` meets its contract. The loop's invariant: every number passed is in bounds.
 -- Assumes nothing.
 use borrow.Author.Tests.{not-true, not-false}
-use mathlib.Core.Path.{_≡_, refl, sym, ap, _∙_, subst}
-use mathlib.Core.Bool.{Bool, true, false≢true}
+use mathlib.Core.Path.{_≡_, sym, ap, _∙_}
+use mathlib.Core.Bool.{Bool, false≢true}
 use mathlib.Core.List.{List}
 use Prim.Native.Nat.{ℕ, _-_, _≤_}
 use native.Mathlib.Omega.{arith}
 use lib.ListN.{length}
 use lib.IntN.{ℤ}
-use Rattle.numbers.specs.Tests.{allBelow}
-use Rattle.numbers.proofs.Tests.{refuted, all-more, all-at}
-use Rattle.numbers.proofs.Whole.{read}
+use Rattle.numbers.proofs.Tests.{refuted, all-at, Passing, passing-none, passing-more, passing-all}
+use Rattle.numbers.proofs.Signed.{read}
 use Rattle.rules.specs.Shown.{inBounds}
 use Rattle.ledger.specs.Row.{at}
-use Rattle.ledger.proofs.Rows.{bounded-long, bounded-at, bounded-by}
+use Rattle.ledger.proofs.Bounded.{bounded-long, bounded-at, bounded-by}
 use Rattle.ledger.proofs.whole.is_bounded.Statement.{statement}
 use Rattle.ledger.proofs.whole.is_bounded.Tie as tie
 
@@ -21,7 +20,7 @@ abbrev fine : List ℤ → ℕ → Bool
 fine l i = inBounds i (at l i)
 
 abbrev Inv-loop : tie.InvT-loop
-Inv-loop ledger i₀ i = (i ≤ 576) × (576 ≤ length ledger) × (allBelow i (fine ledger) ≡ true)
+Inv-loop ledger i₀ i = Passing 576 (fine ledger) i × (576 ≤ length ledger)
 
 abbrev μ-loop : tie.MeasureT-loop
 μ-loop ledger i₀ i = 576 - i
@@ -30,8 +29,7 @@ returns : tie.Need-returns Inv-loop μ-loop
 returns c = sym (refuted _ (λ e. omega (arith, bounded-long _ e)))
 
 loop-holds : tie.Need-loop-holds Inv-loop μ-loop
-unfolding allBelow
-loop-holds c = (omega arith, c .if1 .left, refl)
+loop-holds c = (passing-none, c .if1 .left)
 
 mul-is-in-bounds : tie.Need-mul-is-in-bounds Inv-loop μ-loop
 mul-is-in-bounds c = omega arith
@@ -62,14 +60,12 @@ loop-less c = omega arith
 loop-again : tie.Need-loop-again Inv-loop μ-loop
 loop-again c =
     let at-i = c .before .before .before .before .loop in
-    (omega arith, at-i .inv .1, all-more (at-i .i) _ (at-i .inv .2) (tested (c .before) ∙ not-false _ (c .if2 .left)))
+    (passing-more (at-i .inv .0) (omega arith) (tested (c .before) ∙ not-false _ (c .if2 .left)), at-i .inv .1)
 
 returns-3 : tie.Need-returns-3 Inv-loop μ-loop
 returns-3 c =
-    let l = c .before .before .before .args .ledger .now in
     let at-i = c .before .loop in
-    let done : at-i .i ≡ 576 = omega arith in
-    sym (bounded-by l (at-i .inv .1) (all-at 576 (fine l) (subst (λ (n : ℕ). allBelow n (fine l) ≡ true) done (at-i .inv .2))))
+    sym (bounded-by _ (at-i .inv .1) (all-at 576 _ (sym (passing-all (at-i .inv .0) (omega arith)))))
 
 pub is-bounded-spec : {M : Type 1} → statement M
 is-bounded-spec =

@@ -4,9 +4,9 @@ use borrow.Author.Needs.{needs}
 use mathlib.Core.Path.{_∙_, ap, sym}
 use lib.IntN.{pos, negℤ}
 use Rattle.numbers.specs.Whole.{between}
-use Rattle.numbers.proofs.Whole.{read}
+use Rattle.numbers.proofs.Signed.{read}
 use Rattle.rules.specs.Shown.{mostEnergy, mostDistance, mostOutside}
-use Rattle.ledger.proofs.Rows.{bounds-energy, bounds-distance, bounds-outside}
+use Rattle.ledger.proofs.Bounded.{bounds-energy, bounds-distance, bounds-outside}
 use Rattle.ledger.proofs.whole.is_in_bounds.Statement.{statement}
 use Rattle.ledger.proofs.whole.is_in_bounds.Tie as tie
 

@@ -6,7 +6,7 @@ use borrow.Author.Needs.{needs}
 use lib.IntN.{ℤ}
 use mir.Syntax.{w64}
 use mir.Val.{SFits}
-use Rattle.numbers.proofs.Whole.{read}
+use Rattle.numbers.proofs.Signed.{read}
 use Rattle.sheet.specs.Text.{line, signed, countLines}
 use Rattle.sheet.proofs.Laid.{wrote-then, wrote-most, wrote-is}
 use Rattle.sheet.proofs.lines.count_lines.Statement.{statement}

@@ -5,7 +5,7 @@ use mathlib.Core.Path.{ap}
 use native.Mathlib.Omega.{arith}
 use borrow.Author.Needs.{needs}
 use lib.IntN.{ℤ}
-use Rattle.numbers.proofs.Whole.{read}
+use Rattle.numbers.proofs.Signed.{read}
 use Rattle.sheet.specs.Text.{line, signed}
 use Rattle.sheet.proofs.Laid.{wrote-then, wrote-most, wrote-is}
 use Rattle.sheet.proofs.lines.signed_line.Statement.{statement}

@@ -7,7 +7,7 @@ use native.Mathlib.Omega.{arith}
 use borrow.Author.Needs.{needs}
 use lib.IntN.{natAbs}
 use lib.ListN.{length-set}
-use Rattle.numbers.proofs.Whole.{read}
+use Rattle.numbers.proofs.Signed.{read}
 use Rattle.sheet.proofs.Digits.{signed-negative, signed-natural}
 use Rattle.sheet.proofs.Signs.{sign-read}
 use Rattle.sheet.proofs.Laid.{one-byte, wrote-then, wrote-most, wrote-is}

@@ -4,7 +4,7 @@ use mathlib.Core.Path.{_∙_}
 use native.Mathlib.Omega.{arith}
 use borrow.Author.Needs.{needs}
 use mir.Syntax.{w64}
-use Rattle.numbers.proofs.Whole.{read}
+use Rattle.numbers.proofs.Signed.{read}
 use Rattle.sheet.proofs.Signs.{Turned, sign-read, negative, natural}
 use Rattle.sheet.proofs.text.size.Statement.{statement}
 use Rattle.sheet.proofs.text.size.Tie as tie
