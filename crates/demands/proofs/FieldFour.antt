@@ -30,7 +30,7 @@ use Rattle.reader.specs.Answers.{endingOf}
 use Rattle.opening.specs.Opening.{Begun, Opened, OpenRead, openRefusal, openWhole, openByFront, openAt, openOnwards, openGoOn}
 use Rattle.reading.specs.Reading.{Read}
 use Rattle.records.specs.Records.{Told, Sheet, told, refused, startRefused, blank, openingIn, fieldsIn, closedBy, sheetBy, begunBy, sheetOf}
-use Rattle.records.proofs.Openings.{openAll, unrolled, open-cut-whole}
+use Rattle.records.proofs.OpenCuts.{openAll, unrolled, open-cut-whole}
 use Rattle.records.proofs.Sheets.{told-by, told-valid}
 use Rattle.demands.specs.Compared.{fieldFour, withFour, FirstThree, withTolerances, retold}
 

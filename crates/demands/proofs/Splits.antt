@@ -18,7 +18,9 @@ use Rattle.opening.specs.declared.OpenStep.{OpenStep}
 use Rattle.opening.specs.declared.OpenStep.the-variants as step
 use Rattle.opening.specs.Opening.{Begun, Opened, OpenRead, openAt, openOnwards, openGoOn, openUpto}
 use Rattle.records.specs.Records.{Told, told, startRefused, blank, sheetOf}
-use Rattle.records.proofs.Openings.{Accepts, openAll, by-open, allowed, open-size, one-more-field, open-cut-whole, open-taken, no-bytes, starts}
+use Rattle.records.proofs.OpenField.{Accepts, by-open, allowed, open-size, one-more-field, starts}
+use Rattle.records.proofs.OpenCuts.{openAll, open-cut-whole}
+use Rattle.records.proofs.Openings.{open-taken, no-bytes}
 use Rattle.records.proofs.Sheets.{sheet-told}
 use Rattle.demands.specs.Compared.{fieldFour, withFour, FirstThree}
 

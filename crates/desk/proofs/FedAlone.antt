@@ -24,7 +24,7 @@ use Rattle.opening.specs.Opening.{Begun, Opened, openAt}
 use Rattle.opening.specs.Answers.{Held, hold, cycleIn, begunOf, openGround, openOf}
 use Rattle.reading.specs.Answers.{offeredOf, takeBlock, taleOf, readGround, readAllOf}
 use Rattle.reading.proofs.Accepted.{fields-alone}
-use Rattle.records.proofs.Openings.{Accepts, open-longer, open-alone}
+use Rattle.records.proofs.OpenField.{Accepts, open-longer, open-alone}
 use Rattle.desk.specs.declared.Desk.{Desk}
 use Rattle.desk.specs.declared.Outcome.the-variants.{More, Refused}
 use Rattle.desk.specs.Feeding.{Laid, Taken, stops, behind, opensAs, opensTo, openOne, goOn, openUpto, readTo, cycleOf, readOn, mostFields, thenRead, feedOf}

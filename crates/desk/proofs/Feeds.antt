@@ -32,12 +32,12 @@ use Rattle.reader.specs.declared.Ending.the-variants as ended
 use Rattle.records.specs.Records.{refused, sheetOf}
 use Rattle.reading.proofs.Onwards.{Ends}
 use Rattle.reading.proofs.Accepted.{last-ends}
-use Rattle.records.proofs.Openings.{by-open, starts}
+use Rattle.records.proofs.OpenField.{by-open, starts}
 use Rattle.records.proofs.Calls.{Lent, Until, Since, open-changes-nothing}
 use Rattle.records.proofs.Calls.Until.{none as nothing-yet, field as opened-by}
 use Rattle.records.proofs.Calls.Since.{begun as started-by, all as all-by}
 use Rattle.records.proofs.Records.{Handed, until-ready, open-refused-longer, open-incomplete, record-tells, all-refused-longer, all-incomplete}
-use Rattle.records.proofs.Kept.{until-begins}
+use Rattle.records.proofs.KeptUntil.{until-begins}
 use Rattle.records.proofs.Rooms.{onRoom}
 use Rattle.desk.specs.declared.Desk.{Desk}
 use Rattle.desk.specs.declared.Outcome.{Outcome}

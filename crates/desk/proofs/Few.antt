@@ -31,7 +31,7 @@ use Rattle.reading.proofs.Cuts.{field-ends}
 use Rattle.reader.proofs.Answering.{grounded}
 use Rattle.records.proofs.Calls.{Lent, Since}
 use Rattle.records.proofs.Calls.Since.{begun as started-by, field as read-by, all as all-by}
-use Rattle.records.proofs.Kept.{since-holds}
+use Rattle.records.proofs.KeptSince.{since-holds}
 use Rattle.records.proofs.Records.{never-refused-1-or-2}
 use Rattle.desk.specs.Feeding.{mostFields}
 

@@ -22,7 +22,7 @@ use Rattle.opening.specs.Answers.{Held, openOf}
 use Rattle.reading.specs.Answers.{offeredOf, takeBlock, taleOf, readingOf, readGround, readAllOf}
 use Rattle.reading.proofs.Onwards.{by-step}
 use Rattle.reading.proofs.Cuts.{field-size, field-ends}
-use Rattle.records.proofs.Openings.{Stays}
+use Rattle.records.proofs.OpenField.{Stays}
 use Rattle.records.proofs.Calls.{open-changes-nothing}
 use Rattle.desk.specs.declared.Outcome.the-variants.{More, Refused}
 use Rattle.desk.specs.Feeding.{Laid, Taken, laidOf, stops, behind, opensTo, openOne, goOn, openUpto, readTo, cycleOf, readOn, mostFields, thenRead, feedOf}

@@ -30,7 +30,7 @@ use Rattle.reading.specs.Answers.{offeredOf, takeBlock, taleOf, readGround, rea
 use Rattle.reader.specs.Answers.{allAnswer}
 use Rattle.reading.proofs.Onwards.{by-step}
 use Rattle.reading.proofs.Cuts.{field-size, used-most}
-use Rattle.records.proofs.Openings.{Accepts, open-size}
+use Rattle.records.proofs.OpenField.{Accepts, open-size}
 use Rattle.desk.specs.declared.Desk.{Desk}
 use Rattle.desk.specs.declared.Fed.{Fed}
 use Rattle.desk.specs.declared.Outcome.{Outcome}

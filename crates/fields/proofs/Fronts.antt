@@ -137,6 +137,14 @@ front-whole i tag n e =
       value = rw (t, s) (e₆ .0);
     }
 
+-- its value, as a call is lent it: the length is allowed, and what the call says of it is said of the value
+module _ (i : List ℕ) (tag n : ℕ) (w : Whole i tag n) where
+  pub lent-allowed : isLength tag (length (take (3 + n - 3) (drop 3 i))) ≡ true
+  lent-allowed = ap (λ (v : List ℕ). isLength tag (length v)) (lent-value i n) ∙ ap (isLength tag) (value-length i n (w .long)) ∙ w .allowed
+
+  pub of-value : (P : List ℕ → ℕ → Type 0) → (let v = take (3 + n - 3) (drop 3 i) in P v (length v)) → P (valueIn i n) n
+  of-value P h = subst (P (valueIn i n)) (value-length i n (w .long)) (subst (λ (v : List ℕ). P v (length v)) (lent-value i n) h)
+
 is-tag : (tag n : ℕ) → isLength tag n ≡ true → isTag tag ≡ true
 is-tag tag n e = let s = sizes tag n e .tags in rw (le-leb 1 tag (s .0), le-leb tag 7 (s .1))
 

@@ -22,6 +22,7 @@ isLength tag n =
     (cond (eqb tag 6) (eqb n 9)
     (cond (eqb tag 7) (eqb n 4) false))))))
 
+-- the table has it
 abbrev pub isTag : ℕ → Bool
 isTag tag = leb 1 tag && leb tag 7
 

@@ -4,8 +4,7 @@ use mathlib.Core.Bool.{Bool, true, false, cond}
 use mathlib.Core.List.{List}
 use mathlib.Core.Path.{_≡_, refl, sym, ap, subst, subst⁻¹, _∙_}
 use Prim.Native.Nat.{ℕ, _+_, _-_, _≤_}
-use native.Mathlib.Omega.{arith}
-use borrow.Author.Tests.{leb-true, eq-eqb, ne-eqb}
+use borrow.Author.Tests.{leb-true, le-leb, eq-eqb, ne-eqb}
 use lib.Dec.{eqb}
 use lib.IntN.{ℤ}
 use lib.ListN.{length, take, drop}
@@ -21,30 +20,37 @@ use Rattle.state.specs.Refusals.{startRefusal, started}
 use Rattle.judge.proofs.Promises.{StartPromise, answer-refused, answer-taken}
 use Rattle.fields.specs.declared.Front.{Front}
 use Rattle.fields.specs.declared.Front.the-variants.{Field as field}
-use Rattle.fields.specs.Fields.{valueIn, frontOf}
+use Rattle.fields.specs.Fields.{frontOf}
 use Rattle.fields.specs.Values.{isNumber, tolerancesIn}
-use Rattle.fields.proofs.Fronts.{front-whole, value-length, lent-value}
+use Rattle.fields.proofs.Fronts.{front-whole, of-value}
 use Rattle.opening.specs.declared.Opening.{Opening}
 use Rattle.opening.specs.declared.OpenAnswer.{OpenAnswer}
 use Rattle.opening.specs.declared.OpenStep.the-variants.{Taken, Started, Refused}
 use Rattle.opening.specs.Opening.{Opened, openRefusal, begunAfter, openTaken, openByFront, openAt}
-use Rattle.opening.specs.Answers.{Held, hold, cycleIn, begunOf, isOpening, openGround, written, openAnswer, openField, openOf, memoryAfter}
-use Rattle.opening.specs.Begin.{refusedAt, numberAnswer, cycleAnswer, startRefused, startAnswer}
+use Rattle.opening.specs.Answers.{Held, mostCycle, hold, cycleIn, begunOf, isOpening, openGround, written, openAnswer, openField, openOf, memoryAfter}
+use Rattle.opening.specs.Begin.{refusedAt, numberAnswer, cycleAnswer, startNumber, startAnswer}
 
--- what the tests before a field say
-pub record Begins (o : Opening) (room : List ℕ) : Type 0 where
-  pub long : 4811 ≤ length room
-  pub fields : o .fields ≤ 3
-  pub cycle : o .cycle ≤ 4811
+-- no number of an opening on its lent room is beyond its limits
+pub record Ready (o : Opening) (lent : List ℕ) : Type 0 where
+  pub few : o .fields ≤ 3
+  pub size : o .cycle ≤ mostCycle
+  pub number : isNumber (o .vehicle) ≡ true
+  pub room : mostCycle ≤ length lent
 
-pub begins : (o : Opening) (room : List ℕ) → openGround o room ≡ 0 → Begins o room
+-- that is what the tests before a field say
+pub ground-ready : (o : Opening) (room : List ℕ) → openGround o room ≡ 0 → Ready o room
 unfolding openGround isOpening
-begins o room e =
+ground-ready o room e =
     let (long, e₁) = not-refused 0 _ _ e in
-    let (opens, e₂) = not-refused 0 _ _ e₁ in
+    let (opens, _) = not-refused 0 _ _ e₁ in
     let h₂ = both _ _ opens in
     let h₁ = both _ _ (h₂ .0) in
-    record { long = leb-true _ _ long; fields = leb-true _ _ (h₁ .0); cycle = leb-true _ _ (h₁ .1) }
+    record { few = leb-true _ _ (h₁ .0); size = leb-true _ _ (h₁ .1); number = h₂ .1; room = leb-true _ _ long }
+
+pub ready-ground : (o : Opening) (room : List ℕ) → Ready o room → openGround o room ≡ 0
+unfolding openGround isOpening
+ready-ground o room h =
+    sym (pass 1 (le-leb _ _ (h .room)) (pass 1 (rw (le-leb _ _ (h .few), le-leb _ _ (h .size), h .number)) refl))
 
 -- on the memory l and m: the answer r, the room and the memory that are left are those of x
 abbrev pub Opens : List ℤ → List ℕ → Opened Held → OpenAnswer → List ℕ → List ℤ → List ℕ → Type 0
@@ -56,24 +62,24 @@ Opens l m x r room′ l′ m′ =
 module _ (o : Opening) (room : List ℕ) (l : List ℤ) (m v : List ℕ) (n : ℕ) where
   -- ---- the start, with the tolerances t that the value holds
   module _ (t : Tolerances) (e : t ≡ tolerancesIn v) (x : Answer) (u : List ℤ) (w : List ℕ) (h : StartPromise (take (o .cycle) room) t l m x u w) where
-    number : startRefusal (take (o .cycle) room) t l m ≡ startRefused o room l m v
+    number : startRefusal (take (o .cycle) room) t l m ≡ startNumber o room l m v
     number = ap (λ (y : Tolerances). startRefusal (take (o .cycle) room) y l m) e
 
-    memory : (u ≡ settled (startRefused o room l m v) (startOf l m .ledger) l) × (w ≡ settled (startRefused o room l m v) (startOf l m .map) m)
+    memory : (u ≡ settled (startNumber o room l m v) (startOf l m .ledger) l) × (w ≡ settled (startNumber o room l m v) (startOf l m .map) m)
     memory = (
       h .in-ledger ∙ ap (λ (k : ℕ). settled k (startOf l m .ledger) l) number,
       h .in-map ∙ ap (λ (k : ℕ). settled k (startOf l m .map) m) number,
     )
 
     pub start-refused : (k : ℕ) → x ≡ answer.Refused k → (r : OpenAnswer) → r ≡ refusedAt o k
-        → (r ≡ startAnswer o room l m v n) × ((u ≡ settled (startRefused o room l m v) (startOf l m .ledger) l) × (w ≡ settled (startRefused o room l m v) (startOf l m .map) m))
+        → (r ≡ startAnswer o room l m v n) × ((u ≡ settled (startNumber o room l m v) (startOf l m .ledger) l) × (w ≡ settled (startNumber o room l m v) (startOf l m .map) m))
     start-refused k p r q =
         let (same, some) = answer-refused _ _ k (sym (h .answer) ∙ p) in
         (q ∙ ap (refusedAt o) (sym same ∙ number) ∙ sym (settled-refused _ (λ z. some (number ∙ z))), memory)
 
     pub start-taken : (run : Run) → x ≡ answer.Taken run → (r : OpenAnswer)
         → r ≡ record { step = Started n run; opening = record { fields = o .fields + 1; vehicle = o .vehicle; cycle = o .cycle } }
-        → (r ≡ startAnswer o room l m v n) × ((u ≡ settled (startRefused o room l m v) (startOf l m .ledger) l) × (w ≡ settled (startRefused o room l m v) (startOf l m .map) m))
+        → (r ≡ startAnswer o room l m v n) × ((u ≡ settled (startNumber o room l m v) (startOf l m .ledger) l) × (w ≡ settled (startNumber o room l m v) (startOf l m .map) m))
     start-taken run p r q =
         let (none, same) = answer-taken _ _ run (sym (h .answer) ∙ p) in
         let run-is : run ≡ started (take (o .cycle) room) (tolerancesIn v) = sym same ∙ ap (started (take (o .cycle) room)) e in (
@@ -127,13 +133,13 @@ module _ (o : Opening) (room : List ℕ) (l : List ℤ) (m v : List ℕ) (n : �
       go false p = by-refusal 3 2 r room′ l m (sym (pass 9 (eq-eqb _ _ h) (stop 0 p))) (e ∙ sym (stop _ p), (f ∙ sym (stop _ p), (refl, refl)))
 
   pub start-opens : 4 ≡ o .fields + 1 → (r : OpenAnswer) (l′ : List ℤ) (m′ : List ℕ) → r ≡ startAnswer o room l m v n
-      → l′ ≡ settled (startRefused o room l m v) (startOf l m .ledger) l → m′ ≡ settled (startRefused o room l m v) (startOf l m .map) m
+      → l′ ≡ settled (startNumber o room l m v) (startOf l m .ledger) l → m′ ≡ settled (startNumber o room l m v) (startOf l m .map) m
       → Opens l m (openField o room l m 4 v n) r room l′ m′
   unfolding openRefusal
-  start-opens h r l′ m′ e f g = by-refusal 4 (startRefused o room l m v) r room l′ m′ (sym (pass 9 (eq-eqb _ _ h) refl)) (go (eqb (startRefused o room l m v) 0) e f g)
+  start-opens h r l′ m′ e f g = by-refusal 4 (startNumber o room l m v) r room l′ m′ (sym (pass 9 (eq-eqb _ _ h) refl)) (go (eqb (startNumber o room l m v) 0) e f g)
     where
       x : ℕ
-      x = startRefused o room l m v
+      x = startNumber o room l m v
 
       go : (y : Bool) → r ≡ cond y (record { step = Started n (started (take (o .cycle) room) (tolerancesIn v)); opening = record { fields = o .fields + 1; vehicle = o .vehicle; cycle = o .cycle } }) (refusedAt o x)
           → l′ ≡ cond y (startOf l m .ledger) l → m′ ≡ cond y (startOf l m .map) m
@@ -175,7 +181,4 @@ module _ (o : Opening) (room : List ℕ) (l : List ℤ) (m i : List ℕ) where
         → (let v = take (3 + n - 3) (drop 3 i) in Opens l m (openField o room l m tag v (3 + length v)) r room′ l′ m′)
         → Opens l m (openByFront hold cycleIn (λ b t. startRefusal b t l m) (begunOf o room) i (field tag n)) r room′ l′ m′
     whole-opens tag n e h =
-        let same : take (3 + n - 3) (drop 3 i) ≡ valueIn i n = lent-value i n in
-        let long = value-length i n (front-whole i tag n e .long) in
-        subst (λ (y : ℕ). Opens l m (openField o room l m tag (valueIn i n) (3 + y)) r room′ l′ m′) long
-        (subst (λ (v : List ℕ). Opens l m (openField o room l m tag v (3 + length v)) r room′ l′ m′) same h)
+        of-value i tag n (front-whole i tag n e) (λ v size. Opens l m (openField o room l m tag v (3 + size)) r room′ l′ m′) h

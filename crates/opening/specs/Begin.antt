@@ -25,14 +25,15 @@ cycleAnswer o v n =
     unless (refusedAt o 2) (valid v)
     (record { step = Taken n; opening = record { fields = o .fields + 1; vehicle = o .vehicle; cycle = length v } })
 
-abbrev pub startRefused : Opening → List ℕ → List ℤ → List ℕ → List ℕ → ℕ
-startRefused o room l m v = startRefusal (take (o .cycle) room) (tolerancesIn v) l m
+-- the number of the refusal of a start by field 4, 0 where there is none
+abbrev pub startNumber : Opening → List ℕ → List ℤ → List ℕ → List ℕ → ℕ
+startNumber o room l m v = startRefusal (take (o .cycle) room) (tolerancesIn v) l m
 
 abbrev pub startAnswer : Opening → List ℕ → List ℤ → List ℕ → List ℕ → ℕ → OpenAnswer
 startAnswer o room l m v n =
-    settled (startRefused o room l m v)
+    settled (startNumber o room l m v)
     (record {
       step = Started n (started (take (o .cycle) room) (tolerancesIn v));
       opening = record { fields = o .fields + 1; vehicle = o .vehicle; cycle = o .cycle };
     })
-    (refusedAt o (startRefused o room l m v))
+    (refusedAt o (startNumber o room l m v))

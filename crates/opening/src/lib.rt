@@ -16,7 +16,7 @@ ghost use Rattle.step.specs.Step.{startOf};
 ghost use Rattle.fields.specs.Fields.{isLength};
 ghost use Rattle.fields.specs.Values.{tolerancesIn};
 ghost use Rattle.opening.specs.Answers.{isOpening, openGround, written, openAnswer, openField, memoryAfter};
-ghost use Rattle.opening.specs.Begin.{numberAnswer, cycleAnswer, startRefused, startAnswer};
+ghost use Rattle.opening.specs.Begin.{numberAnswer, cycleAnswer, startNumber, startAnswer};
 
 // Until the start: how many of the first four fields are accepted, the vehicle, and how many bytes the cycle in the room has.
 pub struct Opening {
@@ -98,7 +98,7 @@ pub fn open_refusal(o: Opening, room: &[u8]) -> u32
     0
 }
 
-// A field is refused.
+// A refused field leaves the opening as it was.
 pub fn refused_at(o: Opening, number: u32) -> OpenAnswer
     ensures { λ r. ⌜ r ≡ record { step = OpenStep.Refused number; opening = o } ⌝ }
 {
@@ -108,7 +108,7 @@ pub fn refused_at(o: Opening, number: u32) -> OpenAnswer
     }
 }
 
-// One field more.
+// The mark and the tolerances leave nothing in the opening but their count.
 fn with_field(o: Opening) -> Opening
     requires { ⌜ o .fields ≤ 3 ⌝ }
     ensures { λ r. ⌜ r ≡ record { fields = o .fields + 1; vehicle = o .vehicle; cycle = o .cycle } ⌝ }
@@ -171,8 +171,8 @@ fn open_start(
 ) -> OpenAnswer
     requires { ⌜ (o .fields ≤ 3) × (o .cycle ≤ length (now room)) × (6 ≤ length (now v)) ⌝ }
     ensures { λ r. ⌜ r ≡ startAnswer o (now (room .entry)) (now (ledger .entry)) (now (map .entry)) (now (v .entry)) n ⌝ }
-    ensures { λ _. ⌜ now (ledger .exit) ≡ settled (startRefused o (now (room .entry)) (now (ledger .entry)) (now (map .entry)) (now (v .entry))) (startOf (now (ledger .entry)) (now (map .entry)) .ledger) (now (ledger .entry)) ⌝ }
-    ensures { λ _. ⌜ now (map .exit) ≡ settled (startRefused o (now (room .entry)) (now (ledger .entry)) (now (map .entry)) (now (v .entry))) (startOf (now (ledger .entry)) (now (map .entry)) .map) (now (map .entry)) ⌝ }
+    ensures { λ _. ⌜ now (ledger .exit) ≡ settled (startNumber o (now (room .entry)) (now (ledger .entry)) (now (map .entry)) (now (v .entry))) (startOf (now (ledger .entry)) (now (map .entry)) .ledger) (now (ledger .entry)) ⌝ }
+    ensures { λ _. ⌜ now (map .exit) ≡ settled (startNumber o (now (room .entry)) (now (ledger .entry)) (now (map .entry)) (now (v .entry))) (startOf (now (ledger .entry)) (now (map .entry)) .map) (now (map .entry)) ⌝ }
 {
     let size = o.cycle;
     let answer = start(&room[..size], tolerances_of(v), &mut *ledger, &mut *map);

@@ -1,11 +1,14 @@
 -- `read` and `read_all` on a reading with its lent memory: what the tests before a field say, and what is answered after them.
 -- Assumes nothing.
+use mathlib.Core.Bool.{true}
 use mathlib.Core.List.{List}
 use mathlib.Core.Path.{_≡_, refl, sym, ap, subst, subst⁻¹, _∙_}
-use Prim.Native.Nat.{ℕ, _≤_}
+use Prim.Native.Nat.{ℕ}
+use native.Mathlib.Omega.{arith}
 use lib.IntN.{ℤ}
 use lib.ListN.{length}
 use Rattle.numbers.proofs.Tests.{not-refused, settled-taken, settled-refused}
+use Rattle.rules.specs.Cycle.{valid, seconds}
 use Rattle.rules.specs.declared.Tolerances.{Tolerances}
 use Rattle.step.specs.Step.{State}
 use Rattle.numbers.specs.Tests.{settled}
@@ -19,14 +22,10 @@ use Rattle.reading.specs.declared.Reading.{Reading}
 use Rattle.reading.specs.declared.Step.the-variants.{Refused}
 use Rattle.reading.specs.declared.Stepped.{Stepped}
 use Rattle.reading.specs.Reading.{Answered, Read}
-use Rattle.reading.specs.Answers.{taleOf, readGround, readOf, readAllOf}
+use Rattle.reading.specs.Answers.{readGround, readOf, readAllOf}
 use Rattle.reader.specs.Answers.{readAnswer, allAnswer}
-use Rattle.reading.specs.Along.{alongAt, withAlong, frontAs, allAs, passageOf, Ready}
-use Rattle.reading.proofs.Taking.{Took}
-
--- the passage r and the memory l and m are those of x
-abbrev pub Passed : List ℕ → Read State → Passage → List ℤ → List ℕ → Type 0
-Passed b x r l m = (r ≡ passageOf b x) × ((l ≡ x .tale .run .ledger) × (m ≡ x .tale .run .map))
+use Rattle.reading.specs.Along.{alongAt, withAlong, frontAs, allAs, Ready}
+use Rattle.reading.proofs.Taking.{Took, Passed}
 
 -- the answer a and the memory are those of x, for one field and for all
 abbrev pub ReadBy : Reading → Answered State → ReadAnswer → List ℤ → List ℕ → Type 0
@@ -45,28 +44,31 @@ module _ (r : Reading) (b : List ℕ) (l : List ℤ) (m : List ℕ) where
     unfolding readGround
     grounded = ground-passed (not-refused 0 _ _ e .1)
 
-    pub ready-at : 17 ≤ length (r .vehicle) → (k : Along) → k ≡ alongAt r b → Ready (r .vehicle) b t k l m
+    pub along-asked : (valid b ≡ true) × (seconds b ≡ r .run .seconds)
+    along-asked = (grounded .sound, grounded .same-seconds)
+
+    pub ready-at : length (r .vehicle) ≡ 17 → (k : Along) → k ≡ alongAt r b → Ready (r .vehicle) b t k l m
     ready-at h k p =
         subst⁻¹ (λ (y : Along). Ready (r .vehicle) b t y l m) p
-        (record { number = h; kept = kept-ground (r .run) b l m grounded; few = grounded .limits .offered })
+        (record { number = omega arith; kept = kept-ground (r .run) b l m grounded; few = grounded .limits .offered })
+
+    -- what is read from k on is what the call reads
+    called : {X : Type 0} (f : Along → X) (k : Along) → k ≡ alongAt r b → (refused : X) → f k ≡ settled (readGround r b l m) (f (alongAt r b)) refused
+    called f k p refused = ap f p ∙ sym (settled-taken _ e)
 
     module _ (i : List ℕ) (k : Along) (p : k ≡ alongAt r b) {l′ : List ℤ} {m′ : List ℕ} (y : Reading) where
       pub read-taken : (x : Stepped) → Took b (frontAs b t k l m (r .vehicle) i) x l′ m′ → y ≡ withAlong r (x .along)
           → ReadBy r (readOf r b l m i) (record { step = x .step; reading = y }) l′ m′
       unfolding readOf
       read-taken x h q =
-          let f : frontAs b t k l m (r .vehicle) i ≡ settled (readGround r b l m) (frontAs b t (alongAt r b) l m (r .vehicle) i) (record { step = Refused (readGround r b l m); tale = taleOf r l m }) =
-          ap (λ (z : Along). frontAs b t z l m (r .vehicle) i) p ∙ sym (settled-taken _ e) in
-          let g = subst (λ (z : Answered State). Took b z x l′ m′) f h in
+          let g = subst (λ (z : Answered State). Took b z x l′ m′) (called (λ z. frontAs b t z l m (r .vehicle) i) k p _) h in
           ((λ j. record { step = g .0 j .step; reading = (q ∙ ap (λ (z : Stepped). withAlong r (z .along)) (g .0)) j }), g .1)
 
       pub all-taken : (x : Passage) → Passed b (allAs b t k l m (r .vehicle) i) x l′ m′ → y ≡ withAlong r (x .along)
           → AllBy r (readAllOf r b l m i) (record { reading = y; fields = x .fields; used = x .used; last = x .last }) l′ m′
       unfolding readAllOf
       all-taken x h q =
-          let f : allAs b t k l m (r .vehicle) i ≡ settled (readGround r b l m) (allAs b t (alongAt r b) l m (r .vehicle) i) (record { tale = taleOf r l m; fields = 0; used = 0; last = Refused (readGround r b l m) }) =
-          ap (λ (z : Along). allAs b t z l m (r .vehicle) i) p ∙ sym (settled-taken _ e) in
-          let g = subst (λ (z : Read State). Passed b z x l′ m′) f h in
+          let g = subst (λ (z : Read State). Passed b z x l′ m′) (called (λ z. allAs b t z l m (r .vehicle) i) k p _) h in
           ((λ j. record { reading = (q ∙ ap (λ (z : Passage). withAlong r (z .along)) (g .0)) j; fields = g .0 j .fields; used = g .0 j .used; last = g .0 j .last }), g .1)
 
   -- ---- a test refuses

@@ -21,8 +21,15 @@ use Rattle.reading.proofs.Onwards.{Uses, Ends, by-front, by-step, same-
 
 -- ---- what was read first, and then
 module _ {S : Type 0} where
+  -- y behind n fields of u bytes
+  abbrev pub behind : ℕ → ℕ → Read S → Read S
+  behind n u y = record { tale = y .tale; fields = n + y .fields; used = u + y .used; last = y .last }
+
+  pub none-before : (y : Read S) → y ≡ behind 0 0 y
+  none-before y = λ j. record { tale = y .tale; fields = sym (zero-add (y .fields)) j; used = sym (zero-add (y .used)) j; last = y .last }
+
   abbrev pub joined : Read S → Read S → Read S
-  joined x y = record { tale = y .tale; fields = x .fields + y .fields; used = x .used + y .used; last = y .last }
+  joined x y = behind (x .fields) (x .used) y
 
   -- by the answer after the first: only where a field is not finished, more can follow
   abbrev pub resumed : Step → Read S → Read S → Read S
@@ -138,7 +145,7 @@ module _ {S : Type 0} (offered : S → ℕ) (take : S → List ℕ → S) (me : 
   -- ---- cut in two
 
   -- the fields use no more than there is
-  pub used-upto : (n : ℕ) (k : Tale S) (i : List ℕ) → upto offered take n me k i .used ≤ length i
+  used-upto : (n : ℕ) (k : Tale S) (i : List ℕ) → upto offered take n me k i .used ≤ length i
   unfolding upto
   used-upto zero k i = zero-le
   used-upto (suc n) k i =
@@ -148,10 +155,7 @@ module _ {S : Type 0} (offered : S → ℕ) (take : S → List ℕ → S) (me : 
   pub used-most : (k : Tale S) (i : List ℕ) → all k i .used ≤ length i
   used-most k i = used-upto (length i) k i
 
-  -- nothing read before, or one field more
-  none-joined : (k : Tale S) (y : Read S) → y ≡ joined (ends offered take k step.Incomplete) y
-  none-joined k y = λ j. record { tale = y .tale; fields = sym (zero-add (y .fields)) j; used = sym (zero-add (y .used)) j; last = y .last }
-
+  -- one field more before both
   one-resumed : (m : ℕ) (s : Step) (x y : Read S) → resumed s (onwards offered take m x) y ≡ onwards offered take m (resumed s x y)
   one-resumed m (step.Taken n) x y = refl
   one-resumed m (step.Passed n) x y = refl
@@ -179,12 +183,12 @@ module _ {S : Type 0} (offered : S → ℕ) (take : S → List ℕ → S) (me : 
       go (step.Passed m) e h = absurd (h m refl)
       go step.Incomplete e h =
           subst (λ (t : Tale S). all k (p ++ q) ≡ readOn p q (ends offered take t step.Incomplete)) (sym (field-ends k p (rw e h)))
-          (none-joined k (all k (p ++ q)))
+          (none-before (all k (p ++ q)))
       go (step.Refused r) e h = unrolled-longer k p q (λ i. false≢true cc) ∙ rw e
 
   cut-upto : (n : ℕ) (k : Tale S) (p q : List ℕ) → all k (p ++ q) ≡ readOn p q (upto offered take n me k p)
   unfolding upto
-  cut-upto zero k p q = none-joined k (all k (p ++ q))
+  cut-upto zero k p q = none-before (all k (p ++ q))
   cut-upto (suc n) k p q = cut-one k p q _ (λ m. cut-upto n (at k p .tale) (drop m p) q)
 
   -- the whole is what the first part gives, read on

@@ -3,7 +3,7 @@
 use mathlib.Core.List.{List}
 use mathlib.Core.Path.{_≡_, refl, sym, ap, subst, subst⁻¹, _∙_}
 use Prim.Native.Nat.{ℕ, suc, _+_, _-_, _≤_}
-use native.Mathlib.Nat.{add-assoc, add-zero, zero-add}
+use native.Mathlib.Nat.{add-assoc, add-zero}
 use native.Mathlib.Omega.{arith}
 use lib.IntN.{ℤ}
 use lib.ListN.{length, take, drop, length-drop}
@@ -21,16 +21,16 @@ use Rattle.contents.specs.declared.Content.{Content}
 use Rattle.contents.specs.declared.Content.the-variants.{Own, Foreign, Before, After, Recharge, Refused}
 use Rattle.reading.specs.declared.Step.{Step}
 use Rattle.reading.specs.declared.Step.the-variants as step
-use Rattle.reading.specs.Reading.{Tale, Answered, Read, bytesOf, taleAfter, brought, fieldAt, fieldsOf, ends}
+use Rattle.reading.specs.Reading.{Tale, Answered, Read, bytesOf, runAfter, brought, fieldAt, fieldsOf, ends}
 use Rattle.reading.specs.Answers.{offeredOf, takeBlock}
 use Rattle.reading.specs.declared.Along.{Along}
 use Rattle.reading.specs.declared.Stepped.{Stepped}
 use Rattle.reading.specs.Along.{taleAlong, passageOf, frontAs, allAs, Ready}
 use Rattle.reading.proofs.Accepted.{no-bytes}
 use Rattle.contents.proofs.Brought.{Says, says}
-use Rattle.reading.proofs.Cuts.{field-size, unrolled, first-then}
+use Rattle.reading.proofs.Cuts.{behind, field-size, unrolled, first-then}
 use Rattle.reading.proofs.Onwards.{Uses, Ends, by-front, by-step}
-use Rattle.reading.proofs.Taking.{Took}
+use Rattle.reading.proofs.Taking.{Took, Passed}
 
 -- ---- an answer and how many bytes it uses
 
@@ -46,36 +46,32 @@ bytes-used (step.Passed n) m u = u
 bytes-used step.Incomplete m u = absurd u
 bytes-used (step.Refused x) m u = absurd u
 
--- fields before those of x
-abbrev pub behind : ℕ → ℕ → Read State → Read State
-behind n u x = record { tale = x .tale; fields = n + x .fields; used = u + x .used; last = x .last }
-
 module _ (me b : List ℕ) (t : Tolerances) where
   -- ---- what every field keeps
-  record Held (x : Tale State) : Type 0 where
-    kept : Kept b t (goingOf b (x .run)) (x .run .ledger) (x .run .map)
-    few : x .run .offered ≤ 4_000_000
+  record Stands (s : State) : Type 0 where
+    kept : Kept b t (goingOf b s) (s .ledger) (s .map)
+    few : s .offered ≤ 4_000_000
 
-  held-content : (k : Tale State) (tag : ℕ) (v : List ℕ) (c : Content) → Says me (k .passed) (k .run .offered) tag v c → Held k
-      → Held (taleAfter offeredOf (takeBlock b t) k v c)
-  held-content k tag v Own s h =
+  stands-after : (s : State) (passed tag : ℕ) (v : List ℕ) (c : Content) → Says me passed (s .offered) tag v c → Stands s
+      → Stands (runAfter offeredOf (takeBlock b t) s v c)
+  stands-after s passed tag v Own o h =
       let q = samplesOf v in
       record {
-        kept = kept-steps b t (k .run) (sampleAt q) (samplesIn q) (h .kept) (samples-at q (samplesIn q) (s .1 .samples));
-        few = omega (arith, steps-offered b t (k .run) (sampleAt q) (samplesIn q), s .1 .room);
+        kept = kept-steps b t s (sampleAt q) (samplesIn q) (h .kept) (samples-at q (samplesIn q) (o .1 .samples));
+        few = omega (arith, steps-offered b t s (sampleAt q) (samplesIn q), o .1 .room);
       }
-  held-content k tag v Foreign s h = record { kept = h .kept; few = h .few }
-  held-content k tag v (Before e) s h = record { kept = h .kept; few = h .few }
-  held-content k tag v (After e) s h = record { kept = h .kept; few = h .few }
-  held-content k tag v (Recharge w) s h = record { kept = h .kept; few = h .few }
-  held-content k tag v (Refused x) s h = h
+  stands-after s passed tag v Foreign o h = h
+  stands-after s passed tag v (Before e) o h = h
+  stands-after s passed tag v (After e) o h = h
+  stands-after s passed tag v (Recharge w) o h = h
+  stands-after s passed tag v (Refused x) o h = h
 
-  held-field : (k : Tale State) (i : List ℕ) → Held k → Held (fieldAt offeredOf (takeBlock b t) me k i .tale)
-  held-field k i h =
-      by-front offeredOf (takeBlock b t) me (λ (x : Answered State). Held (x .tale)) k i (λ _ _. h)
+  stands-field : (k : Tale State) (i : List ℕ) → Stands (k .run) → Stands (fieldAt offeredOf (takeBlock b t) me k i .tale .run)
+  stands-field k i h =
+      by-front offeredOf (takeBlock b t) me (λ (x : Answered State). Stands (x .tale .run)) k i (λ _ _. h)
       (λ tag n _.
       let v = valueIn i n in
-      held-content k tag v (brought offeredOf (takeBlock b t) me k tag v) (says me (k .passed) (k .run .offered) tag v (k .place)) h)
+      stands-after (k .run) (k .passed) tag v (brought offeredOf (takeBlock b t) me k tag v) (says me (k .passed) (k .run .offered) tag v (k .place)) h)
 
   module _ (k : Along) (l : List ℤ) (m : List ℕ) (i : List ℕ) (r : Stepped) (l′ : List ℤ) (m′ : List ℕ) (h : Took b (frontAs b t k l m me i) r l′ m′) where
     -- what has been read, on the memory as it is left
@@ -88,7 +84,7 @@ module _ (me b : List ℕ) (t : Tolerances) where
     pub ready-on : Ready me b t k l m → Ready me b t (r .along) l′ m′
     ready-on y =
         let a = y .kept in
-        let z = held-field (taleAlong k l m) i (record { kept = subst (λ (g : Going). Kept b t g l m) (a .stands) a; few = y .few }) in
+        let z = stands-field (taleAlong k l m) i (record { kept = subst (λ (g : Going). Kept b t g l m) (a .stands) a; few = y .few }) in
         let going : r .along .going ≡ goingOf b (frontAs b t k l m me i .tale .run) = ap (λ (x : Stepped). x .along .going) (h .0) in
         record {
           number = y .number;
@@ -107,7 +103,7 @@ module _ (me b : List ℕ) (t : Tolerances) where
       pub size : (3 ≤ bytesOf (r .step)) × (bytesOf (r .step) ≤ length i)
       size = field-size offeredOf (takeBlock b t) me (taleAlong k l m) i (bytesOf (r .step)) uses
 
-      pub all-step : allAs b t k l m me i ≡ behind 1 (bytesOf (r .step)) (allAs b t (r .along) l′ m′ me (drop (bytesOf (r .step)) i))
+      all-step : allAs b t k l m me i ≡ behind 1 (bytesOf (r .step)) (allAs b t (r .along) l′ m′ me (drop (bytesOf (r .step)) i))
       all-step =
           first-then offeredOf (takeBlock b t) me (taleAlong k l m) i (bytesOf (r .step)) uses
           ∙ (λ j. record {
@@ -174,14 +170,10 @@ module _ (me b : List ℕ) (t : Tolerances) where
       ∙ ap (behind f u) (no-bytes offeredOf (takeBlock b t) me (taleAlong k l m))
       ∙ (λ j. record { tale = taleAlong k l m; fields = add-zero f j; used = add-zero u j; last = step.Incomplete })
 
--- before the first turn
-pub before-all : (x : Read State) → x ≡ behind 0 0 x
-before-all x = λ j. record { tale = x .tale; fields = sym (zero-add (x .fields)) j; used = sym (zero-add (x .used)) j; last = x .last }
-
 -- after the last: the reading and its memory are those of x
 pub passage : (me b : List ℕ) (t : Tolerances) (x : Read State) (k : Along) (l : List ℤ) (m : List ℕ) (f u : ℕ) (s : Step) → Ready me b t k l m
     → x ≡ record { tale = taleAlong k l m; fields = f; used = u; last = s }
-    → (record { along = k; fields = f; used = u; last = s } ≡ passageOf b x) × ((l ≡ x .tale .run .ledger) × (m ≡ x .tale .run .map))
+    → Passed b x (record { along = k; fields = f; used = u; last = s }) l m
 passage me b t x k l m f u s h e = (
   (λ j. record { along = record { place = k .place; passed = k .passed; amounts = k .amounts; going = h .kept .stands j }; fields = f; used = u; last = s }) ∙ sym (ap (passageOf b) e),
   (sym (ap (λ (y : Read State). y .tale .run .ledger) e), sym (ap (λ (y : Read State). y .tale .run .map) e)),

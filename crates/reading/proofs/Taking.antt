@@ -6,30 +6,47 @@ use mathlib.Core.Path.{_≡_, refl, sym, ap, subst, subst⁻¹, _∙_}
 use Prim.Native.Nat.{ℕ, _+_, _-_}
 use lib.IntN.{ℤ}
 use lib.ListN.{length, take, drop}
-use Rattle.rules.specs.declared.Amounts.{Amounts}
+use mir.Syntax.{w64}
+use mir.Val.{SFits, toZ, ofZ}
+use Rattle.numbers.proofs.Signed.{read}
+use Rattle.rules.specs.declared.Charge.{Charge}
 use Rattle.rules.specs.declared.Tolerances.{Tolerances}
 use Rattle.step.specs.declared.Going.{Going}
 use Rattle.step.specs.Step.{State, Kept, held, goingOf}
 use Rattle.fields.specs.declared.Front.{Front}
 use Rattle.fields.specs.declared.Front.the-variants.{Field as field}
-use Rattle.fields.specs.Fields.{isLength, valueIn, frontOf}
+use Rattle.fields.specs.Fields.{isLength, frontOf}
 use Rattle.fields.specs.Values.{samplesOf}
-use Rattle.fields.proofs.Fronts.{sizes, front-whole, value-length, lent-value}
+use Rattle.fields.proofs.Fronts.{sizes, front-whole, of-value}
 use Rattle.contents.specs.declared.Content.{Content}
 use Rattle.contents.specs.declared.Content.the-variants.{Own}
 use Rattle.reading.specs.declared.Step.{Step}
 use Rattle.reading.specs.declared.Step.the-variants as step
 use Rattle.contents.specs.Content.{contentOf}
-use Rattle.reading.specs.Reading.{Answered, byFront, fieldAt}
+use Rattle.reading.specs.Reading.{Answered, Read, stepOf, withContent, placeAfter, passedAfter, runAfter, byFront, fieldAt}
 use Rattle.reading.specs.Answers.{offeredOf, takeBlock}
 use Rattle.reading.specs.declared.Along.{Along}
+use Rattle.reading.specs.declared.Passage.{Passage}
 use Rattle.reading.specs.declared.Stepped.{Stepped}
-use Rattle.reading.specs.Along.{taleAlong, steppedOf, withOwn, takenAs, wholeAs, frontAs, Brought, Ready}
+use Rattle.reading.specs.Along.{taleAlong, steppedOf, passageOf, withAmounts, takenAs, wholeAs, frontAs, Brought, Ready}
 use Rattle.contents.proofs.Brought.{OwnBlock, Says, says, own-block}
 
--- the answer r and the memory l and m are those of x
+-- the answer r and the memory l and m are those of x, for one field and for all
 abbrev pub Took : List ℕ → Answered State → Stepped → List ℤ → List ℕ → Type 0
 Took b x r l m = (r ≡ steppedOf b x) × ((l ≡ x .tale .run .ledger) × (m ≡ x .tale .run .map))
+
+abbrev pub Passed : List ℕ → Read State → Passage → List ℤ → List ℕ → Type 0
+Passed b x r l m = (r ≡ passageOf b x) × ((l ≡ x .tale .run .ledger) × (m ≡ x .tale .run .map))
+
+-- two energies as the machine holds them
+pub as-held : (k : Along) {place : ℕ} {before after : ℤ} {charge : Charge} {r : Along} → SFits w64 before → SFits w64 after
+    → r ≡ withAmounts k place (record { before = toZ w64 (ofZ w64 before); after = toZ w64 (ofZ w64 after); charge = charge })
+    → r ≡ withAmounts k place (record { before = before; after = after; charge = charge })
+as-held k {place} {charge = charge} p q e = e ∙ (λ i. withAmounts k place (record { before = read p i; after = read q i; charge = charge }))
+
+-- with the content c, where the run then stands at g
+abbrev alongAfter : Along → Content → Going → Along
+alongAfter k c g = record { place = placeAfter (k .place) c; passed = passedAfter (k .passed) c; amounts = withContent (k .amounts) c; going = g }
 
 module _ (b : List ℕ) (t : Tolerances) (k : Along) (l : List ℤ) (m : List ℕ) where
   module _ (v : List ℕ) (n : ℕ) where
@@ -40,20 +57,24 @@ module _ (b : List ℕ) (t : Tolerances) (k : Along) (l : List ℤ) (m : List �
     -- an own block is taken by the judge
     pub own-taken : (q : List ℕ) → q ≡ samplesOf v → (g : Going) (l′ : List ℤ) (m′ : List ℕ) → g ≡ goingOf b (takeBlock b t (held (k .going) l m) q)
         → l′ ≡ takeBlock b t (held (k .going) l m) q .ledger → m′ ≡ takeBlock b t (held (k .going) l m) q .map
-        → (r : Along) → r ≡ withOwn k g → Took b (takenAs b t k l m v Own n) (record { step = step.Taken n; along = r }) l′ m′
-    own-taken q e g l′ m′ p u w r z =
+        → Took b (takenAs b t k l m v Own n) (record { step = step.Taken n; along = alongAfter k Own g }) l′ m′
+    own-taken q e g l′ m′ p u w =
         let f = ap (takeBlock b t (held (k .going) l m)) e in (
-          (λ i. record { step = step.Taken n; along = (z ∙ ap (withOwn k) (p ∙ ap (goingOf b) f)) i }),
+          (λ i. record { step = step.Taken n; along = alongAfter k Own ((p ∙ ap (goingOf b) f) i) }),
           (u ∙ ap (λ (a : State). a .ledger) f, w ∙ ap (λ (a : State). a .map) f),
         )
 
-  -- what leaves the run as it is
-  pub unmoved : Kept b t (k .going) l m → (s : Step) (place passed : ℕ) (a : Amounts) (r : Along) → r ≡ record { place = place; passed = passed; amounts = a; going = k .going }
-      → Took b (record { step = s; tale = record { place = place; passed = passed; amounts = a; run = held (k .going) l m } }) (record { step = s; along = r }) l m
-  unmoved h s place passed a r e = (
-    (λ i. record { step = s; along = (e ∙ (λ j. record { place = place; passed = passed; amounts = a; going = h .stands j })) i }),
-    (refl, refl),
-  )
+    -- what leaves the run as it is
+    pub left-by : Kept b t (k .going) l m → {c : Content} (d : Content) → c ≡ d → runAfter offeredOf (takeBlock b t) (held (k .going) l m) v d ≡ held (k .going) l m
+        → {r : Along} → r ≡ alongAfter k d (k .going) → Took b (takenAs b t k l m v c n) (record { step = stepOf d n; along = r }) l m
+    left-by h d e f {r} z = by-content e (
+      (λ i. record { step = stepOf d n; along = (z ∙ ap (alongAfter k d) (h .stands ∙ ap (goingOf b) (sym f))) i }),
+      (ap (λ (a : State). a .ledger) (sym f), ap (λ (a : State). a .map) (sym f)),
+    )
+
+  -- where nothing is taken
+  pub unmoved : Kept b t (k .going) l m → (s : Step) → Took b (record { step = s; tale = taleAlong k l m }) (record { step = s; along = k }) l m
+  unmoved h s = ((λ i. record { step = s; along = record { place = k .place; passed = k .passed; amounts = k .amounts; going = h .stands i } }), (refl, refl))
 
   module _ (me : List ℕ) where
     -- a field of an allowed length brings what may be taken
@@ -70,10 +91,10 @@ module _ (b : List ℕ) (t : Tolerances) (k : Along) (l : List ℤ) (m : List �
         }
 
     -- by what stands at the front of the input
-    pub by-front : {x : Front} {r : Stepped} {l′ : List ℤ} {m′ : List ℕ} (i : List ℕ) → x ≡ frontOf i
+    pub front-taken : {x : Front} {r : Stepped} {l′ : List ℤ} {m′ : List ℕ} (i : List ℕ) → x ≡ frontOf i
         → Took b (byFront offeredOf (takeBlock b t) me (taleAlong k l m) i x) r l′ m′ → Took b (frontAs b t k l m me i) r l′ m′
     unfolding fieldAt
-    by-front {r = r} {l′ = l′} {m′ = m′} i e h =
+    front-taken {r = r} {l′ = l′} {m′ = m′} i e h =
         subst (λ (x : Front). Took b (byFront offeredOf (takeBlock b t) me (taleAlong k l m) i x) r l′ m′) e h
 
     -- the value as it is lent on
@@ -81,8 +102,5 @@ module _ (b : List ℕ) (t : Tolerances) (k : Along) (l : List ℤ) (m : List �
         → Took b (wholeAs b t k l m me tag (take (3 + n - 3) (drop 3 i))) r l′ m′
         → Took b (byFront offeredOf (takeBlock b t) me (taleAlong k l m) i (field tag n)) r l′ m′
     whole-taken {r} {l′} {m′} i tag n e h =
-        let same : wholeAs b t k l m me tag (take (3 + n - 3) (drop 3 i)) ≡ byFront offeredOf (takeBlock b t) me (taleAlong k l m) i (field tag n) =
-        ap (wholeAs b t k l m me tag) (lent-value i n)
-        ∙ ap (λ (j : ℕ). takenAs b t k l m (valueIn i n) (contentOf me (k .place) (k .passed) (k .going .offered) tag (valueIn i n)) (3 + j))
-        (value-length i n (front-whole i tag n e .long)) in
-        subst (λ (x : Answered State). Took b x r l′ m′) same h
+        of-value i tag n (front-whole i tag n e)
+        (λ v size. Took b (takenAs b t k l m v (contentOf me (k .place) (k .passed) (k .going .offered) tag v) (3 + size)) r l′ m′) h

@@ -6,14 +6,14 @@ use mathlib.Core.Path.{_≡_}
 use Prim.Native.Nat.{ℕ, _+_, _≤_}
 use lib.IntN.{ℤ}
 use lib.ListN.{length}
+use Rattle.rules.specs.declared.Amounts.{Amounts}
 use Rattle.rules.specs.declared.Tolerances.{Tolerances}
-use Rattle.step.specs.declared.Going.{Going}
 use Rattle.step.specs.Step.{State, Kept, held, standing, goingOf, withGoing}
 use Rattle.blocks.specs.Blocks.{samplesIn, areSamples}
 use Rattle.fields.specs.Values.{samplesOf}
 use Rattle.contents.specs.declared.Content.{Content}
 use Rattle.contents.specs.declared.Content.the-variants.{Own, Foreign}
-use Rattle.reading.specs.Reading.{Tale, Answered, Read, stepOf, withContent, placeAfter, taleAfter, brought, fieldAt, fieldsOf}
+use Rattle.reading.specs.Reading.{Tale, Answered, Read, stepOf, taleAfter, brought, fieldAt, fieldsOf}
 use Rattle.reading.specs.declared.Reading.{Reading}
 use Rattle.reading.specs.Answers.{offeredOf, takeBlock}
 pub use Rattle.reading.specs.declared.Along.{Along}
@@ -41,15 +41,12 @@ steppedOf b x = record { step = x .step; along = alongOf b (x .tale) }
 abbrev pub passageOf : List ℕ → Read State → Passage
 passageOf b x = record { along = alongOf b (x .tale); fields = x .fields; used = x .used; last = x .last }
 
--- an own block was taken, a block is passed over, an amount is brought
-abbrev pub withOwn : Along → Going → Along
-withOwn k g = record { place = 2; passed = k .passed; amounts = k .amounts; going = g }
-
+-- a block is passed over; an amount is brought, and moves the place in the order
 abbrev pub withPassed : Along → Along
 withPassed k = record { place = k .place; passed = k .passed + 1; amounts = k .amounts; going = k .going }
 
-abbrev pub withAmount : Along → Content → Along
-withAmount k c = record { place = placeAfter (k .place) c; passed = k .passed; amounts = withContent (k .amounts) c; going = k .going }
+abbrev pub withAmounts : Along → ℕ → Amounts → Along
+withAmounts k place a = record { place = place; passed = k .passed; amounts = a; going = k .going }
 
 module _ (b : List ℕ) (t : Tolerances) (k : Along) (l : List ℤ) (m : List ℕ) where
   -- the content c of the value v, in a field of n bytes

@@ -20,10 +20,9 @@ ghost use Prim.Native.Nat.{_+_, _≤_};
 ghost use lib.ListN.{length};
 ghost use Rattle.rules.specs.Cycle.{valid, seconds};
 ghost use Rattle.fields.specs.Fields.{isLength};
-ghost use Rattle.contents.specs.declared.Content.the-variants.{Before, After, Recharge};
 ghost use Rattle.reading.specs.Reading.{bytesOf};
 ghost use Rattle.reading.specs.Answers.{isReading, readGround};
-ghost use Rattle.reading.specs.Along.{alongAt, withAlong, steppedOf, passageOf, withOwn, withPassed, withAmount, takenAs, wholeAs, frontAs, allAs, Brought, Ready};
+ghost use Rattle.reading.specs.Along.{alongAt, withAlong, steppedOf, passageOf, withPassed, withAmounts, takenAs, wholeAs, frontAs, allAs, Brought, Ready};
 
 // After the start. Place in the order: 0 after the tolerances, 1 after a 6 before, 2 after an own block, 3 after a 6 after, 4 after a 7.
 pub struct Reading {
@@ -125,20 +124,7 @@ pub fn with_along(r: Reading, k: Along) -> Reading
     }
 }
 
-// An own block was taken.
-fn with_own(k: Along, going: Going) -> Along
-    ensures { λ r. ⌜ r ≡ withOwn k going ⌝ }
-{
-    let amounts = k.amounts;
-    Along {
-        place: 2,
-        passed: k.passed,
-        amounts,
-        going,
-    }
-}
-
-// A block is passed over.
+// "only the passed-over count rises".
 fn with_passed(k: Along) -> Along
     requires { ⌜ k .passed + 1 ≤ 4_000_000 ⌝ }
     ensures { λ r. ⌜ r ≡ withPassed k ⌝ }
@@ -153,57 +139,18 @@ fn with_passed(k: Along) -> Along
     }
 }
 
-// Transfer energy before the test.
-fn with_before(k: Along, energy: i64) -> Along
-    ensures { λ r. ⌜ r ≡ withAmount k (Before energy) ⌝ }
+// An amount is brought, and moves the place in the order.
+fn with_amounts(k: Along, place: u32, before: i64, after: i64, charge: Charge) -> Along
+    ensures { λ r. ⌜ r ≡ withAmounts k place (record { before = before; after = after; charge = charge }) ⌝ }
 {
-    let a = k.amounts;
     let going = k.going;
-    let charge = a.charge;
     Along {
-        place: 1,
+        place,
         passed: k.passed,
         amounts: Amounts {
-            before: energy,
-            after: a.after,
+            before,
+            after,
             charge,
-        },
-        going,
-    }
-}
-
-// Transfer energy after the test.
-fn with_after(k: Along, energy: i64) -> Along
-    ensures { λ r. ⌜ r ≡ withAmount k (After energy) ⌝ }
-{
-    let a = k.amounts;
-    let going = k.going;
-    let charge = a.charge;
-    Along {
-        place: 3,
-        passed: k.passed,
-        amounts: Amounts {
-            before: a.before,
-            after: energy,
-            charge,
-        },
-        going,
-    }
-}
-
-// The recharge.
-fn with_recharge(k: Along, wh: u32) -> Along
-    ensures { λ r. ⌜ r ≡ withAmount k (Recharge wh) ⌝ }
-{
-    let a = k.amounts;
-    let going = k.going;
-    Along {
-        place: 4,
-        passed: k.passed,
-        amounts: Amounts {
-            before: a.before,
-            after: a.after,
-            charge: Charge::Wh(wh),
         },
         going,
     }
@@ -225,30 +172,34 @@ fn take_content(
     ensures { λ _. ⌜ now (ledger .exit) ≡ takenAs (now (b .entry)) t k (now (ledger .entry)) (now (map .entry)) (now (v .entry)) c n .tale .run .ledger ⌝ }
     ensures { λ _. ⌜ now (map .exit) ≡ takenAs (now (b .entry)) t k (now (ledger .entry)) (now (map .entry)) (now (v .entry)) c n .tale .run .map ⌝ }
 {
+    let going = k.going;
+    let amounts = k.amounts;
+    let charge = amounts.charge;
     match c {
-        Content::Own => {
-            let g = k.going;
-            let going = take_block(b, t, g, &mut *ledger, &mut *map, &v[21..]);
-            Stepped {
-                step: Step::Taken(n),
-                along: with_own(k, going),
-            }
-        }
+        Content::Own => Stepped {
+            step: Step::Taken(n),
+            along: Along {
+                place: 2,
+                passed: k.passed,
+                amounts,
+                going: take_block(b, t, going, &mut *ledger, &mut *map, &v[21..]),
+            },
+        },
         Content::Foreign => Stepped {
             step: Step::Passed(n),
             along: with_passed(k),
         },
         Content::Before(energy) => Stepped {
             step: Step::Taken(n),
-            along: with_before(k, energy),
+            along: with_amounts(k, 1, energy, amounts.after, charge),
         },
         Content::After(energy) => Stepped {
             step: Step::Taken(n),
-            along: with_after(k, energy),
+            along: with_amounts(k, 3, amounts.before, energy, charge),
         },
         Content::Recharge(wh) => Stepped {
             step: Step::Taken(n),
-            along: with_recharge(k, wh),
+            along: with_amounts(k, 4, amounts.before, amounts.after, Charge::Wh(wh)),
         },
         Content::Refused(x) => Stepped {
             step: Step::Refused(x),

@@ -21,7 +21,7 @@ use Rattle.reading.specs.declared.Step.the-variants as step
 use Rattle.opening.specs.declared.OpenStep.the-variants as opening
 use Rattle.reading.proofs.Onwards.{Uses, Ends}
 use Rattle.reading.proofs.Cuts.{field-ends}
-use Rattle.records.proofs.Openings.{Stays, open-stays}
+use Rattle.records.proofs.OpenField.{Stays, open-stays}
 
 -- the room, the ledger and the map lent at first, long enough
 pub record Lent : Type 0 where

@@ -81,7 +81,7 @@ module _ {S : Type 0} (offered : S → ℕ) (take : S → List ℕ → S) (me : 
       by-front offered take me (λ (x : Answered S). k .passed ≤ x .tale .passed) k i (λ _ _. le-refl (k .passed))
       (λ tag n _. passed-after (k .passed) (brought offered take me k tag (valueIn i n)))
 
-  pub passed-rises : (n : ℕ) (k : Tale S) (i : List ℕ) → k .passed ≤ upto offered take n me k i .tale .passed
+  passed-rises : (n : ℕ) (k : Tale S) (i : List ℕ) → k .passed ≤ upto offered take n me k i .tale .passed
   passed-rises n k i =
       kept offered take me (λ (h : Tale S). k .passed ≤ h .passed) (λ h j l. le-trans l (passed-field h j)) n k i (le-refl (k .passed))
 
@@ -105,7 +105,7 @@ module _ {S : Type 0} (offered : S → ℕ) (take : S → List ℕ → S) (me : 
       go v n (Recharge w) = refl
       go v n (Refused x) = refl
 
-  pub shifted : (n : ℕ) (k : Tale S) (i : List ℕ) → upto offered take n me k i .tale .passed + 1 ≤ mostPassed
+  shifted : (n : ℕ) (k : Tale S) (i : List ℕ) → upto offered take n me k i .tale .passed + 1 ≤ mostPassed
       → upto offered take n me (morePassed k) i ≡ morePassedRead (upto offered take n me k i)
   unfolding upto
   shifted zero k i h = refl

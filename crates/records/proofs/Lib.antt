@@ -2,11 +2,14 @@
 pub mod Limits
 pub mod Related
 pub mod Foreign
+pub mod OpenField
+pub mod OpenCuts
 pub mod Openings
 pub mod Sheets
 pub mod ForeignRecords
 pub mod Rooms
 pub mod Calls
 pub mod Promises
-pub mod Kept
+pub mod KeptUntil
+pub mod KeptSince
 pub mod Records

@@ -56,7 +56,7 @@ module _ (me : List ℕ) (passed offered tag : ℕ) (v : List ℕ) where
       go (Refused _) s x y z = rw (x, y, z)
 
 module _ {S : Type 0} (offered : S → ℕ) (take : S → List ℕ → S) (me : List ℕ) where
-  pub in-limits-field : (k : Tale S) (i : List ℕ) → InLimits k → InLimits (fieldAt offered take me k i .tale)
+  in-limits-field : (k : Tale S) (i : List ℕ) → InLimits k → InLimits (fieldAt offered take me k i .tale)
   in-limits-field k i h =
       by-front offered take me (λ (x : Answered S). InLimits (x .tale)) k i (λ _ _. h) (λ tag n _.
       let v = valueIn i n in

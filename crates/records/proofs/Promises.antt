@@ -26,7 +26,7 @@ use Rattle.reading.proofs.Accepted.{fields-alone}
 use Rattle.records.proofs.Calls.{open-changes-nothing, read-changes-nothing}
 use Rattle.reading.proofs.Cuts.{field-ends, unrolled}
 use Rattle.reading.proofs.Onwards.{Ends, by-step}
-use Rattle.records.proofs.Openings.{Stays}
+use Rattle.records.proofs.OpenField.{Stays}
 
 -- ---- `open`
 

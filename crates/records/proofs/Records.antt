@@ -31,10 +31,11 @@ use Rattle.reading.specs.declared.Step.the-variants as step
 use Rattle.opening.specs.declared.OpenStep.the-variants as opening
 use Rattle.reading.proofs.Onwards.{Ends}
 use Rattle.records.proofs.Sheets.{Tells, sheet-of, tells-one}
-use Rattle.records.proofs.Rooms.{ready-ground}
+use Rattle.opening.proofs.Starting.{ready-ground}
 use Rattle.records.proofs.Calls.{Lent, Until, Since}
 use Rattle.records.proofs.Calls.Since.{all as all-by}
-use Rattle.records.proofs.Kept.{toldOf, until-begins, call-longer, sheet-ends, since-holds, ground-passed, sheet-after, all-ends, all-longer}
+use Rattle.records.proofs.KeptUntil.{until-begins, call-longer, sheet-ends}
+use Rattle.records.proofs.KeptSince.{toldOf, since-holds, ground-passed, sheet-after, all-ends, all-longer}
 
 -- "The same accepted samples cut into other blocks": blocks of the bytes q and q′ one after the other bring the samples of one block of both
 pub blocks-join : (xs : List Sample) (q q′ : List ℕ) (k : ℕ) → length q ≡ 6 * k → withBlock (withBlock xs q) q′ ≡ withBlock xs (q ++ q′)
@@ -68,7 +69,7 @@ module _ (lent : Lent) where
   module _ {p : List ℕ} {o : Opening} {room : List ℕ} (h : Until lent p o room) where
     -- "such a call is never refused 1 or 2": no call of a record's opening finds its room or its state wanting
     pub until-ready : openGround o room ≡ 0
-    until-ready = ready-ground (begunOf o room) (until-begins lent h .ready)
+    until-ready = ready-ground o room (until-begins lent h .ready)
 
     -- the opening and its room hold what the bytes tell
     pub until-tells : openingIn p ≡ record {

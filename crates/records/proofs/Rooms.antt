@@ -22,10 +22,11 @@ use Rattle.fields.specs.Fields.{valueIn, frontOf}
 use Rattle.fields.specs.Values.{isNumber, tolerancesIn}
 use Rattle.fields.proofs.Fronts.{front-whole, sizes, value-length}
 use Rattle.opening.specs.Opening.{Begun, Opened, opens, openRefusal, openByFront, openAt}
-use Rattle.opening.specs.Answers.{Held, mostCycle, written, hold, cycleIn, openingOf, isOpening, openGround}
+use Rattle.opening.specs.Answers.{Held, mostCycle, written, hold, cycleIn, openingOf}
+use Rattle.opening.proofs.Starting.{Ready}
 use Rattle.records.specs.Records.{startRefused}
 use Rattle.opening.specs.declared.OpenStep.the-variants as step
-use Rattle.records.proofs.Openings.{accepted, by-open, allowed}
+use Rattle.records.proofs.OpenField.{accepted, by-open, allowed}
 
 -- what the bytes alone say of an opening
 abbrev pub bare : Begun Held → Begun (List ℕ)
@@ -36,17 +37,8 @@ abbrev pub inBytes : Begun (List ℕ) → List ℕ → Opened (List ℕ)
 inBytes = openAt (λ _ v. v) (λ b. b) startRefused
 
 -- no number of it is beyond its limits
-pub record Ready (k : Begun Held) : Type 0 where
-  pub few : k .fields ≤ 3
-  pub size : k .kept .size ≤ mostCycle
-  pub number : isNumber (k .vehicle) ≡ true
-  pub room : mostCycle ≤ length (k .kept .room)
-
--- so nothing is refused before all else
-pub ready-ground : (k : Begun Held) → Ready k → openGround (openingOf k) (k .kept .room) ≡ 0
-unfolding openGround isOpening
-ready-ground k h =
-    sym (pass 1 (le-leb _ _ (h .room)) (pass 1 (rw (le-leb _ _ (h .few), le-leb _ _ (h .size), h .number)) refl))
+abbrev pub ReadyOn : Begun Held → Type 0
+ReadyOn k = Ready (openingOf k) (k .kept .room)
 
 -- "and nothing beyond": the room does not become shorter
 length-written : (room v : List ℕ) → length room ≤ length (written room v)
@@ -81,9 +73,9 @@ module _ (l : List ℤ) (m : List ℕ) (long-ledger : 576 ≤ length l) (long-ma
   same-kept h v false = refl
 
   -- a field gives the same answer on the room as in the bytes alone
-  pub same-field : (k : Begun Held) (i : List ℕ) → inBytes (bare k) i ≡ record { step = onRoom l m k i .step; begun = bare (onRoom l m k i .begun) }
+  pub same-on-room : (k : Begun Held) (i : List ℕ) → inBytes (bare k) i ≡ record { step = onRoom l m k i .step; begun = bare (onRoom l m k i .begun) }
   unfolding openAt
-  same-field k i = go (frontOf i)
+  same-on-room k i = go (frontOf i)
     where
       whole : (tag n x : ℕ) (v : List ℕ) (b : Bool) → _≡_ {A = Opened (List ℕ)}
           (record {
@@ -114,9 +106,9 @@ module _ (l : List ℤ) (m : List ℕ) (long-ledger : 576 ≤ length l) (long-ma
           ∙ whole tag (3 + n) (openRefusal hold cycleIn start k tag v) v (eqb (openRefusal hold cycleIn start k tag v) 0)
 
   -- a field that is taken leaves it within its limits
-  pub ready-next : (k : Begun Held) (i : List ℕ) (n : ℕ) → Ready k → onRoom l m k i .step ≡ step.Taken n → Ready (onRoom l m k i .begun)
+  pub ready-next : (k : Begun Held) (i : List ℕ) (n : ℕ) → ReadyOn k → onRoom l m k i .step ≡ step.Taken n → ReadyOn (onRoom l m k i .begun)
   ready-next k i n h =
-      by-open hold cycleIn start (λ (x : Opened Held). x .step ≡ step.Taken n → Ready (x .begun)) k i (λ _ _ _. h) (λ tag c e a t.
+      by-open hold cycleIn start (λ (x : Opened Held). x .step ≡ step.Taken n → ReadyOn (x .begun)) k i (λ _ _ _. h) (λ tag c e a t.
       let w = front-whole i tag c e in
       let v = valueIn i c in
       let o = allowed hold cycleIn start k tag v a in

@@ -31,7 +31,8 @@ use Rattle.opening.specs.declared.OpenStep.{OpenStep}
 use Rattle.opening.specs.declared.OpenStep.the-variants as opening
 use Rattle.reader.specs.declared.Ending.the-variants as ending
 use Rattle.reading.proofs.Onwards.{Uses, by-front, kept}
-use Rattle.records.proofs.Openings.{open-cut-ended, used-open, four-at-start, granted-at-start}
+use Rattle.records.proofs.OpenCuts.{open-cut-ended}
+use Rattle.records.proofs.Openings.{used-open, four-at-start, granted-at-start}
 use Rattle.reading.proofs.Cuts.{joined, cut-whole, used-most}
 use Rattle.reading.proofs.Accepted.{last-ends, no-bytes}
 

@@ -49,9 +49,12 @@ blank = record { fields = 0; vehicle = replicate 17 48; kept = [] }
 abbrev pub openingIn : List ℕ → OpenRead (List ℕ)
 openingIn = openUpto (λ _ v. v) (λ b. b) startRefused 4 blank
 
--- after it, of the vehicle me
+-- after it, before the first field; and with all whole fields, of the vehicle me
+abbrev pub untold : Tale (List Sample)
+untold = record { place = 0; passed = 0; amounts = noAmounts; run = [] }
+
 abbrev pub fieldsIn : List ℕ → List ℕ → Read (List Sample)
-fieldsIn me = fieldsOf length withBlock me (record { place = 0; passed = 0; amounts = noAmounts; run = [] })
+fieldsIn me = fieldsOf length withBlock me untold
 
 -- "K is the number of accepted fields, passed-over ones among them, plus one"
 abbrev pub closedBy : Ending → Told → ℕ → Sheet

@@ -7,12 +7,12 @@ use borrow.Author.Needs.{needs}
 use lib.ListN.{length}
 use Rattle.fields.proofs.Fronts.{Sizes, sizes}
 use Rattle.opening.specs.declared.OpenStep.the-variants.{Taken}
-use Rattle.opening.proofs.Starting.{Begins, begins, by-tag, out-of-order, number-opens, cycle-opens, start-opens, mark-opens}
+use Rattle.opening.proofs.Starting.{Ready, ground-ready, by-tag, out-of-order, number-opens, cycle-opens, start-opens, mark-opens}
 use Rattle.opening.proofs.open_whole.Statement.{statement}
 use Rattle.opening.proofs.open_whole.Tie as tie
 
-tested : (c : tie.Start) → Begins (c .args .o) (c .args .room .now)
-tested c = begins _ _ (c .pre .1)
+ready : (c : tie.Start) → Ready (c .args .o) (c .args .room .now)
+ready c = ground-ready _ _ (c .pre .1)
 
 lengths : (c : tie.Start) → Sizes (c .args .tag) (length (c .args .v .now))
 lengths c = sizes _ _ (c .pre .0)
@@ -24,7 +24,7 @@ add-n : tie.Need-add-n
 add-n c = search needs
 
 add-if1 : tie.Need-add-if1
-add-if1 c = omega (arith, tested (c .before .before .before .before) .fields)
+add-if1 c = omega (arith, ready (c .before .before .before .before) .few)
 
 refused-at-requires : tie.Need-refused-at-requires
 refused-at-requires c κs = search needs
@@ -35,20 +35,20 @@ returns c =
     out-of-order (a .o) (a .room .now) (a .ledger .now) (a .map .now) (a .v .now) _ (a .tag) (c .before .if1 .taken) _ (c .refused-at .ensures)
 
 open-number-requires : tie.Need-open-number-requires
-open-number-requires c κs = let s = entry (c .before) in (tested s .fields, lengths s .number (c .match .keys1))
+open-number-requires c κs = let s = entry (c .before) in (ready s .few, lengths s .number (c .match .keys1))
 
 open-cycle-requires : tie.Need-open-cycle-requires
-open-cycle-requires c κs = let s = entry (c .before .before) in (tested s .fields, omega (arith, tested s .long, lengths s .most))
+open-cycle-requires c κs = let s = entry (c .before .before) in (ready s .few, omega (arith, ready s .room, lengths s .most))
 
 open-start-requires : tie.Need-open-start-requires
 open-start-requires c κs =
     let m = c .before .before .before in
     let s = entry (m .before) in
     let n = lengths s .tolerances (m .match .keys3) in
-    (tested s .fields, omega (arith, tested s .long, tested s .cycle), omega arith)
+    (ready s .few, omega (arith, ready s .room, ready s .size), omega arith)
 
 with-field-requires : tie.Need-with-field-requires
-with-field-requires c κs = tested (entry (c .before)) .fields
+with-field-requires c κs = ready (entry (c .before)) .few
 
 returns-2 : tie.Need-returns-2
 returns-2 c =

@@ -1,14 +1,11 @@
 -- `reader::open` meets its contract: the room and the opening are tested, then what stands at the front is answered.
 -- Assumes nothing.
-use mathlib.Core.List.{List}
-use mathlib.Core.Path.{_≡_, refl, sym, ap, _∙_}
-use Prim.Native.Nat.{ℕ}
+use mathlib.Core.Path.{_≡_, refl, sym, _∙_}
 use native.Mathlib.Omega.{arith}
 use borrow.Author.Needs.{needs}
-use lib.ListN.{length}
 use Rattle.fields.specs.declared.Front.the-variants.{Field as field}
-use Rattle.fields.specs.Fields.{isLength, frontOf}
-use Rattle.fields.proofs.Fronts.{Whole, sizes, front-whole, value-length, lent-value}
+use Rattle.fields.specs.Fields.{frontOf}
+use Rattle.fields.proofs.Fronts.{Whole, sizes, front-whole, lent-allowed}
 use Rattle.opening.specs.Answers.{openGround}
 use Rattle.opening.proofs.Starting.{ground-refuses, ground-passes, whole-opens}
 use Rattle.reader.proofs.open.Statement.{statement}
@@ -76,11 +73,7 @@ part-open-whole-end c = whole (c .before .before .before .before) .long
 open-whole-requires : tie.Need-open-whole-requires
 open-whole-requires c κs =
     let known = c .before .before .before .before .before in
-    let i = entry (tested known) .args .input .now in
-    let tag = known .front .given .0 .0 in
-    let n = known .front .given .0 .1 .0 in
-    let w = whole known in
-    (ap (λ (v : List ℕ). isLength tag (length v)) (lent-value i n) ∙ ap (isLength tag) (value-length i n (w .long)) ∙ w .allowed, passed (tested known))
+    (lent-allowed _ _ _ (whole known), passed (tested known))
 
 same-length-2 : tie.Need-same-length-2
 same-length-2 c = search needs

@@ -1,11 +1,10 @@
 -- `reader::read` meets its contract: a test that refuses leaves all as it was; else the input is read from where the run stands.
 -- Assumes nothing.
 use mathlib.Core.Path.{_≡_, sym, _∙_}
-use native.Mathlib.Omega.{arith}
 use borrow.Author.Needs.{needs}
 use lib.ListN.{length}
 use Rattle.reading.specs.Answers.{readGround}
-use Rattle.reader.proofs.Answering.{grounded, ready-at, read-refuses, read-taken}
+use Rattle.reader.proofs.Answering.{along-asked, ready-at, read-refuses, read-taken}
 use Rattle.reader.proofs.read.Statement.{statement}
 use Rattle.reader.proofs.read.Tie as tie
 
@@ -39,8 +38,7 @@ along-at-requires : tie.Need-along-at-requires
 along-at-requires c κs =
     let e = c .before .before .before in
     let a = entry e .args in
-    let g = grounded (a .reading) (a .b .now) (a .ledger .now) (a .map .now) (passed e) in
-    (g .sound, g .same-seconds)
+    along-asked (a .reading) (a .b .now) (a .ledger .now) (a .map .now) (passed e)
 
 slice-aggregate-one-field : tie.Need-slice-aggregate-one-field
 slice-aggregate-one-field c = sym (seventeen (entry (c .before .before .before .before .before)))
@@ -50,8 +48,7 @@ one-field-requires c κs =
     let k = c .before .before .before in
     let e = k .before .before .before .before in
     let a = entry e .args in
-    let n = seventeen (entry e) in
-    ready-at (a .reading) (a .b .now) (a .ledger .now) (a .map .now) (passed e) (omega arith) _ (k .along-at .ensures)
+    ready-at (a .reading) (a .b .now) (a .ledger .now) (a .map .now) (passed e) (seventeen (entry e)) _ (k .along-at .ensures)
 
 with-along-requires : tie.Need-with-along-requires
 with-along-requires c κs = search needs

@@ -7,7 +7,8 @@ use native.Mathlib.Omega.{arith}
 use borrow.Author.Needs.{needs}
 use lib.ListN.{length, drop}
 use Rattle.reading.specs.Along.{allAs, Ready}
-use Rattle.reading.proofs.Loop.{behind, before-all, turn, turn-end, turn-ready, turn-size, nothing-left, passage}
+use Rattle.reading.proofs.Cuts.{behind, none-before}
+use Rattle.reading.proofs.Loop.{turn, turn-end, turn-ready, turn-size, nothing-left, passage}
 use Rattle.reading.proofs.all_fields.Statement.{statement}
 use Rattle.reading.proofs.all_fields.Tie as tie
 
@@ -41,7 +42,7 @@ sized c =
 loop-holds : tie.Need-loop-holds Inv-loop μ-loop
 loop-holds c =
     let s = c .before .before .before .before in
-    ((zero-le, zero-le, refl, refl), s .pre, before-all _)
+    ((zero-le, zero-le, refl, refl), s .pre, none-before _)
 
 sub-one-field : tie.Need-sub-one-field Inv-loop μ-loop
 sub-one-field c = c .before .before .before .loop .inv .0 .0

@@ -1,16 +1,13 @@
 -- `reading::one_field` meets its contract: what stands at the front is answered, and a whole field is taken.
 -- Assumes nothing.
-use mathlib.Core.List.{List}
-use mathlib.Core.Path.{_≡_, refl, sym, ap, _∙_}
-use Prim.Native.Nat.{ℕ}
+use mathlib.Core.Path.{_≡_, sym, _∙_}
 use native.Mathlib.Omega.{arith}
 use borrow.Author.Needs.{needs}
-use lib.ListN.{length}
 use Rattle.fields.specs.declared.Front.the-variants.{Field as field}
-use Rattle.fields.specs.Fields.{isLength, frontOf}
-use Rattle.fields.proofs.Fronts.{Whole, sizes, front-whole, value-length, lent-value}
+use Rattle.fields.specs.Fields.{frontOf}
+use Rattle.fields.proofs.Fronts.{Whole, sizes, front-whole, lent-allowed}
 use Rattle.reading.specs.declared.Step.the-variants as step
-use Rattle.reading.proofs.Taking.{unmoved, by-front, whole-taken}
+use Rattle.reading.proofs.Taking.{unmoved, front-taken, whole-taken}
 use Rattle.reading.proofs.one_field.Statement.{statement}
 use Rattle.reading.proofs.one_field.Tie as tie
 
@@ -51,26 +48,21 @@ part-whole-field-end c = whole (c .before .before .before) .long
 whole-field-requires : tie.Need-whole-field-requires
 whole-field-requires c κs =
     let known = c .before .before .before .before in
-    let s = entry known in
-    let i = s .args .input .now in
-    let tag = known .front .given .0 .0 in
-    let n = known .front .given .0 .1 .0 in
-    let w = whole known in
-    (s .pre, ap (λ (v : List ℕ). isLength tag (length v)) (lent-value i n) ∙ ap (isLength tag) (value-length i n (w .long)) ∙ w .allowed)
+    (entry known .pre, lent-allowed _ _ _ (whole known))
 
 returns : tie.Need-returns
 returns c =
     let s = c .before .before .before .before .before .before .before in
     let a = s .args in
-    by-front (a .b .now) (a .t) (a .k) (a .ledger .now) (a .map .now) (a .me .now) (a .input .now) (sym (c .enum-told .given .1) ∙ c .before .before .front-of .ensures)
-    (unmoved (a .b .now) (a .t) (a .k) (a .ledger .now) (a .map .now) (s .pre .kept) step.Incomplete (a .k .place) (a .k .passed) (a .k .amounts) _ refl)
+    front-taken (a .b .now) (a .t) (a .k) (a .ledger .now) (a .map .now) (a .me .now) (a .input .now) (sym (c .enum-told .given .1) ∙ c .before .before .front-of .ensures)
+    (unmoved (a .b .now) (a .t) (a .k) (a .ledger .now) (a .map .now) (s .pre .kept) step.Incomplete)
 
 returns-2 : tie.Need-returns-2
 returns-2 c =
     let s = c .before .before .before .before .before .before .before in
     let a = s .args in
-    by-front (a .b .now) (a .t) (a .k) (a .ledger .now) (a .map .now) (a .me .now) (a .input .now) (sym (c .enum-told2 .given .1) ∙ c .before .before .front-of .ensures)
-    (unmoved (a .b .now) (a .t) (a .k) (a .ledger .now) (a .map .now) (s .pre .kept) (step.Refused 8) (a .k .place) (a .k .passed) (a .k .amounts) _ refl)
+    front-taken (a .b .now) (a .t) (a .k) (a .ledger .now) (a .map .now) (a .me .now) (a .input .now) (sym (c .enum-told2 .given .1) ∙ c .before .before .front-of .ensures)
+    (unmoved (a .b .now) (a .t) (a .k) (a .ledger .now) (a .map .now) (s .pre .kept) (step.Refused 8))
 
 same-length : tie.Need-same-length
 same-length c = search needs
@@ -83,7 +75,7 @@ returns-3 c =
     let taken = c .before .before .before in
     let known = taken .before .before .before .before .before in
     let a = entry known .args in
-    by-front (a .b .now) (a .t) (a .k) (a .ledger .now) (a .map .now) (a .me .now) (a .input .now) (sym (at-front known))
+    front-taken (a .b .now) (a .t) (a .k) (a .ledger .now) (a .map .now) (a .me .now) (a .input .now) (sym (at-front known))
     (whole-taken (a .b .now) (a .t) (a .k) (a .ledger .now) (a .map .now) (a .me .now) (a .input .now) _ _ (at-front known) (taken .whole-field .ensures))
 
 pub one-field-spec : {M : Type 1} → statement M

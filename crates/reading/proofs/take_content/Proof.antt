@@ -4,41 +4,47 @@ use mathlib.Core.List.{List}
 use mathlib.Core.Path.{refl, ap, subst⁻¹, _∙_}
 use Prim.Native.Nat.{ℕ, _+_, _≤_}
 use borrow.Author.Needs.{needs}
-use lib.IntN.{ℤ}
 use lib.ListN.{length}
 use mir.Syntax.{w64}
 use mir.Val.{SFits}
 use Rattle.numbers.proofs.Lists.{part-rest}
-use Rattle.numbers.proofs.Signed.{read}
 use Rattle.blocks.specs.Blocks.{samplesIn, areSamples}
-use Rattle.contents.specs.declared.Content.the-variants.{Before, After, Recharge}
-use Rattle.reading.specs.Along.{withAmount}
-use Rattle.reading.specs.Reading.{withContent}
-use Rattle.reading.specs.declared.Step.the-variants as step
-use Rattle.reading.proofs.Taking.{by-content, own-taken, unmoved}
+use Rattle.contents.specs.declared.Content.the-variants.{Foreign, Before, After, Recharge, Refused}
+use Rattle.reading.proofs.Taking.{by-content, own-taken, left-by, as-held}
 use Rattle.reading.proofs.take_content.Statement.{statement}
 use Rattle.reading.proofs.take_content.Tie as tie
 
+abbrev entry : tie.After-amounts → tie.Start
+entry c = c .before .before .before .before .before
+
+-- the energies that were there
+before-fits : (s : tie.Start) → SFits w64 (s .args .k .amounts .before)
+before-fits s = search needs
+
+after-fits : (s : tie.Start) → SFits w64 (s .args .k .amounts .after)
+after-fits s = search needs
+
 -- the value has 21 bytes before its samples
-long : (c : tie.After-take-block-arg2) → 21 ≤ length (c .before .before .before .before .before .before .before .before .args .v .now)
-long c = c .before .before .before .before .before .before .before .before .pre .long (c .before .before .before .enum-told .given .1)
+long : (c : tie.After-enum-told) → 21 ≤ length (entry (c .before .before) .args .v .now)
+long c = entry (c .before .before) .pre .long (c .enum-told .given .1)
 
 enum-told : tie.Need-enum-told
 enum-told c = search needs
 
 sub-take-block : tie.Need-sub-take-block
-sub-take-block c = long c
+sub-take-block c = long (c .before .before)
 
 part-take-block-start : tie.Need-part-take-block-start
-part-take-block-start c = long c
+part-take-block-start c = long (c .before .before)
 
 part-take-block-end : tie.Need-part-take-block-end
 part-take-block-end c = search needs
 
 take-block-requires : tie.Need-take-block-requires
 take-block-requires c κs =
-    let s = c .before .before .before .before .before .before .before .before .before in
-    let own = c .before .before .before .before .enum-told .given .1 in
+    let told = c .before .before .before in
+    let s = entry (told .before .before) in
+    let own = told .enum-told .given .1 in
     let e = part-rest 21 (s .args .v .now) in (
       s .pre .kept,
       (
@@ -47,32 +53,29 @@ take-block-requires c κs =
       ),
     )
 
-with-own-requires : tie.Need-with-own-requires
-with-own-requires c κs = search needs
-
 enum-told-2 : tie.Need-enum-told-2
 enum-told-2 c = search needs
 
 with-passed-requires : tie.Need-with-passed-requires
-with-passed-requires c κs = c .before .before .before .before .before .pre .count (c .enum-told2 .given .1)
+with-passed-requires c κs = entry (c .before .before) .pre .count (c .enum-told2 .given .1)
 
 enum-known-c : tie.Need-enum-known-c
 enum-known-c c = search needs
 
-with-before-requires : tie.Need-with-before-requires
-with-before-requires c κs = search needs
+with-amounts-requires : tie.Need-with-amounts-requires
+with-amounts-requires c κs = search needs
 
 enum-known-c-2 : tie.Need-enum-known-c-2
 enum-known-c-2 c = search needs
 
-with-after-requires : tie.Need-with-after-requires
-with-after-requires c κs = search needs
+with-amounts-requires-2 : tie.Need-with-amounts-requires-2
+with-amounts-requires-2 c κs = search needs
 
 enum-known-c-3 : tie.Need-enum-known-c-3
 enum-known-c-3 c = search needs
 
-with-recharge-requires : tie.Need-with-recharge-requires
-with-recharge-requires c κs = search needs
+with-amounts-requires-3 : tie.Need-with-amounts-requires-3
+with-amounts-requires-3 c κs = search needs
 
 enum-known-c-4 : tie.Need-enum-known-c-4
 enum-known-c-4 c = search needs
@@ -85,58 +88,53 @@ same-length-2 c = search needs
 
 returns : tie.Need-returns
 returns c =
-    let taken = c .before .before .before .before in
-    let told = taken .before .before .before .before .before in
-    let s = told .before .before .before .before .before in
-    let a = s .args in
+    let taken = c .before .before .before in
+    let told = taken .before .before .before .before in
+    let a = entry (told .before .before) .args in
     by-content (a .b .now) (a .t) (a .k) (a .ledger .now) (a .map .now) (a .v .now) (a .n) (told .enum-told .given .1)
     (own-taken (a .b .now) (a .t) (a .k) (a .ledger .now) (a .map .now) (a .v .now) (a .n) _ (part-rest 21 (a .v .now)) _ _ _
-    (taken .take-block .ensures .0) (taken .take-block .ensures .1 .0) (taken .take-block .ensures .1 .1) _ (c .with-own .ensures))
+    (taken .take-block .ensures .0) (taken .take-block .ensures .1 .0) (taken .take-block .ensures .1 .1))
 
 returns-2 : tie.Need-returns-2
 returns-2 c =
-    let s = c .before .before .before .before .before .before in
+    let told = c .before in
+    let s = entry (told .before .before) in
     let a = s .args in
-    by-content (a .b .now) (a .t) (a .k) (a .ledger .now) (a .map .now) (a .v .now) (a .n) (c .before .enum-told2 .given .1)
-    (unmoved (a .b .now) (a .t) (a .k) (a .ledger .now) (a .map .now) (s .pre .kept) (step.Passed (a .n)) (a .k .place) (a .k .passed + 1) (a .k .amounts) _ (c .with-passed .ensures))
+    left-by (a .b .now) (a .t) (a .k) (a .ledger .now) (a .map .now) (a .v .now) (a .n) (s .pre .kept) Foreign (told .enum-told2 .given .1) refl (c .with-passed .ensures)
 
 returns-3 : tie.Need-returns-3
 returns-3 c =
-    let known = c .before .before in
-    let s = known .before .before .before .before .before in
+    let known = c .before .before .before in
+    let s = entry (known .before .before) in
     let a = s .args in
     let e = known .c .given in
     let fits : SFits w64 (e .0 .0) = search needs in
-    by-content (a .b .now) (a .t) (a .k) (a .ledger .now) (a .map .now) (a .v .now) (a .n) (e .1)
-    (unmoved (a .b .now) (a .t) (a .k) (a .ledger .now) (a .map .now) (s .pre .kept) (step.Taken (a .n)) 1 (a .k .passed) (withContent (a .k .amounts) (Before (e .0 .0))) _ (c .with-before .ensures ∙ ap (λ (z : ℤ). withAmount (a .k) (Before z)) (read fits)))
+    left-by (a .b .now) (a .t) (a .k) (a .ledger .now) (a .map .now) (a .v .now) (a .n) (s .pre .kept) (Before (e .0 .0)) (e .1) refl (as-held (a .k) fits (after-fits s) (c .with-amounts .ensures))
 
 returns-4 : tie.Need-returns-4
 returns-4 c =
-    let known = c .before .before in
-    let s = known .before .before .before .before .before in
+    let known = c .before .before .before in
+    let s = entry (known .before .before) in
     let a = s .args in
     let e = known .c2 .given in
     let fits : SFits w64 (e .0 .0) = search needs in
-    by-content (a .b .now) (a .t) (a .k) (a .ledger .now) (a .map .now) (a .v .now) (a .n) (e .1)
-    (unmoved (a .b .now) (a .t) (a .k) (a .ledger .now) (a .map .now) (s .pre .kept) (step.Taken (a .n)) 3 (a .k .passed) (withContent (a .k .amounts) (After (e .0 .0))) _ (c .with-after .ensures ∙ ap (λ (z : ℤ). withAmount (a .k) (After z)) (read fits)))
+    left-by (a .b .now) (a .t) (a .k) (a .ledger .now) (a .map .now) (a .v .now) (a .n) (s .pre .kept) (After (e .0 .0)) (e .1) refl (as-held (a .k) (before-fits s) fits (c .with-amounts2 .ensures))
 
 returns-5 : tie.Need-returns-5
 returns-5 c =
-    let known = c .before .before in
-    let s = known .before .before .before .before .before in
+    let known = c .before .before .before .before in
+    let s = entry (known .before .before) in
     let a = s .args in
     let e = known .c3 .given in
-    by-content (a .b .now) (a .t) (a .k) (a .ledger .now) (a .map .now) (a .v .now) (a .n) (e .1)
-    (unmoved (a .b .now) (a .t) (a .k) (a .ledger .now) (a .map .now) (s .pre .kept) (step.Taken (a .n)) 4 (a .k .passed) (withContent (a .k .amounts) (Recharge (e .0 .0))) _ (c .with-recharge .ensures))
+    left-by (a .b .now) (a .t) (a .k) (a .ledger .now) (a .map .now) (a .v .now) (a .n) (s .pre .kept) (Recharge (e .0 .0)) (e .1) refl (as-held (a .k) (before-fits s) (after-fits s) (c .with-amounts3 .ensures))
 
 returns-6 : tie.Need-returns-6
 returns-6 c =
     let known = c .before in
-    let s = known .before .before .before .before .before in
+    let s = entry (known .before .before) in
     let a = s .args in
     let e = known .c4 .given in
-    by-content (a .b .now) (a .t) (a .k) (a .ledger .now) (a .map .now) (a .v .now) (a .n) (e .1)
-    (unmoved (a .b .now) (a .t) (a .k) (a .ledger .now) (a .map .now) (s .pre .kept) (step.Refused (e .0 .0)) (a .k .place) (a .k .passed) (a .k .amounts) _ refl)
+    left-by (a .b .now) (a .t) (a .k) (a .ledger .now) (a .map .now) (a .v .now) (a .n) (s .pre .kept) (Refused (e .0 .0)) (e .1) refl refl
 
 pub take-content-spec : {M : Type 1} → statement M
 take-content-spec =
@@ -147,15 +145,14 @@ take-content-spec =
     part-take-block-start
     part-take-block-end
     take-block-requires
-    with-own-requires
     enum-told-2
     with-passed-requires
     enum-known-c
-    with-before-requires
+    with-amounts-requires
     enum-known-c-2
-    with-after-requires
+    with-amounts-requires-2
     enum-known-c-3
-    with-recharge-requires
+    with-amounts-requires-3
     enum-known-c-4
     same-length
     same-length-2
