@@ -3,7 +3,7 @@
 use mathlib.Core.Bool.{Bool, true, false, cond}
 use mathlib.Core.List.{List}
 use mathlib.Core.Path.{_≡_, refl, sym, ap, _∙_, subst}
-use Prim.Native.Nat.{ℕ, _+_, _*_, _/_, _^_, _≤_, _<_}
+use Prim.Native.Nat.{ℕ, _*_, _/_, _^_, _≤_, _<_}
 use native.Mathlib.Nat.{div-div-eq-div-mul, div-le-self, div-le-of-le-mul, div-mul-le-self}
 use native.Mathlib.Omega.{arith}
 use borrow.Author.Tests.{le-leb, leb-true}
@@ -29,7 +29,7 @@ use Rattle.state.specs.State.{ground}
 use Rattle.state.proofs.Checked.{Ground, ground-passed, ground-zero, ground-on, ground-off, progress-most}
 use Rattle.consumption.specs.declared.Figure.{Figure}
 use Rattle.consumption.specs.declared.Figure.the-variants.{Is, Refused}
-use Rattle.consumption.specs.Figures.{closedOf, rechargedOf, rechargedBy}
+use Rattle.consumption.specs.Figures.{chargedBy, closedOf, rechargedBy}
 use Rattle.closing.specs.Answers.{grounds, whole, closed, refusalOf, closingOf}
 
 -- ---- an answer by the number of its refusal
@@ -169,11 +169,10 @@ pub charge-most : (A : ℕ) → isCharge (wh A) ≡ true → A ≤ 2_000_000
 charge-most A e = leb-true A 2_000_000 (both (leb 1 A) (leb A 2_000_000) e .1)
 
 -- 14 and 12 as answers, or as numbers
-pub recharged-is : (l : List ℤ) (n : ℕ) (E F : ℤ) (A : ℕ)
-    → rechargedBy (rangeFigure E n (energyIn l) (distanceIn l)) E F A ≡ rechargedOf l n E F (wh A)
-unfolding rechargedBy rechargedOf rechargeRefusal unless
-recharged-is l n E F A =
-    let x = rechargeFigure E n (energyIn l) (distanceIn l) F A in
+pub recharged-is : (E : ℤ) (n : ℕ) (e d : ℕ → ℤ) (F : ℤ) (A : ℕ) → rechargedBy (rangeFigure E n e d) E F A ≡ chargedBy E n e d F (wh A)
+unfolding rechargedBy rechargeRefusal unless
+recharged-is E n e d F A =
+    let x = rechargeFigure E n e d F A in
     go (leZ (pos 1) (E +ℤ F)) (leb x mostRate) x
   where
     go : (s t : Bool) (x : ℕ) →

@@ -24,7 +24,7 @@ use Rattle.state.specs.declared.Run.{Run}
 use Rattle.numbers.specs.Tests.{settled}
 use Rattle.judge.proofs.Runs.{Reached, run-shows, cycle-energies, cycle-distances, few-cycles, never-refused}
 use Rattle.consumption.specs.declared.Figure.the-variants.{Is, Refused}
-use Rattle.consumption.specs.Figures.{weightedBy, rangeBy, chargedBy, rechargeBy, closedOf, rechargedOf}
+use Rattle.consumption.specs.Figures.{weightedBy, rangeBy, chargedBy, rechargeBy, closedOf}
 use Rattle.closing.specs.Answers.{refusalOf, weightedAnswer, rangeAnswer, rechargeAnswer}
 
 -- two closings that are alike in the whole energy, the number of cycles and each cycle
@@ -117,13 +117,8 @@ module _ (b : List ℕ) (t : Tolerances) (l₀ : List ℤ) (m₀ : List ℕ) {xs
       (λ i. settled (refusal-is i) (Is (settled (refused-is i) (range-is i) 0)) (Refused (refusal-is i)))
       ∙ settled-twice (closingRefusal E n e d) (rangeFigure E n e d)
 
-  charged-is : (F : ℤ) (charge : Charge) → rechargedOf l n′ E′ F charge ≡ chargedBy E n e d F charge
-  unfolding rechargedOf
-  charged-is F charge = as-numbers charge ∙ charged-alike E′ E n′ n few (energyIn l) (distanceIn l) e d E-is n-is energies distances F charge
-    where
-      as-numbers : (y : Charge) → rechargedOf l n′ E′ F y ≡ chargedBy E′ n′ (energyIn l) (distanceIn l) F y
-      as-numbers absent = refl
-      as-numbers (wh A) = refl
+  charged-is : (F : ℤ) (charge : Charge) → chargedBy E′ n′ (energyIn l) (distanceIn l) F charge ≡ chargedBy E n e d F charge
+  charged-is = charged-alike E′ E n′ n few (energyIn l) (distanceIn l) e d E-is n-is energies distances
 
   pub recharge-of-run : rechargeAnswer r a b l m ≡ rechargeBy E n e d (a .after) (a .charge)
   recharge-of-run = λ i. settled (refusal-is i) (charged-is (a .after) (a .charge) i) (Refused (refusal-is i))

@@ -7,13 +7,13 @@ use Rattle.numbers.specs.Tests.{unless, settled}
 use Rattle.rules.specs.declared.Amounts.{Amounts}
 use Rattle.rules.specs.Closing.{areAmounts}
 use Rattle.rules.specs.Run.{finishedCycles}
-use Rattle.ledger.specs.Row.{energyAll}
+use Rattle.ledger.specs.Row.{energyIn, distanceIn, energyAll}
 use Rattle.state.specs.declared.Run.{Run}
 use Rattle.state.specs.State.{ground}
 use Rattle.consumption.specs.declared.Closed.{Closed}
 use Rattle.consumption.specs.declared.Figure.{Figure}
-use Rattle.consumption.specs.declared.Figure.the-variants.{Is, Refused}
-use Rattle.consumption.specs.Figures.{closedOf, rechargedOf}
+use Rattle.consumption.specs.declared.Figure.the-variants.{Is}
+use Rattle.consumption.specs.Figures.{figureOr, chargedBy, closedOf}
 
 module _ (r : Run) (a : Amounts) (b : List ℕ) (l : List ℤ) (m : List ℕ) where
   -- "In a started run 1 and 2 come before all others": the amounts are numbers of the state
@@ -32,19 +32,14 @@ module _ (r : Run) (a : Amounts) (b : List ℕ) (l : List ℤ) (m : List ℕ) wh
   refusalOf = grounds (closed .refusal)
 
   abbrev pub weightedAnswer : Figure
-  weightedAnswer = settled refusalOf (Is (closed .weighted)) (Refused refusalOf)
+  weightedAnswer = figureOr refusalOf (Is (closed .weighted))
 
   abbrev pub rangeAnswer : Figure
-  rangeAnswer = settled refusalOf (Is (closed .range)) (Refused refusalOf)
+  rangeAnswer = figureOr refusalOf (Is (closed .range))
 
-abbrev pub rechargeAnswer : Run → Amounts → List ℕ → List ℤ → List ℕ → Figure
-rechargeAnswer r a b l m =
-    settled (refusalOf r a b l m)
-    (rechargedOf l (finishedCycles b (r .counted)) (whole r a b l m) (a .after) (a .charge))
-    (Refused (refusalOf r a b l m))
+  abbrev pub rechargeAnswer : Figure
+  rechargeAnswer = figureOr refusalOf (chargedBy whole (finishedCycles b (r .counted)) (energyIn l) (distanceIn l) (a .after) (a .charge))
 
--- the closing with the refusals before it
-abbrev pub closingOf : Run → Amounts → List ℕ → List ℤ → List ℕ → Closed
-closingOf r a b l m =
-    let refusal = refusalOf r a b l m in
-    record { refusal = refusal; weighted = settled refusal (closed r a b l m .weighted) 0; range = settled refusal (closed r a b l m .range) 0 }
+  -- the closing with the refusals before it
+  abbrev pub closingOf : Closed
+  closingOf = record { refusal = refusalOf; weighted = settled refusalOf (closed .weighted) 0; range = settled refusalOf (closed .range) 0 }

@@ -52,13 +52,6 @@ closedOf l n E =
       range = settled refusal (rangeFigure E n (energyIn l) (distanceIn l)) 0;
     }
 
--- the recharge figure, where the closing refuses nothing
-unfoldable pub rechargedOf : List ℤ → ℕ → ℤ → ℤ → Charge → Figure
-rechargedOf l n E F absent = Absent
-rechargedOf l n E F (wh A) =
-    let refusal = rechargeRefusal E n (energyIn l) (distanceIn l) F A in
-    settled refusal (Is (rechargeFigure E n (energyIn l) (distanceIn l) F A)) (Refused refusal)
-
 -- what the tests up to 12 leave
 pub record Closable (l : List ℤ) (n : ℕ) : Type 0 where
   pub bounded : bounded l ≡ true

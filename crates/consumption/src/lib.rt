@@ -3,7 +3,7 @@ use ledger::totals::distance_in;
 use ledger::totals::energy_in;
 use wide::Ratio;
 ghost use mathlib.Core.Path.{_≡_};
-ghost use mathlib.Core.Bool.{true};
+ghost use mathlib.Core.Bool.{true, _&&_};
 ghost use Prim.Native.Nat.{_+_, _-_, _*_, _/_, _≤_, _<_, _^_};
 ghost use lib.IntN.{pos, _+ℤ_};
 ghost use lib.Signed.{leZ, ltZ};
@@ -44,21 +44,6 @@ fn all_drawn(ledger: &[i64], n: usize) -> bool
     true
 }
 
-// Whether every finished cycle has a distance.
-fn all_moved(ledger: &[i64], n: usize) -> bool
-    requires { ⌜ (bounded (now ledger) ≡ true) × (n ≤ 64) ⌝ }
-    ensures { λ r. ⌜ r ≡ allBelow n (λ c. ltZ (pos 0) (distanceIn (now (ledger .entry)) c)) ⌝ }
-{
-    let mut c = 0;
-    while c < n {
-        if distance_in(ledger, c) <= 0 {
-            return false;
-        }
-        c += 1;
-    }
-    true
-}
-
 // q_c of a cycle that has drawn energy and moved.
 fn rate_in(ledger: &[i64], c: usize) -> u64
     requires { ⌜ (bounded (now ledger) ≡ true) × (c < 64) × (leZ (pos 1) (energyIn (now ledger) c) ≡ true) × (ltZ (pos 0) (distanceIn (now ledger) c) ≡ true) ⌝ }
@@ -69,14 +54,16 @@ fn rate_in(ledger: &[i64], c: usize) -> u64
     100 * e / d
 }
 
-// Whether every rate is within its limits.
+// Whether every finished cycle has a distance and a rate within its limits.
 fn all_rated(ledger: &[i64], n: usize) -> bool
-    requires { ⌜ (bounded (now ledger) ≡ true) × (n ≤ 64) ⌝ }
-    requires { ⌜ (allBelow n (λ c. leZ (pos 1) (energyIn (now ledger) c)) ≡ true) × (allBelow n (λ c. ltZ (pos 0) (distanceIn (now ledger) c)) ≡ true) ⌝ }
-    ensures { λ r. ⌜ r ≡ allBelow n (λ c. isRate (rateOf (energyIn (now (ledger .entry))) (distanceIn (now (ledger .entry))) c)) ⌝ }
+    requires { ⌜ (bounded (now ledger) ≡ true) × (n ≤ 64) × (allBelow n (λ c. leZ (pos 1) (energyIn (now ledger) c)) ≡ true) ⌝ }
+    ensures { λ r. ⌜ r ≡ (allBelow n (λ c. ltZ (pos 0) (distanceIn (now (ledger .entry)) c)) && allBelow n (λ c. isRate (rateOf (energyIn (now (ledger .entry))) (distanceIn (now (ledger .entry))) c))) ⌝ }
 {
     let mut c = 0;
     while c < n {
+        if distance_in(ledger, c) <= 0 {
+            return false;
+        }
         let q = rate_in(ledger, c);
         if q < 1 {
             return false;
@@ -178,9 +165,6 @@ pub fn close(ledger: &[i64], n: usize, total: i64) -> Closed
     }
     if total < energy_in(ledger, 0) + energy_in(ledger, 1) {
         return refused(11);
-    }
-    if !all_moved(ledger, n) {
-        return refused(12);
     }
     if !all_rated(ledger, n) {
         return refused(12);

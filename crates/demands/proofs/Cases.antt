@@ -1,22 +1,16 @@
 -- Over the contracts of judge, closing and fields: the number of a call's answer is document 01's order of refusals for that call.
 -- Assumes nothing.
 use mathlib.Core.Bool.{Bool, true, false, cond}
-use mathlib.Core.List.{List}
 use mathlib.Core.Path.{_≡_, refl, sym, ap, _∙_}
 use Prim.Native.Nat.{ℕ}
 use borrow.Author.Tests.{eqb-true}
 use lib.Dec.{eqb, leb}
-use lib.IntN.{ℤ, pos, _+ℤ_}
-use lib.ListN.{getD}
+use lib.IntN.{pos, _+ℤ_}
 use lib.Signed.{leZ}
 use denote.Ref.{now}
 use Rattle.numbers.specs.Tests.{unless, settled}
 use Rattle.numbers.specs.Whole.{up}
-use Rattle.rules.specs.declared.Charge.{Charge}
-use Rattle.rules.specs.declared.Charge.the-variants.{Absent as absent, Wh as wh}
-use Rattle.rules.specs.Closing.{mostRate, isTransfer, recharge as rechargeBy}
-use Rattle.rules.specs.Run.{finishedCycles}
-use Rattle.ledger.specs.Row as ledger
+use Rattle.rules.specs.Closing.{mostRate, recharge as rechargeBy}
 use Rattle.state.specs.State.{ground}
 use Rattle.state.specs.Refusals.{startRefusal, sampleRefusal}
 use Rattle.blocks.specs.Blocks.{blockRefusal}
@@ -30,22 +24,20 @@ use Rattle.judge.proofs.shown
 use Rattle.judge.proofs.totals
 use Rattle.consumption.specs.declared.Figure.{Figure}
 use Rattle.consumption.specs.declared.Figure.the-variants as figure
-use Rattle.consumption.specs.Figures.{rechargedOf, rechargedBy}
+use Rattle.consumption.specs.Figures.{rechargedBy}
 use Rattle.consumption.proofs.recharged
-use Rattle.closing.specs.Answers.{whole, refusalOf}
+use Rattle.closing.specs.Answers.{refusalOf}
 use Rattle.closing.proofs.weighted
 use Rattle.closing.proofs.range
 use Rattle.closing.proofs.recharge
 use Rattle.fields.specs.Fields.{frontOf}
-use Rattle.fields.specs.Values.{energyIn}
 use Rattle.fields.proofs.front_of
-use Rattle.contents.specs.declared.Content.the-variants as content
-use Rattle.contents.specs.Content.{blockContent, energyContent, rechargeContent, contentOf}
+use Rattle.contents.specs.Content.{contentOf}
 use Rattle.contents.proofs.content_of
 use Rattle.reading.specs.Answers.{readGround}
 use Rattle.figures.specs.declared.Found.{Found}
 use Rattle.figures.proofs.figures_of
-use Rattle.demands.specs.Cases.{answerNumber, shownNumber, totalsNumber, figureNumber, frontNumber, contentNumber, orElse, chargeNumber, rechargeNumber, formNumber, wholeNumber}
+use Rattle.demands.specs.Cases.{answerNumber, shownNumber, totalsNumber, figureNumber, frontNumber, contentNumber, orElse, rechargeNumber}
 use Rattle.demands.proofs.NoDoubt.{Call}
 
 -- ---- numbers of answers
@@ -64,10 +56,6 @@ pub unless-number : {A : Type 0} (number : A → ℕ) (refusal : A) (t : Bool) (
 unfolding unless
 unless-number number refusal true rest = refl
 unless-number number refusal false rest = refl
-
-cond-number : {A : Type 0} (number : A → ℕ) (t : Bool) (x y : A) → number (cond t x y) ≡ cond t (number x) (number y)
-cond-number number true x y = refl
-cond-number number false x y = refl
 
 -- ---- the judge
 
@@ -106,11 +94,6 @@ pub range-number : (c : Call range.ended range.Reads.Learnt) → (let (r, (a, (b
 range-number c = ap figureNumber (c .kept) ∙ settled-number figureNumber figure.Refused _ _ refl (λ k. refl)
 
 -- "Recharge: whatever closing refuses, then absent, 14, 12."
-charged-number : (l : List ℤ) (n : ℕ) (E F : ℤ) (y : Charge) → figureNumber (rechargedOf l n E F y) ≡ chargeNumber E n (ledger.energyIn l) (ledger.distanceIn l) F y
-unfolding rechargedOf
-charged-number l n E F absent = refl
-charged-number l n E F (wh A) = settled-number figureNumber figure.Refused _ _ refl (λ k. refl)
-
 pub or-else-number : (n : ℕ) (f : Figure) → figureNumber (settled n f (figure.Refused n)) ≡ orElse n (figureNumber f)
 or-else-number n f = go (eqb n 0)
   where
@@ -123,7 +106,6 @@ pub recharge-number : (c : Call recharge.ended recharge.Reads.Learnt) → (let (
 recharge-number c =
     let (r, (a, (b, (l, (m, _))))) = c .args in
     ap figureNumber (c .kept) ∙ or-else-number (refusalOf r a (now b) (now l) (now m)) _
-    ∙ ap (orElse (refusalOf r a (now b) (now l) (now m))) (charged-number (now l) (finishedCycles (now b) (r .counted)) (whole r a (now b) (now l) (now m)) (a .after) (a .charge))
 
 -- "14, 12": where the closing refuses nothing
 pub recharged-number : (c : Call recharged.ended recharged.Reads.Learnt) → (let (range, (E, (F, (A, _)))) = c .args in
@@ -143,26 +125,10 @@ figures-of-number c = ap (λ (x : Found). x .refusal) (c .kept)
 -- ---- fields
 
 -- 8, of what can be no field
-pub front-of-number : (c : Call front_of.ended front_of.Reads.Learnt) → frontNumber (c .answer) ≡ formNumber (now (c .args .0))
-unfolding frontOf
-front-of-number c = ap frontNumber (c .kept) ∙ simp (unless-number frontNumber)
+pub front-of-number : (c : Call front_of.ended front_of.Reads.Learnt) → frontNumber (c .answer) ≡ frontNumber (frontOf (now (c .args .0)))
+front-of-number c = ap frontNumber (c .kept)
 
 -- of a whole field after the start: 9, then its content
-energy-number : (v : List ℕ) → contentNumber (energyContent v) ≡ unless 14 (isTransfer (energyIn v)) 0
-unfolding energyContent unless
-energy-number v = go (isTransfer (energyIn v)) (eqb (getD v 0 0) 0)
-  where
-    go : (s t : Bool) → contentNumber (unless (content.Refused 14) s (cond t (content.Before (energyIn v)) (content.After (energyIn v)))) ≡ unless 14 s 0
-    go true true = refl
-    go true false = refl
-    go false t = refl
-
-pub contents-number : (me : List ℕ) (place passed offered tag : ℕ) (v : List ℕ) → contentNumber (contentOf me place passed offered tag v) ≡ wholeNumber me place passed offered tag v
-unfolding contentOf blockContent rechargeContent
-contents-number me place passed offered tag v = simp (unless-number contentNumber, cond-number contentNumber, energy-number)
-
 pub content-of-number : (c : Call content_of.ended content_of.Reads.Learnt) → (let (me, (place, (passed, (offered, (tag, (v, _)))))) = c .args in
-    contentNumber (c .answer) ≡ wholeNumber (now me) place passed offered tag (now v))
-content-of-number c =
-    let (me, (place, (passed, (offered, (tag, (v, _)))))) = c .args in
-    ap contentNumber (c .kept) ∙ contents-number (now me) place passed offered tag (now v)
+    contentNumber (c .answer) ≡ contentNumber (contentOf (now me) place passed offered tag (now v)))
+content-of-number c = ap contentNumber (c .kept)

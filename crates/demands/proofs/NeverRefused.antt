@@ -12,7 +12,6 @@ use denote.Ref.{RefT, now}
 use Rattle.numbers.specs.Tests.{settled}
 use Rattle.numbers.proofs.Tests.{pass}
 use Rattle.rules.specs.declared.Charge.{Charge}
-use Rattle.rules.specs.declared.Charge.the-variants.{Absent as absent, Wh as wh}
 use Rattle.rules.specs.declared.Sample.{Sample}
 use Rattle.rules.specs.declared.Tolerances.{Tolerances}
 use Rattle.rules.specs.Closing.{areAmounts, closingRefusal}
@@ -31,7 +30,7 @@ use Rattle.reading.specs.declared.Reading.{Reading}
 use Rattle.reading.specs.declared.Step.the-variants as step
 use Rattle.reading.specs.Answers.{isReading, readGround}
 use Rattle.figures.specs.declared.Found.{Found}
-use Rattle.demands.specs.Cases.{answerNumber, shownNumber, totalsNumber, figureNumber, stepNumber, Neither1Nor2, orElse, chargeNumber}
+use Rattle.demands.specs.Cases.{answerNumber, shownNumber, totalsNumber, figureNumber, stepNumber, Neither1Nor2, orElse}
 use Rattle.demands.proofs.Cases.{settled-number, or-else-number, sample-number, block-number, shown-number, totals-number}
 use Rattle.demands.proofs.ReaderCases.{read-number, read-all-number}
 use Rattle.demands.proofs.Driven.{SampleCall, BlockCall, On, SampleOn, BlockOn, Driven, driven-reached}
@@ -47,14 +46,10 @@ module _ (E : ℤ) (n : ℕ) (e d : ℕ → ℤ) where
       by-number figureNumber fig.Refused (λ k. refl) (ap figureNumber f ∙ settled-number figureNumber fig.Refused (closingRefusal E n e d) _ refl (λ k. refl))
       (closing-neither E n e d)
 
-  charged-number : (F : ℤ) (y : Charge) → figureNumber (chargedBy E n e d F y) ≡ chargeNumber E n e d F y
-  charged-number F absent = refl
-  charged-number F (wh A) = settled-number figureNumber fig.Refused _ _ refl (λ k. refl)
-
   recharge-neither : {x : Figure} (F : ℤ) (y : Charge) → x ≡ rechargeBy E n e d F y → Neither1Nor2 fig.Refused x
   recharge-neither F y f =
       by-number figureNumber fig.Refused (λ k. refl)
-      (ap figureNumber f ∙ or-else-number (closingRefusal E n e d) (chargedBy E n e d F y) ∙ ap (orElse (closingRefusal E n e d)) (charged-number F y))
+      (ap figureNumber f ∙ or-else-number (closingRefusal E n e d) (chargedBy E n e d F y))
       (cond-neither (eqb (closingRefusal E n e d) 0) _ _ (charge-neither E n e d F y) (closing-neither E n e d))
 
 -- ---- the calls

@@ -20,6 +20,7 @@ use Rattle.fields.specs.declared.Front.the-variants as front
 use Rattle.fields.specs.Fields.{valueIn, frontOf}
 use Rattle.contents.specs.declared.Content.{Content}
 use Rattle.contents.specs.declared.Content.the-variants as content
+use Rattle.contents.specs.Content.{contentOf}
 use Rattle.opening.specs.declared.Opening.{Opening}
 use Rattle.opening.specs.declared.OpenAnswer.{OpenAnswer}
 use Rattle.opening.specs.declared.OpenStep.the-variants as opening
@@ -38,9 +39,9 @@ use Rattle.reader.proofs.open
 use Rattle.reader.proofs.read
 use Rattle.reader.proofs.read_all
 use Rattle.reader.proofs.ended
-use Rattle.demands.specs.Cases.{openNumber, stepNumber, endingNumber, contentNumber, orElse, fieldNumber, wholeNumber, openingNumber, nextNumber, readingNumber}
+use Rattle.demands.specs.Cases.{openNumber, stepNumber, endingNumber, contentNumber, orElse, fieldNumber, openingNumber, nextNumber, readingNumber}
 use Rattle.demands.proofs.NoDoubt.{Call}
-use Rattle.demands.proofs.Cases.{settled-number, unless-number, contents-number}
+use Rattle.demands.proofs.Cases.{settled-number, unless-number}
 
 -- ---- until the start
 
@@ -97,16 +98,16 @@ module _ (r : Reading) (b : List ℕ) (l : List ℤ) (m i : List ℕ) where
   at = fieldAt offeredOf takes me
 
   abbrev next : Tale State → List ℕ → ℕ
-  next k j = fieldNumber (frontOf j) (λ tag n. wholeNumber me (k .place) (k .passed) (k .run .offered) tag (valueIn j n))
+  next k j = fieldNumber (frontOf j) (λ tag n. contentNumber (contentOf me (k .place) (k .passed) (k .run .offered) tag (valueIn j n)))
 
   at-number : (k : Tale State) (j : List ℕ) → stepNumber (at k j .step) ≡ next k j
   unfolding fieldAt
   at-number k j = go (frontOf j)
     where
-      go : (f : Front) → stepNumber (byFront offeredOf takes me k j f .step) ≡ fieldNumber f (λ tag n. wholeNumber me (k .place) (k .passed) (k .run .offered) tag (valueIn j n))
+      go : (f : Front) → stepNumber (byFront offeredOf takes me k j f .step) ≡ fieldNumber f (λ tag n. contentNumber (contentOf me (k .place) (k .passed) (k .run .offered) tag (valueIn j n)))
       go front.Incomplete = refl
       go front.Impossible = refl
-      go (front.Field tag n) = step-number (brought offeredOf takes me k tag (valueIn j n)) (3 + n) ∙ contents-number me (k .place) (k .passed) (k .run .offered) tag (valueIn j n)
+      go (front.Field tag n) = step-number (brought offeredOf takes me k tag (valueIn j n)) (3 + n)
 
   read-of-number : stepNumber (readOf r b l m i .step) ≡ readingNumber r b l m i
   unfolding readOf

@@ -1,24 +1,15 @@
--- The answers' cases as document 01's numbers, 0 where nothing is refused, and those of its orders of refusals that no crate below has as a number.
+-- The answers' cases as document 01's numbers, 0 where nothing is refused, and its orders of refusals as these numbers.
 -- Assumes nothing.
-use mathlib.Core.Bool.{cond}
 use mathlib.Core.List.{List}
 use mathlib.Core.Path.{_≡_}
-use Prim.Native.Nat.{ℕ, _+_}
-use lib.Dec.{leb, ltb, eqb}
+use Prim.Native.Nat.{ℕ}
 use lib.IntN.{ℤ}
-use lib.ListN.{length, getD}
-use Rattle.numbers.specs.Bytes.{be}
-use Rattle.numbers.specs.Tests.{unless, settled}
+use Rattle.numbers.specs.Tests.{settled}
 use Rattle.rules.specs.declared.Amounts.{Amounts}
-use Rattle.rules.specs.declared.Charge.{Charge}
-use Rattle.rules.specs.declared.Charge.the-variants.{Absent as absent, Wh as wh}
-use Rattle.rules.specs.Bench.{mostOffered, mostPassed}
-use Rattle.rules.specs.Closing.{isTransfer, isCharge, rechargeRefusal}
 use Rattle.rules.specs.Run.{finishedCycles}
-use Rattle.ledger.specs.Row as ledger
+use Rattle.ledger.specs.Row.{energyIn, distanceIn}
 use Rattle.state.specs.declared.Run.{Run}
 use Rattle.state.specs.Refusals.{startRefusal}
-use Rattle.blocks.specs.Blocks.{samplesIn, areSamples}
 use Rattle.judge.specs.declared.Answer.{Answer}
 use Rattle.judge.specs.declared.Answer.the-variants as answer
 use Rattle.judge.specs.declared.ShownAnswer.{ShownAnswer}
@@ -27,14 +18,14 @@ use Rattle.judge.specs.declared.TotalsAnswer.{TotalsAnswer}
 use Rattle.judge.specs.declared.TotalsAnswer.the-variants as totals
 use Rattle.consumption.specs.declared.Figure.{Figure}
 use Rattle.consumption.specs.declared.Figure.the-variants as figure
+use Rattle.consumption.specs.Figures.{chargedBy}
 use Rattle.closing.specs.Answers.{whole, refusalOf}
 use Rattle.fields.specs.declared.Front.{Front}
 use Rattle.fields.specs.declared.Front.the-variants as front
-use Rattle.fields.specs.Fields.{isTag, isLength, isValue, valueIn, frontOf}
-use Rattle.fields.specs.Values.{isNumber, sameNumber, firstIn, samplesOf, energyIn, rechargeIn}
+use Rattle.fields.specs.Fields.{valueIn, frontOf}
 use Rattle.contents.specs.declared.Content.{Content}
 use Rattle.contents.specs.declared.Content.the-variants as content
-use Rattle.contents.specs.Content.{mayStand}
+use Rattle.contents.specs.Content.{contentOf}
 use Rattle.opening.specs.declared.Opening.{Opening}
 use Rattle.opening.specs.declared.OpenStep.{OpenStep}
 use Rattle.opening.specs.declared.OpenStep.the-variants as opening
@@ -106,60 +97,25 @@ outcomeNumber (outcome.Refused n) = n
 abbrev pub Neither1Nor2 : {A : Type 0} → (ℕ → A) → A → Type 0
 Neither1Nor2 refused x = (x ≡ refused 1 → ⊥) × (x ≡ refused 2 → ⊥)
 
--- ---- orders of refusals
+-- ---- orders of refusals: read off the definitions of the crates below, so that each order is defined once
 
 -- one number, or where that is 0 the next
 abbrev pub orElse : ℕ → ℕ → ℕ
 orElse n next = settled n next n
 
 -- "Recharge: whatever closing refuses, then absent, 14, 12."
-abbrev pub chargeNumber : ℤ → ℕ → (ℕ → ℤ) → (ℕ → ℤ) → ℤ → Charge → ℕ
-chargeNumber E n e d F absent = 0
-chargeNumber E n e d F (wh A) = rechargeRefusal E n e d F A
-
 abbrev pub rechargeNumber : Run → Amounts → List ℕ → List ℤ → List ℕ → ℕ
 rechargeNumber r a b l m =
     orElse (refusalOf r a b l m)
-    (chargeNumber (whole r a b l m) (finishedCycles b (r .counted)) (ledger.energyIn l) (ledger.distanceIn l) (a .after) (a .charge))
-
--- 8: "An unknown tag is refused from its first byte, a length not allowed for its tag from the third", a wrong mark and kind with the whole field
-abbrev pub formNumber : List ℕ → ℕ
-formNumber i =
-    let tag = getD i 0 0 in
-    let n = be 2 i 1 in
-    unless 0 (ltb 0 (length i))
-    (unless 8 (isTag tag)
-    (unless 0 (leb 3 (length i))
-    (unless 8 (isLength tag n)
-    (unless 0 (leb (3 + n) (length i))
-    (unless 8 (isValue tag (valueIn i n)) 0)))))
+    (figureNumber (chargedBy (whole r a b l m) (finishedCycles b (r .counted)) (energyIn l) (distanceIn l) (a .after) (a .charge)))
 
 -- "Order for a field: 8, 9, then its content": by what stands at the front of the input, with the number of a whole field of that tag and length
 abbrev pub fieldNumber : Front → (ℕ → ℕ → ℕ) → ℕ
-fieldNumber front.Incomplete whole = 0
-fieldNumber front.Impossible whole = 8
+fieldNumber front.Incomplete whole = frontNumber front.Incomplete
+fieldNumber front.Impossible whole = frontNumber front.Impossible
 fieldNumber (front.Field tag n) whole = whole tag n
 
--- "for field 5: 4, pass over, 6, 7, 5 (a block passed over can only meet 7)": of the vehicle me
-abbrev pub ownNumber : ℕ → List ℕ → ℕ
-ownNumber offered v =
-    let q = samplesOf v in
-    unless 6 (eqb (firstIn v) offered)
-    (unless 7 (leb (offered + samplesIn q) mostOffered)
-    (unless 5 (areSamples q (samplesIn q)) 0))
-
-abbrev pub blockNumber : List ℕ → ℕ → ℕ → List ℕ → ℕ
-blockNumber me passed offered v = unless 4 (isNumber v) (cond (sameNumber me v) (ownNumber offered v) (unless 7 (leb (passed + 1) mostPassed) 0))
-
--- 14: "transfer or recharge amount outside its limits"
-abbrev pub amountNumber : ℕ → List ℕ → ℕ
-amountNumber tag v = cond (eqb tag 6) (unless 14 (isTransfer (energyIn v)) 0) (unless 14 (isCharge (wh (rechargeIn v))) 0)
-
--- a whole field after the start: 9, then its content
-abbrev pub wholeNumber : List ℕ → ℕ → ℕ → ℕ → ℕ → List ℕ → ℕ
-wholeNumber me place passed offered tag v = unless 9 (mayStand place tag v) (cond (eqb tag 5) (blockNumber me passed offered v) (amountNumber tag v))
-
--- until the start: 1 "before all else", 8, 9, content
+-- until the start: 1 "before all else", then the field
 abbrev pub openingNumber : Opening → List ℕ → List ℤ → List ℕ → List ℕ → ℕ
 openingNumber o room l m i =
     orElse (openGround o room)
@@ -167,7 +123,7 @@ openingNumber o room l m i =
 
 -- after it: of the field at the front of i
 abbrev pub nextNumber : Reading → List ℕ → ℕ
-nextNumber r i = fieldNumber (frontOf i) (λ tag n. wholeNumber (r .vehicle) (r .place) (r .passed) (r .run .offered) tag (valueIn i n))
+nextNumber r i = fieldNumber (frontOf i) (λ tag n. contentNumber (contentOf (r .vehicle) (r .place) (r .passed) (r .run .offered) tag (valueIn i n)))
 
 -- "In a started run 1 and 2 come before all others"
 abbrev pub readingNumber : Reading → List ℕ → List ℤ → List ℕ → List ℕ → ℕ

@@ -1,6 +1,6 @@
 -- What the demands compare: records that differ only in field 4, the figures of what a record tells, and what is printed of two records.
 -- Assumes nothing.
-use mathlib.Core.List.{List, [], _∷_, _++_}
+use mathlib.Core.List.{List, _∷_, _++_}
 use mathlib.Core.Path.{_≡_}
 use Prim.Native.Nat.{ℕ, _+_, _≤_}
 use lib.ListN.{length}
@@ -10,7 +10,7 @@ use Rattle.rules.specs.Run.{sampleOf, outside, judged}
 use Rattle.opening.specs.declared.OpenStep.the-variants.{Incomplete}
 use Rattle.records.specs.Records.{Told, Sheet, told, refused, openingIn}
 use Rattle.sheet.specs.declared.Figures.{Figures}
-use Rattle.sheet.specs.Text.{digits, line}
+use Rattle.sheet.specs.Text.{digits, line, outsideWord, passedWord}
 use Rattle.figures.specs.Figured.{figuresBy}
 
 -- ---- records that differ only in field 4: p, a field 4 of the value v, and q
@@ -51,11 +51,11 @@ outsideOf x c = outside (x .cycle) (x .tolerances) (samplesOf x) c (judged (x .c
 
 -- `outside` and a number
 abbrev pub outsideLine : ℕ → List ℕ
-outsideLine n = line (111 ∷ 117 ∷ 116 ∷ 115 ∷ 105 ∷ 100 ∷ 101 ∷ []) (digits n)
+outsideLine n = line outsideWord (digits n)
 
 -- `passed` and a number
 abbrev pub passedLine : ℕ → List ℕ
-passedLine n = line (112 ∷ 97 ∷ 115 ∷ 115 ∷ 101 ∷ 100 ∷ []) (digits n)
+passedLine n = line passedWord (digits n)
 
 -- two sheets with the same lines but for `outside`, whose number is no higher on the second
 pub record NoMoreOutside (text text′ : List ℕ) : Type 0 where

@@ -19,7 +19,8 @@ use Rattle.desk.specs.declared.Outcome.the-variants.{More, Refused}
 use Rattle.desk.specs.Feeding.{Laid, laidOf, emptyDesk, cycleOf, feedOf, mostFields, deskGround}
 use Rattle.desk.proofs.Short.{longest}
 use Rattle.desk.proofs.Grounds.{of-opening, of-reading}
-use Rattle.desk.proofs.Feeds.{Stands, opens, reads, stands-empty, stands-few, stands-on, feed-refused, feed-more-short, feed-ended-refused, feed-ended-whole}
+use Rattle.desk.proofs.Standing.{Stands, opens, reads, stands-empty}
+use Rattle.desk.proofs.Feeds.{stands-few, stands-on, feed-refused, feed-more-short, feed-ended-refused, feed-ended-whole}
 
 -- a record's desk has no 1 or 2: "such a call is never refused 1 or 2"
 pub stands-ground : (lent : Lent) {p : List ℕ} {x : Laid} → Stands lent p x → deskGround x ≡ 0

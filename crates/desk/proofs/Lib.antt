@@ -1,8 +1,11 @@
 -- The laws of a desk that is fed.
 pub mod Grounds
 pub mod Turns
+pub mod Onward
 pub mod Short
 pub mod Few
+pub mod Standing
+pub mod FirstFields
 pub mod Feeds
 pub mod Arriving
 pub mod Promises

@@ -26,7 +26,8 @@ use Rattle.records.proofs.OpenField.{Stays}
 use Rattle.records.proofs.Calls.{open-changes-nothing}
 use Rattle.desk.specs.declared.Outcome.the-variants.{More, Refused}
 use Rattle.desk.specs.Feeding.{Laid, Taken, laidOf, stops, behind, opensTo, openOne, goOn, openUpto, readTo, cycleOf, readOn, mostFields, thenRead, feedOf}
-use Rattle.desk.proofs.Turns.{accepted-size, all-size}
+use Rattle.desk.proofs.Turns.{accepted-size}
+use Rattle.desk.proofs.Onward.{all-size}
 
 -- a field until the start that is not accepted changes nothing
 pub none-opened : (x : Laid) (i : List ℕ) → openOne x i .used ≡ 0 → openOne x i .laid ≡ x

@@ -1,41 +1,31 @@
--- What each call of the reader leaves of a desk and its memory, and what every turn of the loop until the start keeps.
+-- What a call of the reader leaves of a desk and its memory until the start, and what every turn of the loop over those fields keeps.
 -- Assumes nothing.
 use mathlib.Core.Bool.{Bool, true, false, cond}
 use mathlib.Core.List.{List}
 use mathlib.Core.Path.{_≡_, refl, sym, ap, subst, _∙_}
-use Prim.Native.Nat.{ℕ, zero, suc, _+_, _-_, _*_, _≤_, _<_, zero-le}
+use Prim.Native.Nat.{ℕ, zero, suc, _+_, _-_, _≤_, zero-le}
 use native.Mathlib.Nat.{add-assoc, add-zero, zero-add, le-refl}
 use native.Mathlib.Omega.{arith}
-use borrow.Author.Tests.{ne-eqb, eq-eqb, le-leb, lt-leb}
-use lib.Dec.{leb, eqb}
+use borrow.Author.Tests.{ne-eqb, eq-eqb}
+use lib.Dec.{eqb}
 use lib.IntN.{ℤ}
 use lib.ListN.{length, take, drop, length-drop}
 use lib.Seq.{drop-drop}
-use Rattle.numbers.specs.Tests.{unless}
 use Rattle.numbers.proofs.Lists.{part-rest}
-use Rattle.numbers.proofs.Tests.{pass, stop}
-use Rattle.step.specs.Step.{State, startOf}
+use Rattle.step.specs.Step.{startOf}
 use Rattle.state.specs.Refusals.{startRefusal}
 use Rattle.opening.specs.declared.OpenAnswer.{OpenAnswer}
-use Rattle.reader.specs.declared.AllAnswer.{AllAnswer}
 use Rattle.opening.specs.declared.Opening.{Opening}
-use Rattle.reading.specs.declared.Reading.{Reading}
 use Rattle.opening.specs.declared.OpenStep.{OpenStep}
 use Rattle.opening.specs.declared.OpenStep.the-variants as opening
-use Rattle.reading.specs.declared.Step.the-variants as step
-use Rattle.reading.specs.Reading.{Tale, Read, fieldAt, upto, fieldsOf}
 use Rattle.opening.specs.Opening.{Opened, openAt}
 use Rattle.opening.specs.Answers.{Held, hold, cycleIn, begunOf, openGround, openOf, openAnswer, memoryAfter}
-use Rattle.reading.specs.Answers.{offeredOf, takeBlock, taleOf, readGround, readAllOf}
-use Rattle.reader.specs.Answers.{allAnswer}
-use Rattle.reading.proofs.Onwards.{by-step}
-use Rattle.reading.proofs.Cuts.{field-size, used-most}
 use Rattle.records.proofs.OpenField.{Accepts, open-size}
 use Rattle.desk.specs.declared.Desk.{Desk}
 use Rattle.desk.specs.declared.Fed.{Fed}
 use Rattle.desk.specs.declared.Outcome.{Outcome}
 use Rattle.desk.specs.declared.Outcome.the-variants.{More, Refused}
-use Rattle.desk.specs.Feeding.{Laid, Taken, laidOf, fedOf, stops, behind, opensAs, opensTo, openOne, goOn, openUpto, outcomeOf, readTo, cycleOf, readOn, mostFields, thenRead, feedOf}
+use Rattle.desk.specs.Feeding.{Laid, Taken, laidOf, fedOf, stops, behind, opensAs, opensTo, openOne, goOn, openUpto}
 
 -- the answer r, the room, the ledger and the map are those of y
 abbrev pub Left : Taken → Fed → List ℕ → List ℤ → List ℕ → Type 0
@@ -182,114 +172,3 @@ pub no-turn : (d : Desk) (room : List ℕ) (l : List ℤ) (m i : List ℕ) (u n 
     → behind u (openUpto n (laidOf d room l m) i) ≡ record { laid = laidOf d room l m; used = u; outcome = More }
 unfolding openUpto
 no-turn d room l m i u n e = rw e (λ j. record { laid = laidOf d room l m; used = add-zero u j; outcome = More })
-
--- ---- after the start
-
--- fields have at least three bytes each
-few-fields : (n : ℕ) (r : Reading) (b : List ℕ) (k : Tale State) (i : List ℕ)
-    → (let y = upto offeredOf (takeBlock b (r .run .tolerances)) n (r .vehicle) k i in 3 * y .fields ≤ y .used)
-unfolding upto
-few-fields zero r b k i = zero-le
-few-fields (suc n) r b k i =
-    let taking = takeBlock b (r .run .tolerances) in
-    let x = fieldAt offeredOf taking (r .vehicle) k i in
-    by-step offeredOf taking (λ (y : Read State). 3 * y .fields ≤ y .used) (x .step) (x .tale) (λ c. upto offeredOf taking n (r .vehicle) (x .tale) (drop c i)) (λ _. zero-le)
-    (λ c u.
-    let s = field-size offeredOf taking (r .vehicle) k i c u .0 in
-    let h = few-fields n r b (x .tale) (drop c i) in
-    omega arith)
-
-pub all-size : (r : Reading) (b : List ℕ) (l : List ℤ) (m i : List ℕ) → (let y = readAllOf r b l m i in (3 * y .fields ≤ y .used) × (y .used ≤ length i))
-unfolding readAllOf
-all-size r b l m i = go (eqb (readGround r b l m) 0)
-  where
-    go : (t : Bool) → (let y = cond t (fieldsOf offeredOf (takeBlock b (r .run .tolerances)) (r .vehicle) (taleOf r l m) i) (record { tale = taleOf r l m; fields = 0; used = 0; last = step.Refused (readGround r b l m) }) in (3 * y .fields ≤ y .used) × (y .used ≤ length i))
-    go true = (few-fields (length i) r b (taleOf r l m) i, used-most offeredOf (takeBlock b (r .run .tolerances)) (r .vehicle) (taleOf r l m) i)
-    go false = (zero-le, zero-le)
-
-module _ (d : Desk) (room : List ℕ) (l : List ℤ) (m i : List ℕ) where
-  abbrev laid : Laid
-  laid = laidOf d room l m
-
-  -- the room is too short
-  pub short-room : length room < d .opening .cycle → (r : Fed) → r ≡ fedOf (stops laid (Refused 1)) → Left (readOn laid i) r room l m
-  unfolding readOn
-  short-room h r e =
-      subst (λ (y : Taken). Left y r room l m) (stop _ (lt-leb _ _ h)) (e, (refl, (refl, refl)))
-
-  -- it is long enough
-  pub read-left : d .opening .cycle ≤ length room → (a : AllAnswer) (l′ : List ℤ) (m′ : List ℕ)
-      → (let y = readAllOf (d .reading) (take (d .opening .cycle) room) l m i in (a ≡ allAnswer (d .reading) y) × ((l′ ≡ y .tale .run .ledger) × (m′ ≡ y .tale .run .map)))
-      → (o : Outcome) → o ≡ outcomeOf (a .last)
-      → Left (readOn laid i) (record { outcome = o; used = a .used; desk = record { started = d .started; opening = d .opening; reading = a .reading; fields = d .fields + a .fields } }) room l′ m′
-  unfolding readOn
-  read-left h a l′ m′ p o e =
-      subst (λ (y : Taken). Left y (record { outcome = o; used = a .used; desk = record { started = d .started; opening = d .opening; reading = a .reading; fields = d .fields + a .fields } }) room l′ m′)
-      (pass (stops laid (Refused 1)) (le-leb _ _ h) refl) (
-        (λ j. record {
-          outcome = (e ∙ ap (λ (a : AllAnswer). outcomeOf (a .last)) (p .0)) j;
-          used = p .0 j .used;
-          desk = record { started = d .started; opening = d .opening; reading = p .0 j .reading; fields = d .fields + p .0 j .fields };
-        }),
-        (refl, p .1),
-      )
-
--- the room stays, and what was taken stands in the input
-pub read-room : (x : Laid) (i : List ℕ) → (readOn x i .laid .room ≡ x .room) × (readOn x i .used ≤ length i)
-unfolding readOn unless
-read-room x i = go (leb (x .desk .opening .cycle) (length (x .room)))
-  where
-    go : (t : Bool) → (let y = unless (stops x (Refused 1)) t (readTo x (readAllOf (x .desk .reading) (cycleOf x) (x .ledger) (x .map) i)) in (y .laid .room ≡ x .room) × (y .used ≤ length i))
-    go true = (refl, all-size (x .desk .reading) (cycleOf x) (x .ledger) (x .map) i .1)
-    go false = (refl, zero-le)
-
--- ---- both
-module _ (d : Desk) (room : List ℕ) (l : List ℤ) (m i : List ℕ) where
-  abbrev at-first : Laid
-  at-first = laidOf d room l m
-
-  pub too-many : mostFields < d .fields → (r : Fed) → r ≡ fedOf (stops at-first (Refused 1)) → Left (feedOf at-first i) r room l m
-  unfolding feedOf
-  too-many h r e = subst (λ (y : Taken). Left y r room l m) (stop _ (lt-leb _ _ h)) (e, (refl, (refl, refl)))
-
-  module _ (few : d .fields ≤ mostFields) (r : Fed) (room′ : List ℕ) (l′ : List ℤ) (m′ : List ℕ) (h : Left (openUpto 4 at-first i) r room′ l′ m′) where
-    abbrev then : Laid
-    then = laidOf (r .desk) room′ l′ m′
-
-    opened : Taken
-    opened = record { laid = then; used = r .used; outcome = r .outcome }
-
-    feed-is : feedOf at-first i ≡ thenRead opened i
-    unfolding feedOf opened
-    feed-is = sym (pass (stops at-first (Refused 1)) (le-leb _ _ few) refl) ∙ ap (λ (y : Taken). thenRead y i) (left-is _ r room′ l′ m′ h)
-
-    pub open-size-all : (r .used ≤ length i) × (r .desk .fields ≤ mostFields + 4)
-    open-size-all =
-        let w = upto-within 4 at-first i in
-        (omega (arith, w .used, ap (λ (y : Fed). y .used) (h .0)), omega (arith, w .fields, few, ap (λ (y : Fed). y .desk .fields) (h .0)))
-
-    -- the run has not started
-    pub not-yet : r .desk .started ≡ false → Left (feedOf at-first i) r room′ l′ m′
-    unfolding opened
-    not-yet e =
-        subst (λ (y : Taken). Left y r room′ l′ m′) (sym (feed-is ∙ ap (λ (t : Bool). cond t (behind (r .used) (readOn then (drop (r .used) i))) opened) e))
-        (refl, (refl, (refl, refl)))
-
-    -- it has: the rest of the input is read, as it is lent on
-    module _ (y : Fed) (l″ : List ℤ) (m″ : List ℕ)
-        (g : let z = readOn then (take (length i - r .used) (drop (r .used) i)) in (y ≡ fedOf z) × ((l″ ≡ z .laid .ledger) × (m″ ≡ z .laid .map))) where
-      rest : (let z = readOn then (drop (r .used) i) in (y ≡ fedOf z) × ((l″ ≡ z .laid .ledger) × (m″ ≡ z .laid .map)))
-      rest = subst (λ (q : List ℕ). let z = readOn then q in (y ≡ fedOf z) × ((l″ ≡ z .laid .ledger) × (m″ ≡ z .laid .map))) (part-rest (r .used) i) g
-
-      pub rest-size : r .used + y .used ≤ length i
-      rest-size =
-          omega (arith, open-size-all .0, ap (λ (z : Fed). z .used) (rest .0), read-room then (drop (r .used) i) .1, length-drop (r .used) i)
-
-      pub read-then : r .desk .started ≡ true → Left (feedOf at-first i) (record { outcome = y .outcome; used = r .used + y .used; desk = y .desk }) room′ l″ m″
-      unfolding opened
-      read-then e =
-          subst (λ (z : Taken). Left z (record { outcome = y .outcome; used = r .used + y .used; desk = y .desk }) room′ l″ m″)
-          (sym (feed-is ∙ ap (λ (t : Bool). cond t (behind (r .used) (readOn then (drop (r .used) i))) opened) e)) (
-            ap (λ (z : Fed). record { outcome = z .outcome; used = r .used + z .used; desk = z .desk }) (rest .0),
-            (sym (read-room then (drop (r .used) i) .0), rest .1),
-          )

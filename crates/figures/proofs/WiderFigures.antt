@@ -23,20 +23,24 @@ use Rattle.consumption.specs.Figures.{weightedBy, rangeBy, rechargeBy}
 use Rattle.sheet.specs.declared.Figures.{Figures}
 use Rattle.figures.specs.Figured.{outsideTotal, figuresBy}
 
--- the figures, with another `outside`
-abbrev pub withOutside : Figures → ℤ → Figures
-withOutside f o = record {
+-- the figures, with other counts
+abbrev pub withCounts : Figures → ℤ → ℕ → Figures
+withCounts f outside passed = record {
   vehicle = f .vehicle;
   end = f .end;
   counted = f .counted;
   cycles = f .cycles;
-  outside = o;
-  passed = f .passed;
+  outside = outside;
+  passed = passed;
   drawn = f .drawn;
   weighted = f .weighted;
   range = f .range;
   ac = f .ac;
 }
+
+-- with another `outside`
+abbrev pub withOutside : Figures → ℤ → Figures
+withOutside f o = withCounts f o (f .passed)
 
 module _ (vehicle : List ℕ) (passed : ℕ) (a : Amounts) (b : List ℕ) (t t′ : Tolerances) (xs : List Sample) where
   abbrev s : ℕ → Sample

@@ -19,7 +19,7 @@ use Rattle.intake.specs.declared.Turn.{Turn}
 use Rattle.intake.specs.declared.Turned.{Turned}
 use Rattle.intake.specs.declared.Turned.the-variants.{On, Ended, Failed, Refused}
 use Rattle.intake.specs.Turns.{turnedBy, heldBy, turnOf, bufferBy, bufferAfter, isOn, Came, none, part, outcomeBy, placeOf, onwards, Stood, textOf, Recorded}
-use Rattle.intake.proofs.Fed.{feed-used}
+use Rattle.desk.proofs.Onward.{feed-used}
 
 -- a turn that fed the desk says what the desk did
 outcome-of : (o : Outcome) → o ≡ outcomeBy (turnedBy o)

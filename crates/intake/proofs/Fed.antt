@@ -1,39 +1,20 @@
--- Laws of a turn: what the desk took stands in the input, and what is moved to the front was not overwritten before.
+-- Laws of a turn: what is moved to the front was not overwritten before, and what the turn leaves of the buffer.
 -- Assumes nothing.
-use mathlib.Core.Bool.{Bool, true, false, cond}
 use mathlib.Core.List.{List}
 use mathlib.Core.Path.{_≡_, sym, ap, _∙_}
 use Prim.Native.Nat.{ℕ, _+_, _-_, _≤_, _<_, zero-le}
 use native.Mathlib.Nat.{zero-add, add-comm}
 use native.Mathlib.Numerals.{add-one}
 use native.Mathlib.Omega.{arith}
-use lib.Dec.{leb}
-use lib.ListN.{length, getD, set, drop, length-drop}
+use lib.ListN.{length, getD, set, drop}
 use lib.Seq.{paste, paste-suc, drop-paste, getD-drop}
-use Rattle.numbers.specs.Tests.{unless}
 use Rattle.desk.specs.declared.Fed.{Fed}
 use Rattle.desk.specs.declared.Outcome.{Outcome}
 use Rattle.desk.specs.declared.Outcome.the-variants.{More, Refused as refused}
-use Rattle.desk.specs.Feeding.{Laid, Taken, fedOf, stops, openUpto, readOn, thenRead, mostFields, feedOf}
-use Rattle.desk.proofs.Turns.{upto-within, read-room}
+use Rattle.desk.specs.Feeding.{Taken, fedOf}
 use Rattle.intake.specs.declared.Turn.{Turn}
 use Rattle.intake.specs.declared.Turned.the-variants.{On, Refused}
 use Rattle.intake.specs.Turns.{turnedBy, heldBy, turnOf, bufferBy, bufferAfter}
-
-pub feed-used : (x : Laid) (i : List ℕ) → feedOf x i .used ≤ length i
-unfolding feedOf unless
-feed-used x i = go (leb (x .desk .fields) mostFields)
-  where
-    y : Taken
-    y = openUpto 4 x i
-
-    fed : (t : Bool) → cond t (record { laid = readOn (y .laid) (drop (y .used) i) .laid; used = y .used + readOn (y .laid) (drop (y .used) i) .used; outcome = readOn (y .laid) (drop (y .used) i) .outcome }) y .used ≤ length i
-    fed true = omega (arith, upto-within 4 x i .used, read-room (y .laid) (drop (y .used) i) .1, length-drop (y .used) i)
-    fed false = upto-within 4 x i .used
-
-    go : (t : Bool) → unless (stops x (refused 1)) t (thenRead y i) .used ≤ length i
-    go true = fed (y .laid .desk .started)
-    go false = zero-le
 
 -- the bytes from place `from` on are copied to the front, k of them so far: the next one is still as it was
 pub moved : (d : List ℕ) (from k : ℕ) → k ≤ length d → k ≤ length (drop from d) → getD (paste d 0 (drop from d) k) (from + k) 0 ≡ getD (drop from d) k 0

@@ -1,4 +1,4 @@
-// The closing figures at their limits: each is printed, and the gate compares it with what a script worked out from document 01's formulas.
+// The closing figures at their limits, worked out in `stdout` from document 01's formulas.
 use consumption::Figure;
 use libc::STDOUT_FILENO;
 use rules::Amounts;
@@ -98,38 +98,78 @@ fn amounts(before: i64, after: i64, wh: u32) -> Amounts {
     }
 }
 
+// The figures of n cycles.
+fn say_case(label: &[u8], n: u32, before: i64, after: i64, wh: u32, ledger: &[i64]) {
+    say_all(
+        label,
+        finished(n),
+        amounts(before, after, wh),
+        &CYCLE,
+        ledger,
+    );
+}
+
+// A ledger at its largest, and one number beyond.
 fn large() {
     let mut ledger = [0i64; 576];
     fill(&mut ledger, 7_200_000_000_000, 72_000_000);
-    say_all(
+    let most = 10_000_000_000_000;
+    say_case(
         b"largest ledger, quotient past 64 bits",
-        finished(64),
-        amounts(10_000_000_000_000, -10_000_000_000_000, 2_000_000),
-        &CYCLE,
+        64,
+        most,
+        -most,
+        2_000_000,
         &ledger,
     );
-    say_all(
+    say_case(
         b"largest ledger, transfer after",
-        finished(64),
-        amounts(10_000_000_000_000, 10_000_000_000_000, 1),
-        &CYCLE,
+        64,
+        most,
+        most,
+        1,
         &ledger,
     );
-}
-
-fn out_of_bounds() {
-    let mut ledger = [0i64; 576];
     ledger[0] = 7_200_000_000_001;
-    say_all(
+    say_case(
         b"a number of the ledger out of bounds",
-        finished(64),
-        amounts(0, 0, 1),
-        &CYCLE,
+        64,
+        0,
+        0,
+        1,
         &ledger,
     );
 }
 
-// Energies of 1 in one phase, distances of 100: every q is 1.
+// Every q is 1.
+fn by_amounts(ledger: &[i64]) {
+    say_case(b"q at 1, E + F = 1", 3, 5, -7, 1, ledger);
+    say_case(b"recharge figure above its limit", 3, 5, -7, 2, ledger);
+    say_case(b"E + F = 0", 3, 5, -8, 1, ledger);
+    say_case(b"E + F = 0, no recharge", 3, 5, -8, 0, ledger);
+    say_case(b"a range of 0", 3, 4, 0, 1, ledger);
+    say_case(b"E = e_1 + e_2", 3, -1, 0, 1, ledger);
+    say_case(b"E below e_1 + e_2", 3, -2, 0, 1, ledger);
+    say_case(b"two cycles", 2, 5, 0, 1, ledger);
+    say_case(
+        b"transfer past its limit",
+        2,
+        10_000_000_000_001,
+        0,
+        1,
+        ledger,
+    );
+    say_case(b"recharge past its limit", 2, 0, 0, 2_000_001, ledger);
+    say_all(
+        b"a cycle of 8 bytes",
+        finished(2),
+        amounts(0, 0, 1),
+        &CYCLE[..8],
+        ledger,
+    );
+}
+
+// Three cycles with energies of 1 in one phase and distances of 100; then other numbers in the third.
 fn small() {
     let mut ledger = [0i64; 576];
     ledger[0] = 1;
@@ -138,116 +178,21 @@ fn small() {
     ledger[4] = 100;
     ledger[13] = 100;
     ledger[22] = 100;
-    say_all(
-        b"q at 1, E + F = 1",
-        finished(3),
-        amounts(5, -7, 1),
-        &CYCLE,
-        &ledger,
-    );
-    say_all(
-        b"recharge figure above its limit",
-        finished(3),
-        amounts(5, -7, 2),
-        &CYCLE,
-        &ledger,
-    );
-    say_all(
-        b"E + F = 0",
-        finished(3),
-        amounts(5, -8, 1),
-        &CYCLE,
-        &ledger,
-    );
-    say_all(
-        b"E + F = 0, no recharge",
-        finished(3),
-        amounts(5, -8, 0),
-        &CYCLE,
-        &ledger,
-    );
-    say_all(
-        b"a range of 0",
-        finished(3),
-        amounts(4, 0, 1),
-        &CYCLE,
-        &ledger,
-    );
-    say_all(
-        b"E = e_1 + e_2",
-        finished(3),
-        amounts(-1, 0, 1),
-        &CYCLE,
-        &ledger,
-    );
-    say_all(
-        b"E below e_1 + e_2",
-        finished(3),
-        amounts(-2, 0, 1),
-        &CYCLE,
-        &ledger,
-    );
-    say_all(
-        b"two cycles",
-        finished(2),
-        amounts(5, 0, 1),
-        &CYCLE,
-        &ledger,
-    );
-    say_all(
-        b"transfer past its limit",
-        finished(2),
-        amounts(10_000_000_000_001, 0, 1),
-        &CYCLE,
-        &ledger,
-    );
-    say_all(
-        b"recharge past its limit",
-        finished(2),
-        amounts(0, 0, 2_000_001),
-        &CYCLE,
-        &ledger,
-    );
-    say_all(
-        b"a cycle of 8 bytes",
-        finished(2),
-        amounts(0, 0, 1),
-        &CYCLE[..8],
-        &ledger,
-    );
+    by_amounts(&ledger);
     ledger[22] = 101;
-    say_all(b"q below 1", finished(3), amounts(5, 0, 1), &CYCLE, &ledger);
+    say_case(b"q below 1", 3, 5, 0, 1, &ledger);
     ledger[22] = 0;
-    say_all(
-        b"no distance",
-        finished(3),
-        amounts(5, 0, 1),
-        &CYCLE,
-        &ledger,
-    );
+    say_case(b"no distance", 3, 5, 0, 1, &ledger);
     ledger[18] = 0;
-    say_all(b"no energy", finished(3), amounts(5, 0, 1), &CYCLE, &ledger);
+    say_case(b"no energy", 3, 5, 0, 1, &ledger);
     ledger[18] = 100_001;
     ledger[22] = 1;
-    say_all(
-        b"q above 10,000,000",
-        finished(3),
-        amounts(5, 0, 1),
-        &CYCLE,
-        &ledger,
-    );
+    say_case(b"q above 10,000,000", 3, 5, 0, 1, &ledger);
     ledger[18] = 100_000;
-    say_all(
-        b"q at 10,000,000",
-        finished(3),
-        amounts(1_000_000_000, 0, 1),
-        &CYCLE,
-        &ledger,
-    );
+    say_case(b"q at 10,000,000", 3, 1_000_000_000, 0, 1, &ledger);
 }
 
 fn main() {
     large();
-    out_of_bounds();
     small();
 }

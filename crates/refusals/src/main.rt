@@ -21,138 +21,6 @@ const OTHER_CYCLE: [u8; 11] = [1, 0, 3, 0, 100, 0, 100, 0, 100, 0, 100];
 const UNKNOWN: [u8; 1] = [8];
 // A field 4 with a speed tolerance of 101.
 const WIDE: [u8; 9] = [4, 0, 6, 0, 101, 0, 20, 1, 44];
-// Blocks of one sample that begin at sample 4,000,000: a good one, one that begins at sample 0, one with a speed of 1501, another vehicle's.
-const NEXT: [u8; 30] = [
-    5,
-    0,
-    27,
-    48,
-    48,
-    48,
-    48,
-    48,
-    48,
-    48,
-    48,
-    48,
-    48,
-    48,
-    48,
-    48,
-    48,
-    48,
-    48,
-    48,
-    0,
-    61,
-    9,
-    0,
-    0,
-    100,
-    23,
-    112,
-    255,
-    136,
-];
-
-const AGAIN: [u8; 30] = [
-    5,
-    0,
-    27,
-    48,
-    48,
-    48,
-    48,
-    48,
-    48,
-    48,
-    48,
-    48,
-    48,
-    48,
-    48,
-    48,
-    48,
-    48,
-    48,
-    48,
-    0,
-    0,
-    0,
-    0,
-    0,
-    100,
-    23,
-    112,
-    255,
-    136,
-];
-
-const FAST: [u8; 30] = [
-    5,
-    0,
-    27,
-    48,
-    48,
-    48,
-    48,
-    48,
-    48,
-    48,
-    48,
-    48,
-    48,
-    48,
-    48,
-    48,
-    48,
-    48,
-    48,
-    48,
-    0,
-    61,
-    9,
-    0,
-    5,
-    221,
-    23,
-    112,
-    255,
-    136,
-];
-
-const FOREIGN: [u8; 30] = [
-    5,
-    0,
-    27,
-    49,
-    48,
-    48,
-    48,
-    48,
-    48,
-    48,
-    48,
-    48,
-    48,
-    48,
-    48,
-    48,
-    48,
-    48,
-    48,
-    48,
-    0,
-    0,
-    0,
-    0,
-    5,
-    221,
-    23,
-    112,
-    255,
-    136,
-];
 
 // A run of 64 finished cycles to which so many samples were offered.
 fn ended_run(offered: u32) -> Run {
@@ -254,111 +122,62 @@ fn at_tolerances(fields: u32, cycle: usize) -> Opening {
 }
 
 fn openings() {
+    let unknown = &UNKNOWN[..];
+    let wide = &WIDE[..];
+    let full = at_tolerances(4, 9);
+    let last = at_tolerances(3, 9);
     try_open(
         b"open, room too short, unknown tag",
         blank(),
-        &UNKNOWN[..],
+        unknown,
         4810,
         576,
     );
-    try_open(b"open, unknown tag", blank(), &UNKNOWN[..], 4811, 576);
-    try_open(
-        b"open, four fields before it",
-        at_tolerances(4, 9),
-        &UNKNOWN[..],
-        4811,
-        576,
-    );
+    try_open(b"open, unknown tag", blank(), unknown, 4811, 576);
+    try_open(b"open, four fields before it", full, unknown, 4811, 576);
     try_open(
         b"start, ledger too short, no cycle, wide",
-        at_tolerances(3, 9),
-        &WIDE[..],
+        last,
+        wide,
         4811,
         575,
     );
-    try_open(
-        b"start, no cycle, wide",
-        at_tolerances(3, 9),
-        &WIDE[..],
-        4811,
-        576,
-    );
+    try_open(b"start, no cycle, wide", last, wide, 4811, 576);
+}
+
+// An unknown tag, with the cycle of another run.
+fn try_other(what: &[u8], r: Reading, numbers: usize, words: usize) {
+    try_read(what, r, &UNKNOWN[..], &OTHER_CYCLE[..], numbers, words);
+}
+
+// With the run's own cycle and memory.
+fn try_field(what: &[u8], r: Reading, input: &[u8]) {
+    try_read(what, r, input, &CYCLE[..], 576, 750);
 }
 
 fn grounds() {
     let r = reading_with(2560, 0);
     let beyond = reading_with(2560, 4_000_001);
-    try_read(
-        b"read, ledger too short, other cycle",
-        r,
-        &UNKNOWN[..],
-        &OTHER_CYCLE[..],
-        575,
-        750,
-    );
-    try_read(
-        b"read, map too short, other cycle",
-        r,
-        &UNKNOWN[..],
-        &OTHER_CYCLE[..],
-        576,
-        749,
-    );
-    try_read(
-        b"read, state out of bounds, other cycle",
-        beyond,
-        &UNKNOWN[..],
-        &OTHER_CYCLE[..],
-        576,
-        750,
-    );
-    try_read(
-        b"read, other cycle, unknown tag",
-        r,
-        &UNKNOWN[..],
-        &OTHER_CYCLE[..],
-        576,
-        750,
-    );
-    try_read(b"read, unknown tag", r, &UNKNOWN[..], &CYCLE[..], 576, 750);
+    try_other(b"read, ledger too short, other cycle", r, 575, 750);
+    try_other(b"read, map too short, other cycle", r, 576, 749);
+    try_other(b"read, state out of bounds, other cycle", beyond, 576, 750);
+    try_other(b"read, other cycle, unknown tag", r, 576, 750);
+    try_field(b"read, unknown tag", r, &UNKNOWN[..]);
 }
 
+// Blocks of one sample: one that begins at sample 4,000,000, one at 0, one with a speed of 1501, another vehicle's.
 fn counts() {
     let full = reading_with(4_000_000, 4_000_000);
     let almost = reading_with(4_000_000, 3_999_999);
-    try_read(b"read, offered full", full, &NEXT[..], &CYCLE[..], 576, 750);
-    try_read(
-        b"read, offered full, first number wrong",
-        full,
-        &AGAIN[..],
-        &CYCLE[..],
-        576,
-        750,
-    );
-    try_read(
-        b"read, offered full, sample too fast",
-        full,
-        &FAST[..],
-        &CYCLE[..],
-        576,
-        750,
-    );
-    try_read(
-        b"read, passed over full",
-        full,
-        &FOREIGN[..],
-        &CYCLE[..],
-        576,
-        750,
-    );
-    try_read(
-        b"read, one more passed over",
-        almost,
-        &FOREIGN[..],
-        &CYCLE[..],
-        576,
-        750,
-    );
+    let next = b"\x05\x00\x1b00000000000000000\x00\x3d\x09\x00\x00\x64\x17\x70\xff\x88";
+    let again = b"\x05\x00\x1b00000000000000000\x00\x00\x00\x00\x00\x64\x17\x70\xff\x88";
+    let fast = b"\x05\x00\x1b00000000000000000\x00\x3d\x09\x00\x05\xdd\x17\x70\xff\x88";
+    let foreign = b"\x05\x00\x1b10000000000000000\x00\x00\x00\x00\x05\xdd\x17\x70\xff\x88";
+    try_field(b"read, offered full", full, next);
+    try_field(b"read, offered full, first number wrong", full, again);
+    try_field(b"read, offered full, sample too fast", full, fast);
+    try_field(b"read, passed over full", full, foreign);
+    try_field(b"read, one more passed over", almost, foreign);
 }
 
 fn main() {

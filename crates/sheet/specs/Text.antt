@@ -79,13 +79,19 @@ headLines f =
     let cycles : List ℕ = 99 ∷ 121 ∷ 99 ∷ 108 ∷ 101 ∷ 115 ∷ [] in
     line run (f .vehicle) ++ endLine (f .end) (f .counted) ++ line cycles (digits (f .cycles))
 
+-- outside, passed, drawn
+abbrev pub outsideWord : List ℕ
+outsideWord = 111 ∷ 117 ∷ 116 ∷ 115 ∷ 105 ∷ 100 ∷ 101 ∷ []
+
+abbrev pub passedWord : List ℕ
+passedWord = 112 ∷ 97 ∷ 115 ∷ 115 ∷ 101 ∷ 100 ∷ []
+
+abbrev pub drawnWord : List ℕ
+drawnWord = 100 ∷ 114 ∷ 97 ∷ 119 ∷ 110 ∷ []
+
 -- "`outside` total over all cycles, open one included; `passed` blocks passed over; `drawn` energy of counted samples"
 unfoldable pub countLines : Figures → List ℕ
-countLines f =
-    let outside : List ℕ = 111 ∷ 117 ∷ 116 ∷ 115 ∷ 105 ∷ 100 ∷ 101 ∷ [] in
-    let passed : List ℕ = 112 ∷ 97 ∷ 115 ∷ 115 ∷ 101 ∷ 100 ∷ [] in
-    let drawn : List ℕ = 100 ∷ 114 ∷ 97 ∷ 119 ∷ 110 ∷ [] in
-    line outside (signed (f .outside)) ++ line passed (digits (f .passed)) ++ line drawn (signed (f .drawn))
+countLines f = line outsideWord (signed (f .outside)) ++ line passedWord (digits (f .passed)) ++ line drawnWord (signed (f .drawn))
 
 -- "`weighted`; `range`; `ac` figure or `-`"; a refusal "ends the list"
 unfoldable pub closingLines : Figures → List ℕ

@@ -10,11 +10,12 @@ use Rattle.numbers.proofs.Signed.{sfits, read}
 use Rattle.rules.specs.declared.Charge.{Charge}
 use Rattle.rules.specs.Closing.{isCharge}
 use Rattle.rules.specs.Run.{finishedCycles}
+use Rattle.ledger.specs.Row.{energyIn, distanceIn}
 use Rattle.numbers.proofs.Tests.{settled-taken}
 use Rattle.consumption.specs.declared.Figure.{Figure}
 use Rattle.consumption.specs.declared.Closed.{Closed}
 use Rattle.closing.specs.Answers.{whole, refusalOf, closingOf}
-use Rattle.consumption.specs.Figures.{rechargedOf, rechargedBy}
+use Rattle.consumption.specs.Figures.{chargedBy, rechargedBy}
 use Rattle.closing.proofs.Grounds.{figure-refused, Standing, nothing-refused, whole-fits, whole-read, Charged, range-is, closing-charged, charge-most, recharged-is}
 use Rattle.closing.proofs.recharge.Statement.{statement}
 use Rattle.closing.proofs.recharge.Tie as tie
@@ -32,7 +33,9 @@ module _ (c : tie.Else1) where
 
   -- the figure, by the recharge
   abbrev by : Charge → Figure
-  by = rechargedOf (start .args .ledger .now) (finishedCycles (start .args .b .now) (start .args .run .counted)) E (start .args .amounts .after)
+  by =
+      let l = start .args .ledger .now in
+      chargedBy E (finishedCycles (start .args .b .now) (start .args .run .counted)) (energyIn l) (distanceIn l) (start .args .amounts .after)
 
   is-closing : found ≡ closingOf (start .args .run) (start .args .amounts) (start .args .b .now) (start .args .ledger .now) (start .args .map .now)
   is-closing = c .before .before .closing-of .ensures
@@ -80,7 +83,6 @@ recharged-requires c κs =
     )
 
 returns-2 : tie.Need-returns-2
-unfolding rechargedOf
 returns-2 c =
     let on = c .before .before in
     ap (by on) (sym (c .enum-told .given .1)) ∙ sym (settled-taken _ (taken on))
@@ -93,7 +95,7 @@ returns-3 c =
     let total = whole-read (facts on) _ (c .before .before .before .before .energy-all .ensures) in
     c .recharged .ensures
     ∙ (λ i. rechargedBy (range i) (total i) (after-read on i) (known .charge .given .0 .0))
-    ∙ recharged-is _ _ _ _ _
+    ∙ recharged-is _ _ _ _ _ _
     ∙ ap (by on) (sym (known .charge .given .1))
     ∙ sym (settled-taken _ (taken on))
 

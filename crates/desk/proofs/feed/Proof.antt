@@ -7,7 +7,7 @@ use borrow.Author.Needs.{needs}
 use borrow.Author.Tests.{not-true, not-false}
 use lib.ListN.{length}
 use Rattle.desk.specs.Feeding.{mostFields}
-use Rattle.desk.proofs.Turns.{too-many, open-size-all, not-yet, rest-size, read-then}
+use Rattle.desk.proofs.Onward.{too-many, open-size-all, not-yet, rest-size, read-then}
 use Rattle.desk.proofs.feed.Statement.{statement}
 use Rattle.desk.proofs.feed.Tie as tie
 

@@ -7,7 +7,7 @@ use borrow.Author.Needs.{needs}
 use lib.ListN.{length, take}
 use lib.Seq.{length-take-le}
 use Rattle.reader.specs.declared.AllAnswer.{AllAnswer}
-use Rattle.desk.proofs.Turns.{short-room, read-left, all-size}
+use Rattle.desk.proofs.Onward.{short-room, read-left, all-size}
 use Rattle.desk.proofs.read_on.Statement.{statement}
 use Rattle.desk.proofs.read_on.Tie as tie
 

@@ -7,7 +7,8 @@ use lib.ListN.{take}
 use lib.Seq.{length-take-le}
 use Rattle.desk.specs.declared.Fed.{Fed}
 use Rattle.desk.specs.Feeding.{Laid, Taken, laidOf, feedOf}
-use Rattle.intake.proofs.Fed.{feed-used, refused-turn, more-turn}
+use Rattle.desk.proofs.Onward.{feed-used}
+use Rattle.intake.proofs.Fed.{refused-turn, more-turn}
 use borrow.Author.Needs.{needs}
 use Rattle.intake.proofs.digest.Statement.{statement}
 use Rattle.intake.proofs.digest.Tie as tie
