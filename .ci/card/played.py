@@ -1,6 +1,6 @@
 #!/usr/bin/env python3
 """played.py prints what the program `played` is to print. The figures of every run stand in RUNS as they were worked out by hand; the script works them
-out a second time from document 01's sentences and fails where the two differ. The refusals were worked out by hand from the table of numbered answers."""
+out a second time from document 01's sentences and fails where the two differ."""
 
 # T = 2, one phase, points of 100: 40 positions to a cycle. A sample is (131 or 100, 6000, -120).
 POINTS, T, TIME = [100, 100, 100], 2, 20
@@ -63,38 +63,6 @@ RUNS = [
     (30, 40, 2565, range(0, 2565), (39, 40), (2, 2560, 64, 2560, 1843200000, 40, 40, 1, 1, 0)),
 ]
 
-# What is asked for, the number of the refusal, and what is wrong with it. Where two are named the first is answered.
-REFUSALS = [
-    # a start: 1 (lengths only), 2, 3. The broken end is the second of two phases that both end at 2.
-    ("start", 1, "a ledger of 575, a broken end"),
-    ("start", 1, "a map of 749, a broken end"),
-    ("start", 2, "a broken end, a tolerance of 101"),
-    ("start", 3, "a tolerance of 101"),
-    # in a started run 1 and 2 come before all others; a single sample: 7, 5
-    ("sample", 1, "a ledger number out of bounds, another cycle"),
-    ("sample", 2, "another cycle, 4000000 offered"),
-    ("sample", 7, "4000000 offered"),
-    ("sample", 7, "4000000 offered, a speed of 1501"),
-    ("sample", 5, "a speed of 1501"),
-    # a block: 8 for its length, then 6, 7, 5
-    ("block", 1, "a state out of bounds, another cycle"),
-    ("block", 2, "another cycle, 0 bytes"),
-    ("block", 8, "0 bytes"),
-    ("block", 8, "7 bytes"),
-    ("block", 8, "201 samples"),
-    ("block", 8, "0 bytes, first number wrong"),
-    ("block", 6, "first number wrong"),
-    ("block", 6, "first number wrong, 4000000 offered"),
-    ("block", 7, "4000000 offered"),
-    ("block", 7, "4000000 offered, a speed of 1501"),
-    ("block", 5, "a speed of 1501"),
-    # the figures of a started run have 1 and 2 alone
-    ("shown", 1, "a state out of bounds, another cycle"),
-    ("shown", 2, "another cycle"),
-    ("totals", 1, "a state out of bounds, another cycle"),
-    ("totals", 2, "another cycle"),
-]
-
 NAMES = ["end", "counted", "cycles", "outside", "drawn", "ones", "outside", "agree"]
 
 
@@ -104,8 +72,6 @@ def main():
         figures = [f"{name} {n}" for name, n in zip(NAMES, worked)] + [f"position {p} set {n}" for p, n in zip(asked, worked[8:])]
         for how in "samples", "blocks":
             print(f"{how}, s {s}, allowance {allowance}, offered {offered}, fast from {fast.start} upto {fast.stop}: " + ", ".join(figures))
-    for what, number, fault in REFUSALS:
-        print(f"{what} {number}: {fault}")
 
 
 if __name__ == "__main__":

@@ -172,14 +172,14 @@ pub fn close(ledger: &[i64], n: usize, total: i64) -> Closed
     finish(ledger, n, total as u64)
 }
 
-// The recharge figure before its last division, in two steps: of total = a × range + b, b's part first.
-fn divided(total: u64, after: u64, wh: u64, range: u64) -> Ratio
+// E × A × 1,000,000 by the range, then by `both`, which is E + F: of total = a × range + b, b's part first.
+fn divided(total: u64, both: u64, wh: u64, range: u64) -> Ratio
     requires { ⌜ (wh ≤ 2_000_000) × (1 ≤ range) × (range < 2 ^ 51) ⌝ }
-    ensures { λ s. ⌜ s ≡ ratio (total * wh * 1000000 / range) after ⌝ }
+    ensures { λ s. ⌜ s ≡ ratio (total * wh * 1000000 / range) both ⌝ }
 {
     let y = wh * 1_000_000;
     match wide::muldiv(total % range, y, range) {
-        Ratio::Is(t, _) => wide::more(wide::whole(t, after), total / range, y, after),
+        Ratio::Is(t, _) => wide::more(wide::whole(t, both), total / range, y, both),
         Ratio::Over => Ratio::Over,
     }
 }

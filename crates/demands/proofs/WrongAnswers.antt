@@ -1,4 +1,4 @@
--- Wrong programs for the functions of `reader` that hold no loop and no test worth an edit: any program that answers so breaks the contract.
+-- Wrong programs for functions that hold no loop and no test worth an edit: any program that answers so breaks the contract.
 -- Assumes nothing.
 use mathlib.Core.Bool.{Bool, true, false, false≢true}
 use mathlib.Core.List.{List}
@@ -10,6 +10,9 @@ use lib.Dec.{eqb}
 use lib.ListN.{getD, replicate}
 use Rattle.numbers.specs.Tests.{unless}
 use Rattle.opening.specs.declared.Opening.{Opening}
+use Rattle.opening.specs.declared.OpenAnswer.{OpenAnswer}
+use Rattle.opening.specs.declared.OpenStep.the-variants as step
+use Rattle.opening.proofs.refused_at
 use Rattle.reading.specs.declared.Reading.{Reading}
 use Rattle.reader.specs.declared.Ending.the-variants.{Whole, Refused}
 use Rattle.reader.specs.Answers.{endingOf}
@@ -17,6 +20,14 @@ use Rattle.reader.proofs.blank
 use Rattle.reader.proofs.reading_of
 use Rattle.reader.proofs.ended
 use Rattle.demands.proofs.NoDoubt.{Call}
+
+-- a refusal that is another's number, or no refusal at all
+module _ (c : Call refused_at.ended refused_at.Reads.Learnt) where
+  pub refused-another-number-breaks : (n : ℕ) → (n ≡ c .args .1 .0 → ⊥) → c .answer .step ≡ step.Refused n → ⊥
+  refused-another-number-breaks n h e = let z : step.Refused n ≡ step.Refused (c .args .1 .0) = sym e ∙ ap (λ (x : OpenAnswer). x .step) (c .kept) in h cc
+
+  pub refused-as-incomplete-breaks : c .answer .step ≡ step.Incomplete → ⊥
+  refused-as-incomplete-breaks e = let z : step.Incomplete ≡ step.Refused (c .args .1 .0) = sym e ∙ ap (λ (x : OpenAnswer). x .step) (c .kept) in false≢true cc
 
 -- an opening whose vehicle is seventeen bytes of 0, or that has a cycle already
 module _ (c : Call blank.ended blank.Reads.Learnt) where

@@ -60,12 +60,3 @@ pub fn position(map: &[u64], p: usize) {
     named(b", position ", p as u64);
     named(b" set ", map::is_set(map, p) as u64);
 }
-
-// What is asked, the number of its refusal, and the faults.
-pub fn refusal(what: &[u8], number: u32, faults: &[u8]) {
-    text(what);
-    named(b" ", number as u64);
-    text(b": ");
-    text(faults);
-    text(b"\n");
-}

@@ -1,4 +1,8 @@
-// Refusals that no record brings, each by itself and beside its neighbour in document 01's order: 1 and 2 of lent memory, state and cycle, and 7.
+// Refusals that no record brings, each by itself and beside its neighbour in document 01's order: of the reader here, of the judge and of the desk in
+// their modules.
+mod of_desk;
+mod of_judge;
+
 use libc::STDOUT_FILENO;
 use opening::OpenStep;
 use opening::Opening;
@@ -184,4 +188,9 @@ fn main() {
     openings();
     grounds();
     counts();
+    of_judge::starts();
+    of_judge::samples();
+    of_judge::blocks();
+    of_judge::figures();
+    of_desk::closings();
 }

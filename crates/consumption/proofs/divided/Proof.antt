@@ -41,7 +41,7 @@ returns c =
     let t = is-quotient _ _ _ _ (sym (k .t .given .1) ∙ k .before .before .muldiv .ensures) in
     c .more .ensures
     ∙ rw (c .before .whole .ensures) (more-is _ _ _ _)
-    ∙ ap (λ (n : ℕ). ratio n (a .after)) (ap (λ (n : ℕ). n + a .total / a .range * (a .wh * 1000000)) t ∙ by-parts (a .total) (a .wh) (a .range) (omega arith))
+    ∙ ap (λ (n : ℕ). ratio n (a .both)) (ap (λ (n : ℕ). n + a .total / a .range * (a .wh * 1000000)) t ∙ by-parts (a .total) (a .wh) (a .range) (omega arith))
 
 returns-2 : tie.Need-returns-2
 returns-2 c =
