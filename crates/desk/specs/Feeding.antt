@@ -150,7 +150,7 @@ mostFields = 8_000_008
 abbrev pub thenRead : Taken → List ℕ → Taken
 thenRead y i = cond (y .laid .desk .started) (behind (y .used) (readOn (y .laid) (drop (y .used) i))) y
 
--- "works through its bytes field by field": until the start and after it
+-- the input is worked through field by field: until the start and after it
 unfoldable pub feedOf : Laid → List ℕ → Taken
 feedOf x i = unless (stops x (Refused 1)) (leb (x .desk .fields) mostFields) (thenRead (openUpto 4 x i) i)
 

@@ -43,7 +43,7 @@ heldBy (outcome.Refused k) used upto = 0
 abbrev pub turnOf : Taken → ℕ → ℕ → Turn
 turnOf x upto left = record { turned = turnedBy (x .outcome); desk = x .laid .desk; held = heldBy (x .outcome) (x .used) upto; left = left }
 
--- "bytes are moved to the front only when a field is unfinished": those that the desk did not take
+-- what the desk did not take, an unfinished field, moves to the front
 abbrev pub bufferBy : Outcome → ℕ → ℕ → List ℕ → List ℕ
 bufferBy More used upto buffer = paste buffer 0 (drop used buffer) (upto - used)
 bufferBy (outcome.Refused k) used upto buffer = buffer
