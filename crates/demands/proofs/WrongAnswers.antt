@@ -1,21 +1,18 @@
 -- Wrong programs for functions that hold no loop and no test worth an edit: any program that answers so breaks the contract.
 -- Assumes nothing.
-use mathlib.Core.Bool.{Bool, true, false, false≢true}
+use mathlib.Core.Bool.{false, false≢true}
 use mathlib.Core.List.{List}
-use mathlib.Core.Path.{_≡_, refl, sym, ap, _∙_}
+use mathlib.Core.Path.{_≡_, sym, ap, _∙_}
 use Prim.Native.Nat.{ℕ, suc}
 use native.Mathlib.Omega.{arith}
-use borrow.Author.Tests.{eqb-true}
-use lib.Dec.{eqb}
 use lib.ListN.{getD, replicate}
-use Rattle.numbers.specs.Tests.{unless}
 use Rattle.opening.specs.declared.Opening.{Opening}
 use Rattle.opening.specs.declared.OpenAnswer.{OpenAnswer}
 use Rattle.opening.specs.declared.OpenStep.the-variants as step
 use Rattle.opening.proofs.refused_at
 use Rattle.reading.specs.declared.Reading.{Reading}
 use Rattle.reader.specs.declared.Ending.the-variants.{Whole, Refused}
-use Rattle.reader.specs.Answers.{endingOf}
+use Rattle.reader.proofs.Endings.{only-whole}
 use Rattle.reader.proofs.blank
 use Rattle.reader.proofs.reading_of
 use Rattle.reader.proofs.ended
@@ -48,15 +45,6 @@ module _ (c : Call reading_of.ended reading_of.Reads.Learnt) where
   reading-with-one-passed-breaks n e = let z : suc n ≡ 0 = sym e ∙ ap (λ (r : Reading). r .passed) (c .kept) in omega arith
 
 -- an end that is let by before the start, or inside a field
-only-whole : (s : Bool) (n : ℕ) → endingOf s n ≡ Whole → (s ≡ true) × (n ≡ 0)
-unfolding endingOf unless
-only-whole true n e = (refl, go (eqb n 0) refl e)
-  where
-    go : (t : Bool) → eqb n 0 ≡ t → unless (Refused 15) t Whole ≡ Whole → n ≡ 0
-    go true p f = eqb-true n 0 p
-    go false p f = absurd (false≢true cc)
-only-whole false n e = absurd (false≢true cc)
-
 module _ (c : Call ended.ended ended.Reads.Learnt) where
   pub ended-before-the-start-breaks : c .args .0 ≡ false → c .answer ≡ Whole → ⊥
   ended-before-the-start-breaks s e = false≢true (sym s ∙ only-whole (c .args .0) (c .args .1 .0) (sym (c .kept) ∙ e) .0)

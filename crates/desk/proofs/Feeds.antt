@@ -6,7 +6,7 @@ use mathlib.Core.List.{List, _++_}
 use mathlib.Core.Path.{_≡_, refl, sym, ap, subst, subst⁻¹, _∙_}
 use Prim.Native.Nat.{ℕ, suc, _+_, _-_, _≤_, _<_}
 use native.Mathlib.Omega.{arith}
-use borrow.Author.Tests.{le-leb, eqb-true, eqb-false}
+use borrow.Author.Tests.{le-leb, eqb-false}
 use lib.Dec.{eqb}
 use lib.IntN.{ℤ}
 use lib.ListN.{length, take, drop}
@@ -21,6 +21,7 @@ use Rattle.reading.specs.Answers.{offeredOf, takeBlock, taleOf, readGround, rea
 use Rattle.reader.specs.Answers.{endingOf}
 use Rattle.reader.specs.declared.Ending.{Ending}
 use Rattle.reader.specs.declared.Ending.the-variants as ended
+use Rattle.reader.proofs.Endings.{only-whole}
 use Rattle.records.specs.Records.{refused, sheetOf}
 use Rattle.reading.proofs.Onwards.{Ends}
 use Rattle.reading.proofs.Accepted.{last-ends}
@@ -160,11 +161,6 @@ module _ (lent : Lent) where
         go true s true e f = absurd (false≢true cc)
 
     pub feed-ended-whole : ending ≡ ended.Whole → HandedAll
-    unfolding endingOf unless
-    feed-ended-whole = go (feedOf x i .laid .desk .started) refl (eqb (length i - feedOf x i .used) 0) refl
-      where
-        go : (s : Bool) → feedOf x i .laid .desk .started ≡ s → (t : Bool) → eqb (length i - feedOf x i .used) 0 ≡ t
-            → unless (ended.Refused 15) s (unless (ended.Refused 15) t ended.Whole) ≡ ended.Whole → HandedAll
-        go false s t e f = absurd (false≢true cc)
-        go true s false e f = absurd (false≢true cc)
-        go true s true e f = feed-whole s (let z = eqb-true (length i - feedOf x i .used) 0 e in omega (arith, feed-within))
+    feed-ended-whole e =
+        let (s, z) = only-whole (feedOf x i .laid .desk .started) (length i - feedOf x i .used) e in
+        feed-whole s (omega (arith, feed-within))

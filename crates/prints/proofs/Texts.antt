@@ -1,6 +1,5 @@
 -- A text that is printed at the front of the lent lines, and the text of a desk where the input ends.
 -- Assumes nothing.
-use mathlib.Core.Bool.{Bool, true, false, false≢true}
 use mathlib.Core.List.{List}
 use mathlib.Core.Path.{_≡_, refl, sym, ap, ap₂, subst, _∙_}
 use Prim.Native.Nat.{ℕ, _+_, _≤_}
@@ -11,7 +10,6 @@ use lib.Seq.{take-at}
 use Rattle.numbers.specs.Tests.{unless}
 use Rattle.numbers.proofs.Tests.{pass, settled-taken, settled-refused}
 use Rattle.reader.specs.declared.Ending.{Ending}
-use Rattle.reader.specs.declared.Ending.the-variants as ending
 use Rattle.reader.specs.Answers.{endingOf}
 use Rattle.sheet.specs.Laid.{laid}
 use Rattle.sheet.specs.Text.{mostSheet}
@@ -44,9 +42,3 @@ module _ (x : Laid) (left : ℕ) where
   pub by-ending : deskGround x ≡ 0 → (s y : Ending) → s ≡ endingOf (x .desk .started) left → s ≡ y → textBy y x ≡ closeText x left
   unfolding closeText
   by-ending g s y e p = ap (λ (z : Ending). textBy z x) (sym p ∙ e) ∙ sym (settled-taken _ g)
-
--- the input may end only after the start
-pub started-whole : (s : Bool) (n : ℕ) → endingOf s n ≡ ending.Whole → s ≡ true
-unfolding endingOf unless
-started-whole true n e = refl
-started-whole false n e = absurd (false≢true cc)

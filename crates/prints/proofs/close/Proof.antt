@@ -2,9 +2,10 @@
 -- Assumes nothing.
 use mathlib.Core.Path.{_≡_, sym, _∙_}
 use borrow.Author.Needs.{needs}
+use Rattle.reader.proofs.Endings.{only-whole}
 use Rattle.desk.specs.Feeding.{Laid, laidOf, deskGround}
 use Rattle.desk.proofs.Grounds.{cycle-fits}
-use Rattle.prints.proofs.Texts.{as-text, desk-refused, by-ending, started-whole}
+use Rattle.prints.proofs.Texts.{as-text, desk-refused, by-ending}
 use Rattle.prints.proofs.close.Statement.{statement}
 use Rattle.prints.proofs.close.Tie as tie
 
@@ -51,7 +52,7 @@ print-run-requires c κs =
     let told = c .before in
     let end = told .before .before in
     let s = entry (end .before .before) in
-    cycle-fits (laid s) (passed (end .before)) (started-whole (s .args .desk .started) (s .args .left) (sym (end .ended .ensures) ∙ told .enum-told .given .1))
+    cycle-fits (laid s) (passed (end .before)) (only-whole (s .args .desk .started) (s .args .left) (sym (end .ended .ensures) ∙ told .enum-told .given .1) .0)
 
 same-length-2 : tie.Need-same-length-2
 same-length-2 c = search needs
