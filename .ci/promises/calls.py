@@ -3,6 +3,13 @@ import glob
 import re
 
 
+def line_of(edit):
+    """The file that the edit changes, and the line of it."""
+    crate, name = edit.split("/")
+    lines = open(f"crates/{crate}/must-fail/{name}.edit").read().splitlines()
+    return lines[0].split(": ")[1], lines[1][len("old: "):]
+
+
 def functions_of(path):
     """Name and text of each function, in order."""
     text = open(path).read()
@@ -47,10 +54,16 @@ class Calls:
 
     def runs(self, function, edit):
         """Whether what the edit changes is a part of the function, or of one that it calls; of a definition, whether its crate has such a function."""
-        crate, name = edit.split("/")
-        lines = open(f"crates/{crate}/must-fail/{name}.edit").read().splitlines()
-        file, old = lines[0].split(": ")[1], lines[1][len("old: "):]
+        crate = edit.split("/")[0]
+        file, old = line_of(edit)
         reached = self.reached(function.split("::")[0], function.split("::")[-1])
         if not file.startswith("src/"):
             return any(f[0] == crate for f in reached)
         return any(old in self.text[f] for f in reached if f[:2] == (crate, file[len("src/"):]))
+
+    def is_own(self, function, edit):
+        """Whether the line that the edit changes stands in the function itself, in its contract or its body."""
+        crate, *modules, name = function.split("::")
+        source = f"{modules[-1] if modules else 'lib'}.rt"
+        file, old = line_of(edit)
+        return edit.split("/")[0] == crate and file == f"src/{source}" and old in self.text.get((crate, source, name), "").split("\n}\n")[0]
