@@ -4,6 +4,8 @@
 
 #include "paperwhelk.h"
 
+_Static_assert(PAPERWHELK_VERSION >= 1, "the header names its version");
+
 static uint8_t bytes[8192];
 
 /* the bytes of a cycle of one phase, T seconds and level points; how many they are */
@@ -21,13 +23,17 @@ static size_t level(unsigned seconds, unsigned point) {
 
 static int wrong;
 
-static void row(const char *what, size_t length, uint32_t s, uint32_t w, uint32_t a, uint32_t p, uint32_t v, int32_t is) {
-    int32_t answer = paperwhelk_verdict(bytes, length, s, w, a, p, v);
+static void ask(const char *what, const uint8_t *cycle, size_t length, uint32_t s, uint32_t w, uint32_t a, uint32_t p, uint32_t v, int32_t is) {
+    int32_t answer = paperwhelk_verdict(cycle, length, s, w, a, p, v);
     printf("%s: %d\n", what, answer);
     if (answer != is) {
         printf("    document 01 gives %d\n", is);
         wrong = 1;
     }
+}
+
+static void row(const char *what, size_t length, uint32_t s, uint32_t w, uint32_t a, uint32_t p, uint32_t v, int32_t is) {
+    ask(what, bytes, length, s, w, a, p, v, is);
 }
 
 int main(void) {
@@ -46,6 +52,8 @@ int main(void) {
     row("0 100 0, p 10, w 20, 131", 9, 30, 20, 300, 10, 131, 2);
 
     row("no bytes", 0, 30, 20, 300, 0, 0, -2);
+    ask("no bytes, NULL", NULL, 0, 30, 20, 300, 0, 0, -2);
+    ask("no bytes, NULL, every other fault", NULL, 0, 101, 41, 1201, UINT32_MAX, UINT32_MAX, -2);
     row("one byte short", 8, 30, 20, 300, 0, 0, -2);
     row("one byte more", 10, 30, 20, 300, 0, 0, -2);
     size_t one = level(1, 100);
