@@ -1,17 +1,17 @@
 // The rows of the test card that a program runs: records from standard input, each behind its length (4 bytes), and their sheets, each with an empty
 // line behind it.
+use edges::fill_whole;
+use edges::say;
+use edges::tell;
 use intake::print;
 use intake::skip;
 use intake::take_record;
-use libc::STDIN_FILENO;
-use libc::STDOUT_FILENO;
 use numbers::read32;
 
 // How many bytes the next record has; more than any where there is none.
 fn next_length() -> u64 {
     let mut bytes = [0u8; 4];
-    let got = io::read_full(STDIN_FILENO, &mut bytes[..]);
-    if got < 4 {
+    if !fill_whole(&mut bytes[..]) {
         return 18_446_744_073_709_551_615;
     }
     read32(&bytes[..], 0) as u64
@@ -30,7 +30,6 @@ fn next_record(
         return false;
     }
     let x = take_record(
-        STDIN_FILENO,
         length,
         &mut *buffer,
         &mut *room,
@@ -39,10 +38,15 @@ fn next_record(
         &mut *lines,
     );
     if x.failed {
+        tell(b"card: the input could not be read\n");
         return false;
     }
-    skip(STDIN_FILENO, x.left, &mut *buffer);
-    print(STDOUT_FILENO, &lines[..], x.printed) && io::write_all(STDOUT_FILENO, b"\n")
+    skip(x.left, &mut *buffer);
+    let out = print(&lines[..], x.printed) && say(b"\n");
+    if !out {
+        tell(b"card: the output was lost\n");
+    }
+    out
 }
 
 // A proved loop has to end, and nothing says that the input does: it counts down from a number that no run uses up.

@@ -3,10 +3,8 @@
 use mathlib.Core.Bool.{false≢true}
 use mathlib.Core.List.{List, [], _++_, append-assoc}
 use mathlib.Core.Path.{_≡_, refl, sym, ap, subst, _∙_}
-use Prim.Native.Nat.{ℕ, suc, _-_, _≤_, _<_}
-use native.Mathlib.Omega.{arith}
+use Prim.Native.Nat.{ℕ, suc, _-_, _≤_}
 use lib.ListN.{length, take, drop, length-drop, take-append-drop}
-use lib.Dec.{lit<}
 use Rattle.numbers.specs.Tests.{unless}
 use Rattle.reader.specs.declared.Ending.the-variants as ended
 use Rattle.opening.specs.Opening.{OpenRead}
@@ -17,10 +15,9 @@ use Rattle.records.proofs.Calls.{Lent}
 use Rattle.records.proofs.Records.{Handed, until-ready, never-refused-1-or-2}
 use Rattle.desk.specs.declared.Outcome.the-variants.{More, Refused}
 use Rattle.desk.specs.Feeding.{Laid, laidOf, emptyDesk, cycleOf, feedOf, mostFields, deskGround}
-use Rattle.desk.proofs.Short.{longest}
 use Rattle.desk.proofs.Grounds.{of-opening, of-reading}
 use Rattle.desk.proofs.Standing.{Stands, opens, reads, stands-empty}
-use Rattle.desk.proofs.Feeds.{stands-few, stands-on, feed-refused, feed-more-short, feed-ended-refused, feed-ended-whole}
+use Rattle.desk.proofs.Feeds.{stands-few, stands-on, feed-refused, feed-ended-refused, feed-ended-whole}
 
 -- a record's desk has no 1 or 2: "such a call is never refused 1 or 2"
 pub stands-ground : (lent : Lent) {p : List ℕ} {x : Laid} → Stands lent p x → deskGround x ≡ 0
@@ -41,8 +38,6 @@ module _ (lent : Lent) where
     pub taken : List ℕ
     pub stands : Stands lent taken x
     pub bytes : taken ++ rest ≡ w
-    -- so a buffer that is as long as the longest field has place for more
-    pub short : length rest < longest
     -- what `reader::ended` says here is what becomes of a record that ends here
     pub ends-refused : (k : ℕ) → endingOf (x .desk .started) (length rest) ≡ ended.Refused k → sheetOf w ≡ refused k (suc (x .desk .fields))
     pub ends-whole : endingOf (x .desk .started) (length rest) ≡ ended.Whole → Handed lent w (cycleOf x) (x .desk .reading) (x .ledger) (x .map)
@@ -53,7 +48,6 @@ module _ (lent : Lent) where
     taken = [];
     stands = stands-empty lent;
     bytes = refl;
-    short = lit< tt;
     ends-refused = λ k e. let same : 15 ≡ k = cc in sheet-empty ∙ ap (λ (n : ℕ). refused n 1) same;
     ends-whole = λ e. absurd (false≢true cc);
   }
@@ -74,7 +68,6 @@ module _ (lent : Lent) where
           taken = h .taken ++ take (y .used) input;
           stands = stands-on lent (h .stands) input;
           bytes = append-assoc (h .taken) (take (y .used) input) (drop (y .used) input) ∙ ap (λ (q : List ℕ). h .taken ++ q) (take-append-drop (y .used) input) ∙ whole;
-          short = omega (arith, left, feed-more-short lent (h .stands) input m);
           ends-refused = λ k e. ap sheetOf (sym whole) ∙ feed-ended-refused lent (h .stands) input m k (ap (endingOf (y .laid .desk .started)) (sym left) ∙ e);
           ends-whole =
               λ e.

@@ -34,7 +34,6 @@ use Rattle.desk.specs.declared.Outcome.{Outcome}
 use Rattle.desk.specs.declared.Outcome.the-variants.{More, Refused}
 use Rattle.desk.specs.Feeding.{Laid, Taken, laidOf, stops, behind, openUpto, outcomeOf, cycleOf, readOn, mostFields, thenRead, feedOf}
 use Rattle.desk.proofs.Onward.{all-size}
-use Rattle.desk.proofs.Short.{longest, all-short}
 use Rattle.desk.proofs.Few.{since-few}
 use Rattle.desk.proofs.Standing.{Stands, opens, reads, more-not-refused, Became, Fully, fully-on}
 use Rattle.desk.proofs.FirstFields.{open-became}
@@ -46,13 +45,13 @@ outcome-refused (step.Passed n) k e = absurd (more-not-refused k e)
 outcome-refused step.Incomplete k e = absurd (more-not-refused k e)
 outcome-refused (step.Refused n) k e = let f : n ≡ k = cc in ap step.Refused f
 
-outcome-more : (s : Step) → Ends s → outcomeOf s ≡ More → s ≡ step.Incomplete
+pub outcome-more : (s : Step) → Ends s → outcomeOf s ≡ More → s ≡ step.Incomplete
 outcome-more (step.Taken n) h e = absurd (h n refl)
 outcome-more (step.Passed n) h e = absurd (h n refl)
 outcome-more step.Incomplete h e = refl
 outcome-more (step.Refused k) h e = absurd (more-not-refused k (sym e))
 
-all-ended : (r : Reading) (b : List ℕ) (l : List ℤ) (m i : List ℕ) → Ends (readAllOf r b l m i .last)
+pub all-ended : (r : Reading) (b : List ℕ) (l : List ℤ) (m i : List ℕ) → Ends (readAllOf r b l m i .last)
 unfolding readAllOf
 all-ended r b l m i = go (eqb (readGround r b l m) 0)
   where
@@ -71,9 +70,7 @@ module _ (lent : Lent) where
           size = all-size (d .reading) (take (d .opening .cycle) room) l m i .1;
           refusal = λ k e q. all-refused-longer lent h i q k (outcome-refused _ k e);
           waits = λ _ e. absurd (false≢true (sym e ∙ s));
-          short = λ _ e. absurd (false≢true (sym e ∙ s));
         };
-        rest = λ e. all-short (d .reading) (take (d .opening .cycle) room) l m i (outcome-more _ (all-ended (d .reading) (take (d .opening .cycle) room) l m i) e);
         left = λ e u. all-incomplete lent h i (outcome-more _ (all-ended (d .reading) (take (d .opening .cycle) room) l m i) e) u;
       })
 
@@ -82,7 +79,7 @@ module _ (lent : Lent) where
       → Fully lent p i (thenRead (record { laid = x; used = u; outcome = o }) i)
   then-became p q i x u o (opens {room = room} {d = d} s h f) e b =
       subst⁻¹ (λ (t : Bool). Fully lent p i (cond t (behind u (readOn (laidOf d room (lent .l₀) (lent .m₀)) (drop u i))) (record { laid = laidOf d room (lent .l₀) (lent .m₀); used = u; outcome = o }))) s
-      (record { became = b; rest = λ k. b .short k s; left = λ k _. b .waits k s })
+      (record { became = b; left = λ k _. b .waits k s })
   then-became p q i x u o (reads {room = room} {d = d} {l = l} {m = m} s g h) e b =
       subst⁻¹ (λ (t : Bool). Fully lent p i (cond t (behind u (readOn (laidOf d room l m) (drop u i))) (record { laid = laidOf d room l m; used = u; outcome = o }))) s
       (fully-on lent p i u (b .size) _
@@ -127,10 +124,6 @@ module _ (lent : Lent) where
 
     pub feed-more-left : feedOf x i .outcome ≡ More → feedOf x i .used < length i → sheetOf (p ++ i) ≡ refused 15 (suc (feedOf x i .laid .desk .fields))
     feed-more-left = fed .left
-
-    -- what is left over is shorter than the longest field
-    pub feed-more-short : feedOf x i .outcome ≡ More → length i < feedOf x i .used + longest
-    feed-more-short = fed .rest
 
     -- where the run has started and nothing is left over, it is told, and the run is that of its samples
     abbrev HandedAll : Type 0

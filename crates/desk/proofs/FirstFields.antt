@@ -3,7 +3,7 @@
 use mathlib.Core.Bool.{Bool, true, false, cond, false≢true}
 use mathlib.Core.List.{List, _++_}
 use mathlib.Core.Path.{_≡_, refl, sym, ap, subst⁻¹, _∙_}
-use Prim.Native.Nat.{ℕ, zero, suc, _+_, _≤_, _<_}
+use Prim.Native.Nat.{ℕ, zero, suc, _+_, _≤_}
 use native.Mathlib.Omega.{arith}
 use borrow.Author.Tests.{ne-eqb}
 use lib.Dec.{eqb}
@@ -33,7 +33,6 @@ use Rattle.desk.specs.declared.Outcome.the-variants.{More, Refused}
 use Rattle.desk.specs.Feeding.{Laid, Taken, laidOf, stops, behind, opensTo, openOne, goOn, openUpto}
 use Rattle.desk.proofs.Grounds.{opens-nothing}
 use Rattle.desk.proofs.Turns.{accepted-size}
-use Rattle.desk.proofs.Short.{longest, open-short}
 use Rattle.desk.proofs.Standing.{more-not-refused, Stands, opens, reads, Became, became-on, nothing-taken}
 
 module _ (lent : Lent) where
@@ -93,11 +92,11 @@ module _ (lent : Lent) where
       -- none is
       ends : (o : Outcome) → b ≡ begunOf (d .opening) room
           → ((k : ℕ) → o ≡ Refused k → (q : List ℕ) → sheetOf (p ++ (i ++ q)) ≡ refused k (suc (d .opening .fields)))
-          → (o ≡ More → sheetOf (p ++ i) ≡ refused 15 (suc (d .opening .fields))) → (o ≡ More → length i < longest)
+          → (o ≡ More → sheetOf (p ++ i) ≡ refused 15 (suc (d .opening .fields)))
           → Became lent p i (stops (laidOf d (b .kept .room) l₀ m₀) o)
-      ends o same r w g =
+      ends o same r w =
           subst⁻¹ (λ (k : Begun Held). Became lent p i (stops (laidOf d (k .kept .room) l₀ m₀) o)) same
-          (nothing-taken lent p i x o (opens s h f) (λ k e q. r k e q ∙ ap (λ (c : ℕ). refused k (suc c)) (sym f)) (λ e _. w e ∙ ap (λ (c : ℕ). refused 15 (suc c)) (sym f)) (λ e _. g e))
+          (nothing-taken lent p i x o (opens s h f) (λ k e q. r k e q ∙ ap (λ (c : ℕ). refused k (suc c)) (sym f)) (λ e _. w e ∙ ap (λ (c : ℕ). refused 15 (suc c)) (sym f)))
 
       go : (s : OpenStep) → openOf (d .opening) room l₀ m₀ i .step ≡ s → Became lent p i (after s)
       go (opening.Taken c) e =
@@ -118,14 +117,13 @@ module _ (lent : Lent) where
           (reads refl long (started-by h i c r e))) in
           takes c _ _ (accepted-size (d .opening) room l₀ m₀ i c (rw e refl))
           (subst⁻¹ (Became lent (p ++ take c i) (drop c i)) (opens-nothing n (by (opening.Started c r) .laid) (drop c i) refl)
-          (nothing-taken lent (p ++ take c i) (drop c i) (by (opening.Started c r) .laid) More stands (λ k f. absurd (more-not-refused k f)) (λ _ f. absurd (false≢true (sym f))) (λ _ f. absurd (false≢true (sym f)))))
+          (nothing-taken lent (p ++ take c i) (drop c i) (by (opening.Started c r) .laid) More stands (λ k f. absurd (more-not-refused k f)) (λ _ f. absurd (false≢true (sym f)))))
       go opening.Incomplete e =
           ends More (open-changes-nothing (d .opening) room l₀ m₀ i (λ c u. rw e at u)) (λ k f. absurd (more-not-refused k f)) (λ _. open-incomplete lent h i e)
-          (λ _. open-short (d .opening) room l₀ m₀ i e)
       go (opening.Refused c) e =
           ends (Refused c) (open-changes-nothing (d .opening) room l₀ m₀ i (λ c u. rw e at u))
           (λ k f q. let same : c ≡ k = cc in open-refused-longer lent h i q k (e ∙ ap opening.Refused same))
-          (λ f. absurd (more-not-refused c (sym f))) (λ f. absurd (more-not-refused c (sym f)))
+          (λ f. absurd (more-not-refused c (sym f)))
 
   opens-all : (n : ℕ) → Opens n
   opens-all zero p room d i s h f g = let few = until-begins lent h .ready .few in absurd (omega arith)
@@ -135,4 +133,4 @@ module _ (lent : Lent) where
   open-became p i x (opens {room = room} {d = d} s h f) = opens-all 4 p room d i s h f (omega arith)
   open-became p i x (reads s g h) =
       subst⁻¹ (Became lent p i) (opens-nothing 4 _ i s)
-      (nothing-taken lent p i _ More (reads s g h) (λ k e. absurd (more-not-refused k e)) (λ _ e. absurd (false≢true (sym e ∙ s))) (λ _ e. absurd (false≢true (sym e ∙ s))))
+      (nothing-taken lent p i _ More (reads s g h) (λ k e. absurd (more-not-refused k e)) (λ _ e. absurd (false≢true (sym e ∙ s))))

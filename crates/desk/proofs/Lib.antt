@@ -7,6 +7,7 @@ pub mod Few
 pub mod Standing
 pub mod FirstFields
 pub mod Feeds
+pub mod LeftOver
 pub mod Arriving
 pub mod Promises
 pub mod FedAlone

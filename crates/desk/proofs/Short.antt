@@ -31,12 +31,9 @@ use Rattle.reading.specs.Reading.{Tale, Read, stepOf, brought, byFront, fieldAt
 use Rattle.opening.specs.Opening.{openRefusal, openByFront, openAt}
 use Rattle.opening.specs.Answers.{hold, cycleIn, begunOf, openGround, openOf}
 use Rattle.reading.specs.Answers.{offeredOf, takeBlock, taleOf, readGround, readAllOf}
+use Rattle.desk.specs.Feeding.{longest}
 use Rattle.reading.proofs.Onwards.{by-step}
 use Rattle.reading.proofs.Cuts.{field-size}
-
--- how many bytes the longest field has
-abbrev pub longest : ℕ
-longest = 4814
 
 not-finished : (i : List ℕ) → frontOf i ≡ incomplete → length i < longest
 unfolding frontOf unless

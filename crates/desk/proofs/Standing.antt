@@ -15,7 +15,6 @@ use Rattle.desk.specs.declared.Desk.{Desk}
 use Rattle.desk.specs.declared.Outcome.{Outcome}
 use Rattle.desk.specs.declared.Outcome.the-variants.{More, Refused}
 use Rattle.desk.specs.Feeding.{Laid, Taken, laidOf, emptyDesk, stops, behind}
-use Rattle.desk.proofs.Short.{longest}
 
 -- ---- bytes taken and bytes left
 module _ (p i : List ℕ) (n : ℕ) where
@@ -52,12 +51,10 @@ module _ (lent : Lent) where
     pub refusal : (k : ℕ) → y .outcome ≡ Refused k → (q : List ℕ) → sheetOf (p ++ (i ++ q)) ≡ refused k (suc (y .laid .desk .fields))
     -- where the run has not started
     pub waits : y .outcome ≡ More → y .laid .desk .started ≡ false → sheetOf (p ++ i) ≡ refused 15 (suc (y .laid .desk .fields))
-    pub short : y .outcome ≡ More → y .laid .desk .started ≡ false → length i < y .used + longest
 
   -- and where it has
   pub record Fully (p i : List ℕ) (y : Taken) : Type 0 where
     pub became : Became p i y
-    pub rest : y .outcome ≡ More → length i < y .used + longest
     pub left : y .outcome ≡ More → y .used < length i → sheetOf (p ++ i) ≡ refused 15 (suc (y .laid .desk .fields))
 
   -- behind the first n bytes of it
@@ -68,13 +65,11 @@ module _ (lent : Lent) where
       size = omega (arith, b .size, length-drop n i);
       refusal = λ k e q. ap sheetOf (sym (longer-on p i n q)) ∙ b .refusal k e q;
       waits = λ e f. ap sheetOf (sym (left-on p i n)) ∙ b .waits e f;
-      short = λ e f. let s = b .short e f in omega (arith, length-drop n i);
     }
 
     pub fully-on : Fully (p ++ take n i) (drop n i) y → Fully p i (behind n y)
     fully-on b = record {
       became = became-on (b .became);
-      rest = λ e. let s = b .rest e in omega (arith, length-drop n i);
       left = λ e g. ap sheetOf (sym (left-on p i n)) ∙ b .left e (omega (arith, length-drop n i));
     }
 
@@ -82,12 +77,10 @@ module _ (lent : Lent) where
   pub nothing-taken : (p i : List ℕ) (x : Laid) (o : Outcome) → Stands p x
       → ((k : ℕ) → o ≡ Refused k → (q : List ℕ) → sheetOf (p ++ (i ++ q)) ≡ refused k (suc (x .desk .fields)))
       → (o ≡ More → x .desk .started ≡ false → sheetOf (p ++ i) ≡ refused 15 (suc (x .desk .fields)))
-      → (o ≡ More → x .desk .started ≡ false → length i < longest)
       → Became p i (stops x o)
-  nothing-taken p i x o h r w g = record {
+  nothing-taken p i x o h r w = record {
     stands = subst (λ (q : List ℕ). Stands q x) (sym (append-nil p)) h;
     size = zero-le;
     refusal = r;
     waits = w;
-    short = g;
   }

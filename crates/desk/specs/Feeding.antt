@@ -17,7 +17,7 @@ use Rattle.opening.specs.declared.OpenStep.{OpenStep}
 use Rattle.opening.specs.declared.OpenStep.the-variants as opening
 use Rattle.reading.specs.Reading.{Read}
 use Rattle.opening.specs.Opening.{Opened}
-use Rattle.opening.specs.Answers.{Held, nothing, openingOf, openGround, openOf, memoryAfter}
+use Rattle.opening.specs.Answers.{Held, mostCycle, nothing, openingOf, openGround, openOf, memoryAfter}
 use Rattle.reading.specs.Answers.{startedReading, readingOf, readGround, readAllOf}
 pub use Rattle.desk.specs.declared.Desk.{Desk}
 pub use Rattle.desk.specs.declared.Outcome.{Outcome}
@@ -153,6 +153,10 @@ thenRead y i = cond (y .laid .desk .started) (behind (y .used) (readOn (y .laid)
 -- the input is worked through field by field: until the start and after it
 unfoldable pub feedOf : Laid → List ℕ → Taken
 feedOf x i = unless (stops x (Refused 1)) (leb (x .desk .fields) mostFields) (thenRead (openUpto 4 x i) i)
+
+-- how many bytes the longest field has: tag, length and the longest cycle
+abbrev pub longest : ℕ
+longest = 3 + mostCycle
 
 -- ---- before all else
 

@@ -1,24 +1,30 @@
 -- The bytes of a record as they come: what a turn leaves stands as the bytes that came say.
 -- Assumes nothing.
 use mathlib.Core.Bool.{true, false, false≢true}
-use mathlib.Core.List.{List, [], _++_}
+use mathlib.Core.List.{List, [], _∷_, _++_}
 use mathlib.Core.Path.{_≡_, refl, sym, ap, subst, subst⁻¹, _∙_}
+use mathlib.Core.Logic.{⊎-elim}
 use Prim.Native.Nat.{ℕ, _+_, _-_, _≤_, zero-le}
 use native.Mathlib.Nat.{zero-add}
 use native.Mathlib.Omega.{arith}
 use lib.IntN.{ℤ}
 use lib.ListN.{length, take, drop, length-append, length-drop}
 use lib.Seq.{paste, take-add, take-paste, length-take-le, drop-at}
+use Rattle.edges.specs.declared.Got.{Got}
+use Rattle.edges.specs.declared.Got.the-variants as got
+use types.Run.{OneOf}
+use denote.Enum.Declared.{tagOf}
 use Rattle.desk.specs.declared.Desk.{Desk}
 use Rattle.desk.specs.declared.Outcome.{Outcome}
 use Rattle.desk.specs.declared.Outcome.the-variants.{More, Refused as refused}
 use Rattle.desk.specs.Feeding.{Laid, Taken, laidOf, emptyDesk, feedOf}
-use Rattle.prints.specs.Printed.{refuseText, closeText}
-use Rattle.prints.proofs.Texts.{Prints, as-text}
+use Rattle.prints.specs.Printed.{Prints, refuseText, closeText}
+use Rattle.prints.proofs.Texts.{as-text}
 use Rattle.intake.specs.declared.Turn.{Turn}
 use Rattle.intake.specs.declared.Turned.{Turned}
+use Rattle.intake.proofs.Turned.{the-type as turned}
 use Rattle.intake.specs.declared.Turned.the-variants.{On, Ended, Failed, Refused}
-use Rattle.intake.specs.Turns.{turnedBy, heldBy, turnOf, bufferBy, bufferAfter, isOn, Came, none, part, outcomeBy, placeOf, onwards, Stood, textOf, Recorded}
+use Rattle.intake.specs.Turns.{turnedBy, heldBy, turnOf, bufferBy, bufferAfter, isOn, stoppedBy, Came, none, part, outcomeBy, placeOf, onwards, Stood, textOf, Recorded, Unread}
 use Rattle.desk.proofs.Onward.{feed-used}
 
 -- a turn that fed the desk says what the desk did
@@ -41,6 +47,19 @@ to-the-front u k b h g =
     between-places u k b h g
     ∙ sym (take-paste b 0 (drop u b) (k - u) zero-le (omega (arith, length-drop u b)))
     ∙ ap (λ (j : ℕ). take j (paste b 0 (drop u b) (k - u))) (zero-add (k - u))
+
+-- a reading that gave no bytes ends the turns, and refuses no field
+pub not-on : (g : Got) → isOn (stoppedBy g) ≡ false
+not-on (got.Bytes k) = refl
+not-on got.End = refl
+not-on got.Again = refl
+not-on got.Failed = refl
+
+pub no-refusal : (g : Got) → outcomeBy (stoppedBy g) ≡ More
+no-refusal (got.Bytes k) = refl
+no-refusal got.End = refl
+no-refusal got.Again = refl
+no-refusal got.Failed = refl
 
 -- before the first turn nothing came
 pub nothing-yet : (most : ℕ) (desk : Desk) (b room : List ℕ) (l : List ℤ) (m : List ℕ) → desk ≡ emptyDesk
@@ -129,27 +148,40 @@ module _ (x₀ : Laid) (most : ℕ) (out : List ℕ) (t : Turn) (b room : List �
   abbrev x : Laid
   x = laidOf (t .desk) room l m
 
-  recorded : (o : Outcome) → outcomeBy (t .turned) ≡ o → (n : ℕ) (after : List ℕ) → Prints (textOf o x (length (s .rest))) out n after
-      → Recorded x₀ most out (record { printed = n; left = t .left; failed = false }) room l m after
-  recorded o e n after p = record {
-    desk = t .desk;
-    bytes = s .bytes;
-    rest = s .rest;
-    outcome = o;
-    came = subst (Came x₀ (s .bytes) x (s .rest)) e (s .came);
-    all = s .all;
-    printed = p .0;
-    lines = p .1;
-  }
+  -- what is printed with the bytes held is what is printed with the rest: of a refusal neither has a part
+  same-text : (z : Turned) → (outcomeBy z ≡ More → length (s .rest) ≡ t .held) → textOf (outcomeBy z) x (t .held) ≡ textOf (outcomeBy z) x (length (s .rest))
+  same-text On h = ap (closeText x) (sym (h refl))
+  same-text Ended h = ap (closeText x) (sym (h refl))
+  same-text Failed h = ap (closeText x) (sym (h refl))
+  same-text (Refused k) h = refl
 
-  -- a field was refused
-  pub recorded-refused : (k : ℕ) → t .turned ≡ Refused k → {n : ℕ} {after : List ℕ} → Prints (refuseText x k) out n after
+  -- it was read, to its end or to a refused field
+  pub recorded : {n : ℕ} {after : List ℕ} → Prints (textOf (outcomeBy (t .turned)) x (t .held)) out n after
       → Recorded x₀ most out (record { printed = n; left = t .left; failed = false }) room l m after
-  recorded-refused k e p = recorded (refused k) (ap outcomeBy e) _ _ p
+  recorded p =
+      let q = as-text out (same-text (t .turned) (λ e. s .held e .1)) p in
+      record {
+        desk = t .desk;
+        bytes = s .bytes;
+        rest = s .rest;
+        outcome = outcomeBy (t .turned);
+        came = s .came;
+        all = s .all;
+        printed = q .0;
+        lines = q .1;
+      }
 
-  -- the input ended
-  pub recorded-closed : (z : Turned) → t .turned ≡ z → outcomeBy z ≡ More → {n : ℕ} {after : List ℕ} → Prints (closeText x (t .held)) out n after
-      → Recorded x₀ most out (record { printed = n; left = t .left; failed = false }) room l m after
-  recorded-closed z e f p =
-      let more = ap outcomeBy e ∙ f in
-      recorded More more _ _ (as-text out (ap (closeText x) (sym (s .held more .1))) p)
+-- no field was refused
+pub not-refused : (z : Turned) → OneOf (0 ∷ 1 ∷ 2 ∷ []) (tagOf turned z) → outcomeBy z ≡ More
+not-refused On h = refl
+not-refused Ended h = refl
+not-refused Failed h = refl
+not-refused (Refused k) h = absurd (⊎-elim (λ e. omega arith) (⊎-elim (λ e. omega arith) (λ e. omega arith)) h)
+
+-- nothing was read
+pub not-read : (most : ℕ) (out : List ℕ) (desk : Desk) (room : List ℕ) (l : List ℤ) (m : List ℕ) → desk ≡ emptyDesk → {n : ℕ} {after : List ℕ}
+    → Prints (refuseText (laidOf desk room l m) 1) out n after
+    → Unread (laidOf emptyDesk room l m) most out (record { printed = n; left = most; failed = false }) room l m after
+not-read most out desk room l m e p =
+    let q = as-text out (ap (λ (d : Desk). refuseText (laidOf d room l m) 1) e) p in
+    record { memory = refl; left = refl; read = refl; printed = q .0; lines = q .1 }

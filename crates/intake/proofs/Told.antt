@@ -8,7 +8,7 @@ use lib.Dec.{leb}
 use lib.IntN.{ℤ}
 use lib.ListN.{length, take, drop}
 use Rattle.numbers.specs.Tests.{unless}
-use Rattle.records.specs.Records.{sheetOf}
+use Rattle.records.specs.Records.{refused, sheetOf}
 use Rattle.records.proofs.Calls.{Lent}
 use Rattle.sheet.specs.Laid.{laid}
 use Rattle.sheet.specs.Text.{mostSheet}
@@ -20,7 +20,7 @@ use Rattle.prints.specs.Printed.{printed}
 use Rattle.prints.proofs.Texts.{text-is}
 use Rattle.prints.proofs.Printing.{report-prints, refusal-prints}
 use Rattle.intake.specs.declared.Intake.{Intake}
-use Rattle.intake.specs.Turns.{Came, none, part, textOf, Recorded}
+use Rattle.intake.specs.Turns.{Came, none, part, textOf, Recorded, Unread}
 
 -- on a room, a ledger and a map that are long enough
 module _ (lent : Lent) where
@@ -54,3 +54,8 @@ module _ (lent : Lent) where
       (c .printed ∙ ap (λ (t : Bool). cond t 0 (unless 0 (leb mostSheet (length out)) (length text))) e)
       (c .lines ∙ ap (λ (t : Bool). cond t out (unless out (leb mostSheet (length out)) (laid out 0 text))) e) h
       ∙ came-prints (c .came)
+
+  -- and where the buffer is too short for a field, a refusal before all else
+  pub short-buffer-prints : {most : ℕ} {out room after : List ℕ} {l : List ℤ} {m : List ℕ} {r : Intake} → Unread begin most out r room l m after
+      → mostSheet ≤ length out → take (r .printed) after ≡ printed (refused 1 1)
+  short-buffer-prints {out = out} u h = text-is _ out (u .printed) (u .lines) h

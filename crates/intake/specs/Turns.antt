@@ -4,7 +4,7 @@
 use mathlib.Core.Bool.{Bool, true, false, cond}
 use mathlib.Core.Path.{_≡_}
 use mathlib.Core.List.{List, [], _++_}
-use Prim.Native.Nat.{ℕ, _+_, _-_, _≤_, _<_}
+use Prim.Native.Nat.{ℕ, _+_, _-_, _<_}
 use lib.Dec.{leb}
 use lib.IntN.{ℤ}
 use lib.ListN.{length, take, drop}
@@ -13,23 +13,17 @@ use Rattle.numbers.specs.Tests.{unless}
 use Rattle.sheet.specs.Laid.{laid}
 use Rattle.sheet.specs.Text.{mostSheet}
 use Rattle.prints.specs.Printed.{refuseText, closeText}
+use Rattle.edges.specs.declared.Got.{Got}
+use Rattle.edges.specs.declared.Got.the-variants as got
 use Rattle.desk.specs.declared.Desk.{Desk}
 use Rattle.desk.specs.declared.Outcome.{Outcome}
 use Rattle.desk.specs.declared.Outcome.the-variants.{More}
 use Rattle.desk.specs.declared.Outcome.the-variants as outcome
-use Rattle.desk.specs.Feeding.{Laid, Taken, laidOf, feedOf}
-use Rattle.intake.specs.declared.Got.{Got}
-use Rattle.intake.specs.declared.Got.the-variants as got
+use Rattle.desk.specs.Feeding.{Laid, Taken, laidOf, feedOf, longest}
 use Rattle.intake.specs.declared.Intake.{Intake}
 use Rattle.intake.specs.declared.Turn.{Turn}
 use Rattle.intake.specs.declared.Turned.{Turned}
 use Rattle.intake.specs.declared.Turned.the-variants.{On, Ended, Failed, Refused}
-
--- at least one byte and at most n were read, or none
-abbrev pub Within : ℕ → Got → Type 0
-Within n (got.Bytes k) = (1 ≤ k) × (k ≤ n)
-Within n got.End = Unit {0}
-Within n got.Failed = Unit {0}
 
 -- a turn in which the desk was fed the first upto bytes of the buffer and took what x says: what became of it, and how many bytes are held
 abbrev pub turnedBy : Outcome → Turned
@@ -58,9 +52,23 @@ isOn Ended = false
 isOn Failed = false
 isOn (Refused k) = false
 
--- in a buffer of so many bytes, with n bytes left to read before: a turn that goes on leaves fewer
-pub record Goes (size n : ℕ) (t : Turn) : Type 0 where
-  pub held : t .held ≤ size
+-- reading failed
+abbrev pub isFailed : Turned → Bool
+isFailed On = false
+isFailed Ended = false
+isFailed Failed = true
+isFailed (Refused k) = false
+
+-- a reading that gave no bytes: only the end of the input ends a record, all else is a fault
+abbrev pub stoppedBy : Got → Turned
+stoppedBy (got.Bytes k) = Failed
+stoppedBy got.End = Ended
+stoppedBy got.Again = Failed
+stoppedBy got.Failed = Failed
+
+-- with n bytes left to read before: what is held is not as long as the longest field, and a turn that goes on leaves fewer bytes to read
+pub record Goes (n : ℕ) (t : Turn) : Type 0 where
+  pub held : t .held < longest
   pub falls : isOn (t .turned) ≡ true → t .left < n
 
 -- ---- the bytes of a record, as they come
@@ -123,3 +131,11 @@ pub record Recorded (x₀ : Laid) (most : ℕ) (out : List ℕ) (r : Intake) (ro
   -- where reading failed, nothing is printed
   pub printed : r .printed ≡ cond (r .failed) 0 (unless 0 (leb mostSheet (length out)) (length (textOf outcome (laidOf desk room ledger map) (length rest))))
   pub lines : after ≡ cond (r .failed) out (unless out (leb mostSheet (length out)) (laid out 0 (textOf outcome (laidOf desk room ledger map) (length rest))))
+
+-- nothing was read, since the buffer is too short for a field: memory stays, and the lines say `refused 1 field 1`
+pub record Unread (x₀ : Laid) (most : ℕ) (out : List ℕ) (r : Intake) (room : List ℕ) (ledger : List ℤ) (map after : List ℕ) : Type 0 where
+  pub memory : laidOf (x₀ .desk) room ledger map ≡ x₀
+  pub left : r .left ≡ most
+  pub read : r .failed ≡ false
+  pub printed : r .printed ≡ unless 0 (leb mostSheet (length out)) (length (refuseText x₀ 1))
+  pub lines : after ≡ unless out (leb mostSheet (length out)) (laid out 0 (refuseText x₀ 1))

@@ -1,17 +1,24 @@
-// A record from an open file, through the field buffer: what is read goes to the desk, and what is left of it waits at the front for more.
+// A record from standard input, through the field buffer: what is read goes to the desk, and what is left of it waits at the front for more.
 use desk::Desk;
 use desk::Outcome;
 use desk::empty;
 use desk::feed;
+use edges::Got;
+use edges::fill;
+use edges::say;
 use prints::close;
 use prints::refuse;
 ghost use mathlib.Core.Bool.{true};
 ghost use mathlib.Core.Path.{_≡_};
-ghost use Prim.Native.Nat.{_+_, _-_, _≤_, _<_};
+ghost use Prim.Native.Nat.{_-_, _≤_, _<_, min};
 ghost use lib.ListN.{length, take, drop};
 ghost use lib.Seq.{paste};
-ghost use Rattle.desk.specs.Feeding.{laidOf, emptyDesk, feedOf};
-ghost use Rattle.intake.specs.Turns.{Within, turnOf, bufferAfter, isOn, Goes, placeOf, onwards, Stood, Leads, Recorded};
+ghost use Rattle.desk.specs.Feeding.{laidOf, emptyDesk, feedOf, longest};
+ghost use Rattle.prints.specs.Printed.{Prints};
+ghost use Rattle.intake.specs.Turns.{turnOf, bufferAfter, isOn, isFailed, stoppedBy, outcomeBy, textOf, Goes, placeOf, onwards, Stood, Leads, Recorded, Unread};
+
+// The buffer holds the longest field: tag, length and a cycle of 4,811 bytes.
+const LONGEST: usize = 4814;
 
 // What became of a turn: bytes were taken, the input ended, reading failed, or a field was refused.
 pub enum Turned {
@@ -19,13 +26,6 @@ pub enum Turned {
     Ended,
     Failed,
     Refused(u32),
-}
-
-// What one reading gave: so many bytes, the end of the input, or a fault.
-pub enum Got {
-    Bytes(usize),
-    End,
-    Failed,
 }
 
 // The desk, how many bytes of an unfinished field stand at the front of the buffer, and how many bytes of the record are still to be read.
@@ -45,7 +45,7 @@ pub struct Intake {
 
 // The smaller of the two.
 fn at_most(space: usize, left: u64) -> usize
-    ensures { λ r. ⌜ (r ≤ space) × (r ≤ left) ⌝ }
+    ensures { λ r. ⌜ r ≡ min space left ⌝ }
 {
     if left < space as u64 {
         return left as usize;
@@ -79,7 +79,7 @@ fn digest(
     map: &mut [u64],
 ) -> Turn
     requires { ⌜ upto ≤ length (now buffer) ⌝ }
-    ensures { λ r. ⌜ (r .held ≤ upto) × (r .left ≡ left) ⌝ }
+    ensures { λ r. ⌜ (r .held < longest) × (r .left ≡ left) ⌝ }
     ensures { λ r. ⌜ r ≡ turnOf (feedOf (laidOf desk (now (room .entry)) (now (ledger .entry)) (now (map .entry))) (take upto (now (buffer .entry)))) upto left ⌝ }
     ensures { λ _. ⌜ now (buffer .exit) ≡ bufferAfter (feedOf (laidOf desk (now (room .entry)) (now (ledger .entry)) (now (map .entry))) (take upto (now (buffer .entry)))) upto (now (buffer .entry)) ⌝ }
     ensures { λ _. ⌜ now (room .exit) ≡ feedOf (laidOf desk (now (room .entry)) (now (ledger .entry)) (now (map .entry))) (take upto (now (buffer .entry))) .laid .room ⌝ }
@@ -106,24 +106,20 @@ fn digest(
     }
 }
 
-// Reads once.
-fn fill(fd: i32, part: &mut [u8]) -> Got
-    ensures { λ r. ⌜ Within (length (now (part .entry))) r ⌝ }
+// What a reading that gave no bytes makes of a turn: only the end of the input ends it, all else is a fault.
+fn stopped_by(got: Got) -> Turned
+    ensures { λ r. ⌜ r ≡ stoppedBy got ⌝ }
 {
-    let got = libc::read(fd, &mut *part);
-    if got < 0 {
-        return Got::Failed;
+    match got {
+        Got::Bytes(_) => Turned::Failed,
+        Got::End => Turned::Ended,
+        Got::Again => Turned::Failed,
+        Got::Failed => Turned::Failed,
     }
-    let n = io::count(got, &part[..]);
-    if n == 0 {
-        return Got::End;
-    }
-    Got::Bytes(n)
 }
 
 // Reads once behind the bytes held, as far as the buffer and the record go, and digests what came.
 fn read_once(
-    fd: i32,
     desk: Desk,
     held: usize,
     left: u64,
@@ -132,36 +128,30 @@ fn read_once(
     ledger: &mut [i64],
     map: &mut [u64],
 ) -> Turn
-    requires { ⌜ held ≤ length (now buffer) ⌝ }
-    ensures { λ r. ⌜ Goes (length (now (buffer .entry))) left r ⌝ }
+    requires { ⌜ (held < longest) × (longest ≤ length (now buffer)) × (1 ≤ left) ⌝ }
+    ensures { λ r. ⌜ Goes left r ⌝ }
     ensures { λ r. ⌜ Leads (placeOf (onwards desk held left) (now (buffer .entry)) (now (room .entry)) (now (ledger .entry)) (now (map .entry))) (placeOf r (now (buffer .exit)) (now (room .exit)) (now (ledger .exit)) (now (map .exit))) ⌝ }
 {
     let space = buffer.len() - held;
     let end = held + at_most(space, left);
-    let got = fill(fd, &mut buffer[held..end]);
-    match got {
-        Got::Bytes(n) => digest(
-            desk,
-            &mut *buffer,
-            held + n,
-            left - n as u64,
-            &mut *room,
-            &mut *ledger,
-            &mut *map,
-        ),
-        Got::End => Turn {
-            turned: Turned::Ended,
+    let got = fill(&mut buffer[held..end]);
+    let Got::Bytes(n) = got else {
+        return Turn {
+            turned: stopped_by(got),
             desk,
             held,
             left,
-        },
-        Got::Failed => Turn {
-            turned: Turned::Failed,
-            desk,
-            held,
-            left,
-        },
-    }
+        };
+    };
+    digest(
+        desk,
+        &mut *buffer,
+        held + n,
+        left - n as u64,
+        &mut *room,
+        &mut *ledger,
+        &mut *map,
+    )
 }
 
 // Whether another turn follows.
@@ -176,15 +166,27 @@ fn goes_on(turned: Turned) -> bool
     }
 }
 
+// Whether reading failed.
+fn has_failed(turned: Turned) -> bool
+    ensures { λ r. ⌜ r ≡ isFailed turned ⌝ }
+{
+    match turned {
+        Turned::On => false,
+        Turned::Ended => false,
+        Turned::Failed => true,
+        Turned::Refused(_) => false,
+    }
+}
+
 // Turn after turn, to the end of a record of at most so many bytes.
 fn read_through(
-    fd: i32,
     most: u64,
     buffer: &mut [u8],
     room: &mut [u8],
     ledger: &mut [i64],
     map: &mut [u64],
 ) -> Turn
+    requires { ⌜ longest ≤ length (now buffer) ⌝ }
     ensures { λ r. ⌜ Stood (laidOf emptyDesk (now (room .entry)) (now (ledger .entry)) (now (map .entry))) most (placeOf r (now (buffer .exit)) (now (room .exit)) (now (ledger .exit)) (now (map .exit))) ⌝ }
 {
     let mut desk = empty();
@@ -192,7 +194,6 @@ fn read_through(
     let mut left = most;
     while left > 0 {
         let t = read_once(
-            fd,
             desk,
             held,
             left,
@@ -217,9 +218,20 @@ fn read_through(
     }
 }
 
+// What is printed of a record that was read, to its end or to a refused field.
+fn print_record(t: Turn, room: &[u8], ledger: &[i64], map: &[u64], lines: &mut [u8]) -> usize
+    ensures { λ r. ⌜ Prints (textOf (outcomeBy (t .turned)) (laidOf (t .desk) (now (room .entry)) (now (ledger .entry)) (now (map .entry))) (t .held)) (now (lines .entry)) r (now (lines .exit)) ⌝ }
+{
+    let desk = t.desk;
+    let turned = t.turned;
+    if let Turned::Refused(number) = turned {
+        return refuse(desk, number, &mut *lines);
+    }
+    close(desk, t.held, room, ledger, map, &mut *lines)
+}
+
 // A record of at most so many bytes: what is printed of it stands in the lines.
-pub fn take_record(
-    fd: i32,
+fn read_record(
     most: u64,
     buffer: &mut [u8],
     room: &mut [u8],
@@ -227,41 +239,64 @@ pub fn take_record(
     map: &mut [u64],
     lines: &mut [u8],
 ) -> Intake
+    requires { ⌜ longest ≤ length (now buffer) ⌝ }
     ensures { λ r. ⌜ Recorded (laidOf emptyDesk (now (room .entry)) (now (ledger .entry)) (now (map .entry))) most (now (lines .entry)) r (now (room .exit)) (now (ledger .exit)) (now (map .exit)) (now (lines .exit)) ⌝ }
 {
-    let t = read_through(fd, most, &mut *buffer, &mut *room, &mut *ledger, &mut *map);
-    let desk = t.desk;
+    let t = read_through(most, &mut *buffer, &mut *room, &mut *ledger, &mut *map);
     let turned = t.turned;
-    match turned {
-        Turned::Failed => Intake {
+    if has_failed(turned) {
+        return Intake {
             printed: 0,
             left: t.left,
             failed: true,
-        },
-        Turned::Refused(number) => Intake {
-            printed: refuse(desk, number, &mut *lines),
-            left: t.left,
-            failed: false,
-        },
-        Turned::On => Intake {
-            printed: close(desk, t.held, &room[..], &ledger[..], &map[..], &mut *lines),
-            left: t.left,
-            failed: false,
-        },
-        Turned::Ended => Intake {
-            printed: close(desk, t.held, &room[..], &ledger[..], &map[..], &mut *lines),
-            left: t.left,
-            failed: false,
-        },
+        };
+    }
+    Intake {
+        printed: print_record(t, &room[..], &ledger[..], &map[..], &mut *lines),
+        left: t.left,
+        failed: false,
     }
 }
 
+// The same, of any buffer: one that is too short for a field is refused 1 before all else.
+pub fn take_record(
+    most: u64,
+    buffer: &mut [u8],
+    room: &mut [u8],
+    ledger: &mut [i64],
+    map: &mut [u64],
+    lines: &mut [u8],
+) -> Intake
+    ensures { λ r. ⌜ (longest ≤ length (now (buffer .entry)) → Recorded (laidOf emptyDesk (now (room .entry)) (now (ledger .entry)) (now (map .entry))) most (now (lines .entry)) r (now (room .exit)) (now (ledger .exit)) (now (map .exit)) (now (lines .exit))) ⌝ }
+    ensures { λ r. ⌜ (length (now (buffer .entry)) < longest → Unread (laidOf emptyDesk (now (room .entry)) (now (ledger .entry)) (now (map .entry))) most (now (lines .entry)) r (now (room .exit)) (now (ledger .exit)) (now (map .exit)) (now (lines .exit))) ⌝ }
+    ensures { λ _. ⌜ (length (now (buffer .entry)) < longest → now (buffer .exit) ≡ now (buffer .entry)) ⌝ }
+{
+    if buffer.len() < LONGEST {
+        return Intake {
+            printed: refuse(empty(), 1, &mut *lines),
+            left: most,
+            failed: false,
+        };
+    }
+    read_record(
+        most,
+        &mut *buffer,
+        &mut *room,
+        &mut *ledger,
+        &mut *map,
+        &mut *lines,
+    )
+}
+
 // The bytes of a record that are not looked at.
-pub fn skip(fd: i32, most: u64, buffer: &mut [u8]) {
+pub fn skip(most: u64, buffer: &mut [u8]) {
+    if buffer.len() == 0 {
+        return;
+    }
     let mut left = most;
     while left > 0 {
         let end = at_most(buffer.len(), left);
-        let got = fill(fd, &mut buffer[..end]);
+        let got = fill(&mut buffer[..end]);
         let Got::Bytes(n) = got else {
             return;
         };
@@ -269,12 +304,12 @@ pub fn skip(fd: i32, most: u64, buffer: &mut [u8]) {
     }
 }
 
-// The first bytes of the lines, so many of them, go out.
-pub fn print(fd: i32, lines: &[u8], n: usize) -> bool
+// The first bytes of the lines, so many of them, go to standard output: whether all did.
+pub fn print(lines: &[u8], n: usize) -> bool
     ensures { λ r. ⌜ (r ≡ true → n ≤ length (now (lines .entry))) ⌝ }
 {
     if lines.len() < n {
         return false;
     }
-    io::write_all(fd, &lines[..n])
+    say(&lines[..n])
 }

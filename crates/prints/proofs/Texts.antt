@@ -14,11 +14,7 @@ use Rattle.reader.specs.Answers.{endingOf}
 use Rattle.sheet.specs.Laid.{laid}
 use Rattle.sheet.specs.Text.{mostSheet}
 use Rattle.desk.specs.Feeding.{Laid, deskGround}
-use Rattle.prints.specs.Printed.{refuseText, textBy, closeText}
-
--- the text stands at the front of the lines out, where they are long enough, and r is its length
-abbrev pub Prints : List ℕ → List ℕ → ℕ → List ℕ → Type 0
-Prints text out r after = (r ≡ unless 0 (leb mostSheet (length out)) (length text)) × (after ≡ unless out (leb mostSheet (length out)) (laid out 0 text))
+use Rattle.prints.specs.Printed.{Prints, refuseText, textBy, closeText}
 
 -- by what the text is known to be
 pub as-text : (out : List ℕ) {text text′ after : List ℕ} {r : ℕ} → text ≡ text′ → Prints text out r after → Prints text′ out r after

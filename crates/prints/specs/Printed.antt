@@ -3,16 +3,23 @@
 use mathlib.Core.Bool.{cond}
 use mathlib.Core.List.{List}
 use Prim.Native.Nat.{ℕ, _+_}
-use lib.Dec.{ltb}
-use Rattle.numbers.specs.Tests.{settled}
+use mathlib.Core.Path.{_≡_}
+use lib.Dec.{leb, ltb}
+use lib.ListN.{length}
+use Rattle.numbers.specs.Tests.{unless, settled}
 use Rattle.reader.specs.declared.Ending.{Ending}
 use Rattle.reader.specs.declared.Ending.the-variants as ending
 use Rattle.reader.specs.Answers.{endingOf}
 use Rattle.records.specs.Records.{Sheet, told, refused}
-use Rattle.sheet.specs.Text.{sheetText, refusalText}
+use Rattle.sheet.specs.Laid.{laid}
+use Rattle.sheet.specs.Text.{mostSheet, sheetText, refusalText}
 use Rattle.figures.specs.declared.Found.{Found}
 use Rattle.figures.specs.Figured.{foundOf, figuresBy}
 use Rattle.desk.specs.Feeding.{Laid, cycleOf, deskGround}
+
+-- the text stands at the front of the lines out, where they are long enough, and r is its length
+abbrev pub Prints : List ℕ → List ℕ → ℕ → List ℕ → Type 0
+Prints text out r after = (r ≡ unless 0 (leb mostSheet (length out)) (length text)) × (after ≡ unless out (leb mostSheet (length out)) (laid out 0 text))
 
 -- ---- of a desk
 

@@ -1,9 +1,9 @@
-// Refusals that no record brings, each by itself and beside its neighbour in document 01's order: of the reader here, of the judge and of the desk in
-// their modules.
+// Refusals that no record brings, each by itself and beside its neighbour in document 01's order: of the reader here, of the judge, the desk and
+// the intake in their modules.
 mod of_desk;
+mod of_intake;
 mod of_judge;
 
-use libc::STDOUT_FILENO;
 use opening::OpenStep;
 use opening::Opening;
 use reader::blank;
@@ -73,11 +73,23 @@ fn open_number_of(step: OpenStep) -> u32 {
     }
 }
 
+fn lost() {
+    edges::tell(b"refusals: the output was lost\n");
+}
+
+fn put(text: &[u8]) {
+    if !edges::say(text) {
+        lost();
+    }
+}
+
 fn say(what: &[u8], number: u32) {
-    io::write_all(STDOUT_FILENO, what);
-    io::write_all(STDOUT_FILENO, b": ");
-    io::print_decimal(STDOUT_FILENO, number as u64);
-    io::write_all(STDOUT_FILENO, b"\n");
+    put(what);
+    put(b": ");
+    if !edges::say_number(number as u64) {
+        lost();
+    }
+    put(b"\n");
 }
 
 // On a ledger of so many numbers and a map of so many words, all zero.
@@ -193,4 +205,5 @@ fn main() {
     of_judge::blocks();
     of_judge::figures();
     of_desk::closings();
+    of_intake::buffers();
 }

@@ -1,11 +1,11 @@
 // What feeding a desk and closing it refuses.
 use crate::UNKNOWN;
 use crate::at_tolerances;
+use crate::put;
 use crate::reading_with;
 use desk::Desk;
 use desk::Outcome;
 use desk::empty;
-use libc::STDOUT_FILENO;
 
 // No field was taken but so many.
 fn with_fields(fields: u64) -> Desk {
@@ -24,13 +24,13 @@ fn started(cycle: usize) -> Desk {
     }
 }
 
-fn say_line(what: &[u8], lines: &[u8], n: usize) {
-    io::write_all(STDOUT_FILENO, what);
-    io::write_all(STDOUT_FILENO, b": ");
+pub fn say_line(what: &[u8], lines: &[u8], n: usize) {
+    put(what);
+    put(b": ");
     if lines.len() < n {
         return;
     }
-    io::write_all(STDOUT_FILENO, &lines[..n]);
+    put(&lines[..n]);
 }
 
 fn try_feed(what: &[u8], desk: Desk) {

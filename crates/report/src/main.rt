@@ -1,9 +1,7 @@
 // The report: a record from standard input, its sheet to standard output.
+use edges::tell;
 use intake::print;
 use intake::take_record;
-use libc::STDERR_FILENO;
-use libc::STDIN_FILENO;
-use libc::STDOUT_FILENO;
 
 fn main() {
     let mut buffer = [0u8; 4864];
@@ -12,7 +10,6 @@ fn main() {
     let mut map = [0u64; 750];
     let mut lines = [0u8; 512];
     let x = take_record(
-        STDIN_FILENO,
         18_446_744_073_709_551_615,
         &mut buffer[..],
         &mut room[..],
@@ -21,8 +18,10 @@ fn main() {
         &mut lines[..],
     );
     if x.failed {
-        io::write_all(STDERR_FILENO, b"report: the input could not be read\n");
+        tell(b"report: the input could not be read\n");
         return;
     }
-    print(STDOUT_FILENO, &lines[..], x.printed);
+    if !print(&lines[..], x.printed) {
+        tell(b"report: the output was lost\n");
+    }
 }

@@ -10,14 +10,14 @@ use Rattle.intake.proofs.print.Tie as tie
 returns : tie.Need-returns
 returns c = λ e. absurd (false≢true e)
 
-slice-aggregate-write-all : tie.Need-slice-aggregate-write-all
-slice-aggregate-write-all c = let e = c .before in sym (length-take-le (e .before .before .args .n) (e .before .before .args .lines .now) (e .if1 .left))
+slice-aggregate-say : tie.Need-slice-aggregate-say
+slice-aggregate-say c = let e = c .before in sym (length-take-le (e .before .before .args .n) (e .before .before .args .lines .now) (e .if1 .left))
 
-write-all-requires : tie.Need-write-all-requires
-write-all-requires c κs = search needs
+say-requires : tie.Need-say-requires
+say-requires c κs = search needs
 
 returns-2 : tie.Need-returns-2
 returns-2 c = λ _. c .before .before .if1 .left
 
 pub print-spec : {M : Type 1} → statement M
-print-spec = tie.close (tie.spec returns slice-aggregate-write-all write-all-requires returns-2)
+print-spec = tie.close (tie.spec returns slice-aggregate-say say-requires returns-2)

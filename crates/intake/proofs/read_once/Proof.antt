@@ -2,14 +2,15 @@
 -- Assumes nothing.
 use mathlib.Core.Bool.{false≢true}
 use mathlib.Core.List.{List}
-use mathlib.Core.Path.{_≡_, refl, subst}
+use mathlib.Core.Path.{_≡_, sym, ap, subst, _∙_}
 use Prim.Native.Nat.{ℕ, _+_, _-_, _≤_}
 use native.Mathlib.Omega.{arith}
-use lib.ListN.{length, take, drop, length-take}
-use Rattle.intake.specs.Turns.{Within}
+use lib.ListN.{length, take, drop, length-take, length-drop}
+use Rattle.edges.specs.Answers.{Within}
+use Rattle.intake.specs.Turns.{isOn, outcomeBy}
 use borrow.Author.Needs.{needs}
 use borrow.Rule.Slice.PartMut.{putMid, take-put}
-use Rattle.intake.proofs.Coming.{nothing-came, bytes-came}
+use Rattle.intake.proofs.Coming.{not-on, no-refusal, nothing-came, bytes-came}
 use Rattle.intake.proofs.read_once.Statement.{statement}
 use Rattle.intake.proofs.read_once.Tie as tie
 
@@ -32,7 +33,11 @@ part-fill-end : tie.Need-part-fill-end
 part-fill-end c = search needs
 
 fill-requires : tie.Need-fill-requires
-fill-requires c κs = search needs
+fill-requires c κs =
+    let s = c .before .before .before .before .before in
+    let n = c .before .at-most .result in
+    let size : s .args .held + n - s .args .held ≡ n = omega arith in
+    omega (arith, size, c .before .at-most .ensures, s .pre, length-take (s .args .held + n - s .args .held) (drop (s .args .held) (s .args .buffer .now)), length-drop (s .args .held) (s .args .buffer .now))
 
 enum-known-got : tie.Need-enum-known-got
 enum-known-got c = search needs
@@ -42,13 +47,13 @@ abbrev filled : tie.After-fill → List ℕ
 filled f =
     let s = f .before .before .before .before .before .before in
     let n = f .before .before .at-most .result in
-    putMid (s .args .held) (s .args .held + n - s .args .held) (s .args .buffer .now) (f .fill .last .1 .0)
+    putMid (s .args .held) (s .args .held + n - s .args .held) (s .args .buffer .now) (f .fill .last .0)
 
 still-held : (f : tie.After-fill) → (let s = f .before .before .before .before .before .before in take (s .args .held) (filled f) ≡ take (s .args .held) (s .args .buffer .now))
 still-held f =
     let s = f .before .before .before .before .before .before in
     let n = f .before .before .at-most .result in
-    take-put (s .args .held) (s .args .held + n - s .args .held) (s .args .buffer .now) (f .fill .last .1 .0) (s .pre)
+    take-put (s .args .held) (s .args .held + n - s .args .held) (s .args .buffer .now) (f .fill .last .0) (omega (arith, s .pre))
 
 -- so many bytes were read: as many as the part has at most
 abbrev answer : tie.After-got → tie.After-fill
@@ -63,7 +68,6 @@ came c =
     let n = answer c .before .before .at-most .result in
     let h = subst (Within _) (c .got .given .1) (answer c .fill .ensures) in
     let size : s .args .held + n - s .args .held ≡ n = omega arith in
-    let few = answer c .before .before .at-most .ensures .0 in
     (h .0, omega (arith, h .1, size, length-take (s .args .held + n - s .args .held) (drop (s .args .held) (s .args .buffer .now))))
 
 -- they end within the buffer, and within the record
@@ -71,10 +75,25 @@ within : (c : tie.After-got) → (entry c .args .held + c .got .given .0 .0 ≤ 
 within c =
     let s = entry c in
     let most = answer c .before .before .at-most .ensures in
-    (omega (arith, came c, most .0, s .pre), omega (arith, came c, most .1))
+    (omega (arith, came c, most, s .pre), omega (arith, came c, most))
+
+stopped-by-requires : tie.Need-stopped-by-requires
+stopped-by-requires c κs = search needs
+
+same-length : tie.Need-same-length
+same-length c = search needs
+
+returns : tie.Need-returns
+returns c =
+    let f = c .before .before .before .before in
+    let s = f .before .before .before .before .before .before in
+    let e = c .stopped-by .ensures in (
+      record { held = s .pre .0; falls = λ on. absurd (false≢true (sym (not-on (f .fill .result)) ∙ ap isOn (sym e) ∙ on)) },
+      λ x₀ most stood. nothing-came x₀ most _ _ _ _ _ _ _ stood (filled f) (still-held f) _ (ap outcomeBy e ∙ no-refusal (f .fill .result)),
+    )
 
 add-digest : tie.Need-add-digest
-add-digest c = omega (arith, within (c .before .before), entry (c .before .before) .good .1 .1 .1 .1 .0 .0)
+add-digest c = omega (arith, within (c .before .before), entry (c .before .before) .good .1 .1 .1 .0 .0)
 
 sub-digest : tie.Need-sub-digest
 sub-digest c = within (c .before .before) .1
@@ -83,15 +102,6 @@ digest-requires : tie.Need-digest-requires
 digest-requires c κs =
     let known = c .before .before .before .before .before in
     omega (arith, within known, answer known .before .before .at-most .ensures, known .before .before .before .buffer .given .1)
-
-enum-told : tie.Need-enum-told
-enum-told c = search needs
-
-enum-told-2 : tie.Need-enum-told-2
-enum-told-2 c = search needs
-
-same-length : tie.Need-same-length
-same-length c = search needs
 
 same-length-2 : tie.Need-same-length-2
 same-length-2 c = search needs
@@ -102,39 +112,22 @@ same-length-3 c = search needs
 same-length-4 : tie.Need-same-length-4
 same-length-4 c = search needs
 
-returns : tie.Need-returns
-returns c =
-    let taken = c .before .before .before .before .before .before .before in
-    let known = taken .before .before .before .before .before .before in
-    let s = entry known in
-    let e = taken .digest .ensures in (
-      record {
-        held = omega (arith, within known, e .0 .0);
-        falls = λ _. omega (arith, came known, within known, e .0 .1);
-      },
-      λ x₀ most stood.
-          bytes-came x₀ most _ _ _ _ _ _ _ stood (filled (answer known)) (still-held (answer known)) (known .got .given .0 .0) (digest-requires (taken .before) (taken .digest .lifetimes)) (within known .1)
-          (e .1 .0) (e .1 .1 .0) (e .1 .1 .1 .0) (e .1 .1 .1 .1 .0) (e .1 .1 .1 .1 .1),
-    )
-
 same-length-5 : tie.Need-same-length-5
 same-length-5 c = search needs
 
 returns-2 : tie.Need-returns-2
 returns-2 c =
-    let s = c .before .before .before .before .before .before .before .before .before .before in (
-      record { held = s .pre; falls = λ e. absurd (false≢true e) },
-      λ x₀ most stood. nothing-came x₀ most _ _ _ _ _ _ _ stood (filled (c .before .before .before .before)) (still-held (c .before .before .before .before)) _ refl,
-    )
-
-same-length-6 : tie.Need-same-length-6
-same-length-6 c = search needs
-
-returns-3 : tie.Need-returns-3
-returns-3 c =
-    let s = c .before .before .before .before .before .before .before .before .before .before in (
-      record { held = s .pre; falls = λ e. absurd (false≢true e) },
-      λ x₀ most stood. nothing-came x₀ most _ _ _ _ _ _ _ stood (filled (c .before .before .before .before)) (still-held (c .before .before .before .before)) _ refl,
+    let taken = c .before .before .before .before .before .before .before in
+    let known = taken .before .before .before .before .before .before in
+    let s = entry known in
+    let e = taken .digest .ensures in (
+      record {
+        held = e .0 .0;
+        falls = λ _. omega (arith, came known, within known, e .0 .1);
+      },
+      λ x₀ most stood.
+          bytes-came x₀ most _ _ _ _ _ _ _ stood (filled (answer known)) (still-held (answer known)) (known .got .given .0 .0) (digest-requires (taken .before) (taken .digest .lifetimes)) (within known .1)
+          (e .1 .0) (e .1 .1 .0) (e .1 .1 .1 .0) (e .1 .1 .1 .1 .0) (e .1 .1 .1 .1 .1),
     )
 
 pub read-once-spec : {M : Type 1} → statement M
@@ -149,17 +142,14 @@ read-once-spec =
     part-fill-end
     fill-requires
     enum-known-got
+    stopped-by-requires
+    same-length
+    returns
     add-digest
     sub-digest
     digest-requires
-    enum-told
-    enum-told-2
-    same-length
     same-length-2
     same-length-3
     same-length-4
-    returns
     same-length-5
-    returns-2
-    same-length-6
-    returns-3)
+    returns-2)

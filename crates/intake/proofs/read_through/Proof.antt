@@ -1,25 +1,25 @@
 -- `intake::read_through` meets its contract and ends: each turn begins where the one before stood, and one that goes on leaves fewer bytes to read.
 -- Assumes nothing.
 use mathlib.Core.Path.{_≡_, refl, sym, _∙_}
-use Prim.Native.Nat.{_≤_, zero-le}
+use Prim.Native.Nat.{_<_}
 use native.Mathlib.Omega.{arith}
 use borrow.Author.Needs.{needs}
 use borrow.Author.Tests.{not-false}
 use lib.ListN.{length}
-use Rattle.desk.specs.Feeding.{laidOf, emptyDesk}
+use Rattle.desk.specs.Feeding.{laidOf, emptyDesk, longest}
 use Rattle.intake.specs.Turns.{placeOf, onwards, Stood}
 use Rattle.intake.proofs.Coming.{nothing-yet, on-again, all-came}
 use Rattle.intake.proofs.read_through.Statement.{statement}
 use Rattle.intake.proofs.read_through.Tie as tie
 
 abbrev Inv-loop : tie.InvT-loop
-Inv-loop fd most buffer₀ room₀ ledger₀ map₀ desk₀ held₀ left₀ buffer room ledger map desk held left =
-    (held ≤ length buffer₀)
+Inv-loop most buffer₀ room₀ ledger₀ map₀ desk₀ held₀ left₀ buffer room ledger map desk held left =
+    (held < longest)
     × ((length buffer ≡ length buffer₀) × ((length room ≡ length room₀) × ((length ledger ≡ length ledger₀) × (length map ≡ length map₀))))
     × Stood (laidOf emptyDesk room₀ ledger₀ map₀) most (placeOf (onwards desk held left) buffer room ledger map)
 
 abbrev μ-loop : tie.MeasureT-loop
-μ-loop fd most buffer₀ room₀ ledger₀ map₀ desk₀ held₀ left₀ buffer room ledger map desk held left = left
+μ-loop most buffer₀ room₀ ledger₀ map₀ desk₀ held₀ left₀ buffer room ledger map desk held left = left
 
 -- the turn, and the loop's place before it
 abbrev turn : tie.After-goes-on Inv-loop μ-loop → tie.After-read-once Inv-loop μ-loop
@@ -32,25 +32,25 @@ empty-requires : tie.Need-empty-requires Inv-loop μ-loop
 empty-requires c κs = search needs
 
 loop-holds : tie.Need-loop-holds Inv-loop μ-loop
-loop-holds c = (zero-le, (refl, (refl, (refl, refl))), nothing-yet _ _ _ _ _ _ (c .empty .ensures))
+loop-holds c = (omega arith, (refl, (refl, (refl, refl))), nothing-yet _ _ _ _ _ _ (c .empty .ensures))
 
 read-once-requires : tie.Need-read-once-requires Inv-loop μ-loop
-read-once-requires c κs = let at = c .before .before .before .before .before in omega (arith, at .loop .inv .0, at .loop .inv .1 .0)
+read-once-requires c κs = let at = c .before .before .before .before .before in (at .loop .inv .0, omega (arith, at .loop .inv .1 .0, at .before .before .before .before .before .pre), omega arith)
 
 goes-on-requires : tie.Need-goes-on-requires Inv-loop μ-loop
 goes-on-requires c κs = search needs
 
 same-length : tie.Need-same-length Inv-loop μ-loop
-same-length c = turn (c .before) .read-once .kept .1 .1 .1 .1 .0 ∙ place (c .before) .loop .inv .1 .0
+same-length c = turn (c .before) .read-once .kept .1 .1 .1 .0 ∙ place (c .before) .loop .inv .1 .0
 
 same-length-2 : tie.Need-same-length-2 Inv-loop μ-loop
-same-length-2 c = turn (c .before) .read-once .kept .1 .1 .1 .1 .1 .0 ∙ place (c .before) .loop .inv .1 .1 .0
+same-length-2 c = turn (c .before) .read-once .kept .1 .1 .1 .1 .0 ∙ place (c .before) .loop .inv .1 .1 .0
 
 same-length-3 : tie.Need-same-length-3 Inv-loop μ-loop
-same-length-3 c = turn (c .before) .read-once .kept .1 .1 .1 .1 .1 .1 .0 ∙ place (c .before) .loop .inv .1 .1 .1 .0
+same-length-3 c = turn (c .before) .read-once .kept .1 .1 .1 .1 .1 .0 ∙ place (c .before) .loop .inv .1 .1 .1 .0
 
 same-length-4 : tie.Need-same-length-4 Inv-loop μ-loop
-same-length-4 c = turn (c .before) .read-once .kept .1 .1 .1 .1 .1 .1 .1 .0 ∙ place (c .before) .loop .inv .1 .1 .1 .1
+same-length-4 c = turn (c .before) .read-once .kept .1 .1 .1 .1 .1 .1 .0 ∙ place (c .before) .loop .inv .1 .1 .1 .1
 
 returns : tie.Need-returns Inv-loop μ-loop
 returns c = turn (c .before) .read-once .ensures .1 _ _ (place (c .before) .loop .inv .2)
@@ -63,10 +63,10 @@ loop-less c =
 loop-again : tie.Need-loop-again Inv-loop μ-loop
 loop-again c =
     let f = c .before .before in
-    let k = turn f .read-once .kept .1 .1 .1 .1 in
+    let k = turn f .read-once .kept .1 .1 .1 in
     let i = place f .loop .inv in
     let e = turn f .read-once .ensures in (
-      omega (arith, e .0 .held, i .1 .0),
+      e .0 .held,
       (k .0 ∙ i .1 .0, (k .1 .0 ∙ i .1 .1 .0, (k .1 .1 .0 ∙ i .1 .1 .1 .0, k .1 .1 .1 .0 ∙ i .1 .1 .1 .1))),
       on-again _ _ _ _ _ _ _ (sym (f .goes-on .ensures) ∙ not-false _ (c .before .if1 .left)) (e .1 _ _ (i .2)),
     )

@@ -1,0 +1,2 @@
+-- What an answer of the system means.
+pub mod Answers
