@@ -1,9 +1,9 @@
 // The rows of the test card that a program runs: records from standard input, each behind its length (4 bytes), and their sheets, each with an empty
 // line behind it.
 use edges::fill_whole;
+use edges::print;
 use edges::say;
 use edges::tell;
-use intake::print;
 use intake::skip;
 use intake::take_record;
 use numbers::read32;

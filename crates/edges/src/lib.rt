@@ -1,4 +1,5 @@
 // The edges of a program: the descriptors it reads and writes, what the system's answers mean, a part read, a text written.
+ghost use mathlib.Core.Bool.{true};
 ghost use mathlib.Core.Path.{_≡_};
 ghost use Prim.Native.Nat.{_≤_};
 ghost use lib.ListN.{length};
@@ -141,6 +142,16 @@ fn put(fd: i32, text: &[u8]) -> bool {
 // The text goes to standard output: whether all of it did.
 pub fn say(text: &[u8]) -> bool {
     put(output(), text)
+}
+
+// The first bytes of the lines, so many of them, go to standard output: whether all did.
+pub fn print(lines: &[u8], n: usize) -> bool
+    ensures { λ r. ⌜ (r ≡ true → n ≤ length (now (lines .entry))) ⌝ }
+{
+    if lines.len() < n {
+        return false;
+    }
+    say(&lines[..n])
 }
 
 // The text goes to standard error: whether all of it did.

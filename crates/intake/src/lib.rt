@@ -1,21 +1,21 @@
-// A record from standard input, through the field buffer: what is read goes to the desk, and what is left of it waits at the front for more.
+// A record from standard input, through the field buffer, to what is printed of it.
+mod parts;
+
 use desk::Desk;
-use desk::Outcome;
 use desk::empty;
-use desk::feed;
 use edges::Got;
 use edges::fill;
-use edges::say;
+use parts::at_most;
+use parts::has_failed;
+use parts::read_through;
 use prints::close;
 use prints::refuse;
-ghost use mathlib.Core.Bool.{true};
 ghost use mathlib.Core.Path.{_≡_};
-ghost use Prim.Native.Nat.{_-_, _≤_, _<_, min};
-ghost use lib.ListN.{length, take, drop};
-ghost use lib.Seq.{paste};
-ghost use Rattle.desk.specs.Feeding.{laidOf, emptyDesk, feedOf, longest};
+ghost use Prim.Native.Nat.{_≤_, _<_};
+ghost use lib.ListN.{length};
+ghost use Rattle.desk.specs.Feeding.{laidOf, emptyDesk, longest};
 ghost use Rattle.prints.specs.Printed.{Prints};
-ghost use Rattle.intake.specs.Turns.{turnOf, bufferAfter, isOn, isFailed, stoppedBy, outcomeBy, textOf, Goes, placeOf, onwards, Stood, Leads, Recorded, Unread};
+ghost use Rattle.intake.specs.Turns.{outcomeBy, textOf, Recorded, Unread};
 
 // The buffer holds the longest field: tag, length and a cycle of 4,811 bytes.
 const LONGEST: usize = 4814;
@@ -41,181 +41,6 @@ pub struct Intake {
     pub printed: usize,
     pub left: u64,
     pub failed: bool,
-}
-
-// The smaller of the two.
-fn at_most(space: usize, left: u64) -> usize
-    ensures { λ r. ⌜ r ≡ min space left ⌝ }
-{
-    if left < space as u64 {
-        return left as usize;
-    }
-    space
-}
-
-// The bytes from place `from` up to place `upto` move to the front: how many they are.
-fn to_front(buffer: &mut [u8], from: usize, upto: usize) -> usize
-    requires { ⌜ (from ≤ upto) × (upto ≤ length (now buffer)) ⌝ }
-    ensures { λ r. ⌜ r ≡ upto - from ⌝ }
-    ensures { λ _. ⌜ now (buffer .exit) ≡ paste (now (buffer .entry)) 0 (drop from (now (buffer .entry))) (upto - from) ⌝ }
-{
-    let n = upto - from;
-    let mut k = 0;
-    while k < n {
-        buffer[k] = buffer[from + k];
-        k += 1;
-    }
-    n
-}
-
-// The whole fields of the first `upto` bytes go to the desk; the rest moves to the front.
-fn digest(
-    desk: Desk,
-    buffer: &mut [u8],
-    upto: usize,
-    left: u64,
-    room: &mut [u8],
-    ledger: &mut [i64],
-    map: &mut [u64],
-) -> Turn
-    requires { ⌜ upto ≤ length (now buffer) ⌝ }
-    ensures { λ r. ⌜ (r .held < longest) × (r .left ≡ left) ⌝ }
-    ensures { λ r. ⌜ r ≡ turnOf (feedOf (laidOf desk (now (room .entry)) (now (ledger .entry)) (now (map .entry))) (take upto (now (buffer .entry)))) upto left ⌝ }
-    ensures { λ _. ⌜ now (buffer .exit) ≡ bufferAfter (feedOf (laidOf desk (now (room .entry)) (now (ledger .entry)) (now (map .entry))) (take upto (now (buffer .entry)))) upto (now (buffer .entry)) ⌝ }
-    ensures { λ _. ⌜ now (room .exit) ≡ feedOf (laidOf desk (now (room .entry)) (now (ledger .entry)) (now (map .entry))) (take upto (now (buffer .entry))) .laid .room ⌝ }
-    ensures { λ _. ⌜ now (ledger .exit) ≡ feedOf (laidOf desk (now (room .entry)) (now (ledger .entry)) (now (map .entry))) (take upto (now (buffer .entry))) .laid .ledger ⌝ }
-    ensures { λ _. ⌜ now (map .exit) ≡ feedOf (laidOf desk (now (room .entry)) (now (ledger .entry)) (now (map .entry))) (take upto (now (buffer .entry))) .laid .map ⌝ }
-{
-    let x = feed(desk, &buffer[..upto], &mut *room, &mut *ledger, &mut *map);
-    let on = x.desk;
-    let used = x.used;
-    let outcome = x.outcome;
-    match outcome {
-        Outcome::Refused(number) => Turn {
-            turned: Turned::Refused(number),
-            desk: on,
-            held: 0,
-            left,
-        },
-        Outcome::More => Turn {
-            turned: Turned::On,
-            desk: on,
-            held: to_front(&mut *buffer, used, upto),
-            left,
-        },
-    }
-}
-
-// What a reading that gave no bytes makes of a turn: only the end of the input ends it, all else is a fault.
-fn stopped_by(got: Got) -> Turned
-    ensures { λ r. ⌜ r ≡ stoppedBy got ⌝ }
-{
-    match got {
-        Got::Bytes(_) => Turned::Failed,
-        Got::End => Turned::Ended,
-        Got::Again => Turned::Failed,
-        Got::Failed => Turned::Failed,
-    }
-}
-
-// Reads once behind the bytes held, as far as the buffer and the record go, and digests what came.
-fn read_once(
-    desk: Desk,
-    held: usize,
-    left: u64,
-    buffer: &mut [u8],
-    room: &mut [u8],
-    ledger: &mut [i64],
-    map: &mut [u64],
-) -> Turn
-    requires { ⌜ (held < longest) × (longest ≤ length (now buffer)) × (1 ≤ left) ⌝ }
-    ensures { λ r. ⌜ Goes left r ⌝ }
-    ensures { λ r. ⌜ Leads (placeOf (onwards desk held left) (now (buffer .entry)) (now (room .entry)) (now (ledger .entry)) (now (map .entry))) (placeOf r (now (buffer .exit)) (now (room .exit)) (now (ledger .exit)) (now (map .exit))) ⌝ }
-{
-    let space = buffer.len() - held;
-    let end = held + at_most(space, left);
-    let got = fill(&mut buffer[held..end]);
-    let Got::Bytes(n) = got else {
-        return Turn {
-            turned: stopped_by(got),
-            desk,
-            held,
-            left,
-        };
-    };
-    digest(
-        desk,
-        &mut *buffer,
-        held + n,
-        left - n as u64,
-        &mut *room,
-        &mut *ledger,
-        &mut *map,
-    )
-}
-
-// Whether another turn follows.
-fn goes_on(turned: Turned) -> bool
-    ensures { λ r. ⌜ r ≡ isOn turned ⌝ }
-{
-    match turned {
-        Turned::On => true,
-        Turned::Ended => false,
-        Turned::Failed => false,
-        Turned::Refused(_) => false,
-    }
-}
-
-// Whether reading failed.
-fn has_failed(turned: Turned) -> bool
-    ensures { λ r. ⌜ r ≡ isFailed turned ⌝ }
-{
-    match turned {
-        Turned::On => false,
-        Turned::Ended => false,
-        Turned::Failed => true,
-        Turned::Refused(_) => false,
-    }
-}
-
-// Turn after turn, to the end of a record of at most so many bytes.
-fn read_through(
-    most: u64,
-    buffer: &mut [u8],
-    room: &mut [u8],
-    ledger: &mut [i64],
-    map: &mut [u64],
-) -> Turn
-    requires { ⌜ longest ≤ length (now buffer) ⌝ }
-    ensures { λ r. ⌜ Stood (laidOf emptyDesk (now (room .entry)) (now (ledger .entry)) (now (map .entry))) most (placeOf r (now (buffer .exit)) (now (room .exit)) (now (ledger .exit)) (now (map .exit))) ⌝ }
-{
-    let mut desk = empty();
-    let mut held = 0;
-    let mut left = most;
-    while left > 0 {
-        let t = read_once(
-            desk,
-            held,
-            left,
-            &mut *buffer,
-            &mut *room,
-            &mut *ledger,
-            &mut *map,
-        );
-        let turned = t.turned;
-        if !goes_on(turned) {
-            return t;
-        }
-        desk = t.desk;
-        held = t.held;
-        left = t.left;
-    }
-    Turn {
-        turned: Turned::Ended,
-        desk,
-        held,
-        left: 0,
-    }
 }
 
 // What is printed of a record that was read, to its end or to a refused field.
@@ -302,14 +127,4 @@ pub fn skip(most: u64, buffer: &mut [u8]) {
         };
         left -= n as u64;
     }
-}
-
-// The first bytes of the lines, so many of them, go to standard output: whether all did.
-pub fn print(lines: &[u8], n: usize) -> bool
-    ensures { λ r. ⌜ (r ≡ true → n ≤ length (now (lines .entry))) ⌝ }
-{
-    if lines.len() < n {
-        return false;
-    }
-    say(&lines[..n])
 }

@@ -1,6 +1,6 @@
 // The report: a record from standard input, its sheet to standard output.
+use edges::print;
 use edges::tell;
-use intake::print;
 use intake::take_record;
 
 fn main() {

@@ -1,11 +1,11 @@
--- `intake::print` meets its contract: no more is written than there is.
+-- `edges::print` meets its contract: no more is written than there is.
 -- Assumes nothing.
 use mathlib.Core.Bool.{false≢true}
 use mathlib.Core.Path.{sym}
 use lib.Seq.{length-take-le}
 use borrow.Author.Needs.{needs}
-use Rattle.intake.proofs.print.Statement.{statement}
-use Rattle.intake.proofs.print.Tie as tie
+use Rattle.edges.proofs.print.Statement.{statement}
+use Rattle.edges.proofs.print.Tie as tie
 
 returns : tie.Need-returns
 returns c = λ e. absurd (false≢true e)

@@ -1,4 +1,4 @@
--- `intake::read_through` meets its contract and ends: each turn begins where the one before stood, and one that goes on leaves fewer bytes to read.
+-- `intake::parts::read_through` meets its contract and ends: each turn begins where the one before stood, and one that goes on leaves fewer bytes to read.
 -- Assumes nothing.
 use mathlib.Core.Path.{_≡_, refl, sym, _∙_}
 use Prim.Native.Nat.{_<_}
@@ -9,8 +9,8 @@ use lib.ListN.{length}
 use Rattle.desk.specs.Feeding.{laidOf, emptyDesk, longest}
 use Rattle.intake.specs.Turns.{placeOf, onwards, Stood}
 use Rattle.intake.proofs.Coming.{nothing-yet, on-again, all-came}
-use Rattle.intake.proofs.read_through.Statement.{statement}
-use Rattle.intake.proofs.read_through.Tie as tie
+use Rattle.intake.proofs.parts.read_through.Statement.{statement}
+use Rattle.intake.proofs.parts.read_through.Tie as tie
 
 abbrev Inv-loop : tie.InvT-loop
 Inv-loop most buffer₀ room₀ ledger₀ map₀ desk₀ held₀ left₀ buffer room ledger map desk held left =

@@ -1,4 +1,4 @@
--- `intake::read_once` meets its contract: what is read stands in the buffer and belongs to the record.
+-- `intake::parts::read_once` meets its contract: what is read stands in the buffer and belongs to the record.
 -- Assumes nothing.
 use mathlib.Core.Bool.{false≢true}
 use mathlib.Core.List.{List}
@@ -11,8 +11,8 @@ use Rattle.intake.specs.Turns.{isOn, outcomeBy}
 use borrow.Author.Needs.{needs}
 use borrow.Rule.Slice.PartMut.{putMid, take-put}
 use Rattle.intake.proofs.Coming.{not-on, no-refusal, nothing-came, bytes-came}
-use Rattle.intake.proofs.read_once.Statement.{statement}
-use Rattle.intake.proofs.read_once.Tie as tie
+use Rattle.intake.proofs.parts.read_once.Statement.{statement}
+use Rattle.intake.proofs.parts.read_once.Tie as tie
 
 sub-space : tie.Need-sub-space
 sub-space c = search needs

@@ -1,4 +1,4 @@
--- `intake::digest` meets its contract: what the desk took stands in the bytes lent, and the rest is moved.
+-- `intake::parts::digest` meets its contract: what the desk took stands in the bytes lent, and the rest is moved.
 -- Assumes nothing.
 use mathlib.Core.Path.{refl, sym, ap, _∙_}
 use native.Mathlib.Omega.{arith}
@@ -10,8 +10,8 @@ use Rattle.desk.proofs.Onward.{feed-used}
 use Rattle.desk.proofs.LeftOver.{feed-short}
 use Rattle.intake.proofs.Fed.{refused-turn, more-turn}
 use borrow.Author.Needs.{needs}
-use Rattle.intake.proofs.digest.Statement.{statement}
-use Rattle.intake.proofs.digest.Tie as tie
+use Rattle.intake.proofs.parts.digest.Statement.{statement}
+use Rattle.intake.proofs.parts.digest.Tie as tie
 
 -- the desk on its memory, and what it takes of the bytes lent
 abbrev entry : tie.After-feed → tie.Start

@@ -1,4 +1,4 @@
--- `intake::to_front` meets its contract. The loop's invariant: the first k bytes from place `from` on stand at the front.
+-- `intake::parts::to_front` meets its contract. The loop's invariant: the first k bytes from place `from` on stand at the front.
 -- Assumes nothing.
 use mathlib.Core.List.{List}
 use mathlib.Core.Path.{_≡_, refl, ap, _∙_}
@@ -8,8 +8,8 @@ use borrow.Author.Needs.{needs}
 use lib.ListN.{length, getD, set, drop, length-set, length-drop}
 use lib.Seq.{paste, paste-zero}
 use Rattle.intake.proofs.Fed.{moved-more}
-use Rattle.intake.proofs.to_front.Statement.{statement}
-use Rattle.intake.proofs.to_front.Tie as tie
+use Rattle.intake.proofs.parts.to_front.Statement.{statement}
+use Rattle.intake.proofs.parts.to_front.Tie as tie
 
 abbrev Inv-loop : tie.InvT-loop
 Inv-loop buffer₀ from upto n k₀ buffer k = (k ≤ n) × (length buffer ≡ length buffer₀) × (buffer ≡ paste buffer₀ 0 (drop from buffer₀) k)
