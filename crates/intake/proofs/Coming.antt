@@ -1,10 +1,10 @@
 -- The bytes of a record as they come: what a turn leaves stands as the bytes that came say.
 -- Assumes nothing.
-use mathlib.Core.Bool.{true, false, false≢true}
+use mathlib.Core.Bool.{true, false, cond, false≢true}
 use mathlib.Core.List.{List, [], _∷_, _++_}
 use mathlib.Core.Path.{_≡_, refl, sym, ap, subst, subst⁻¹, _∙_}
 use mathlib.Core.Logic.{⊎-elim}
-use Prim.Native.Nat.{ℕ, _+_, _-_, _≤_, zero-le}
+use Prim.Native.Nat.{ℕ, _+_, _-_, _≤_, _<_, zero-le}
 use native.Mathlib.Nat.{zero-add}
 use native.Mathlib.Omega.{arith}
 use lib.IntN.{ℤ}
@@ -12,20 +12,28 @@ use lib.ListN.{length, take, drop, length-append, length-drop}
 use lib.Seq.{paste, take-add, take-paste, length-take-le, drop-at}
 use Rattle.edges.specs.declared.Got.{Got}
 use Rattle.edges.specs.declared.Got.the-variants as got
+use Rattle.edges.specs.Answers.{Within}
+use Rattle.edges.proofs.Got.{the-type as got-type}
 use types.Run.{OneOf}
 use denote.Enum.Declared.{tagOf}
 use Rattle.desk.specs.declared.Desk.{Desk}
 use Rattle.desk.specs.declared.Outcome.{Outcome}
 use Rattle.desk.specs.declared.Outcome.the-variants.{More, Refused as refused}
-use Rattle.desk.specs.Feeding.{Laid, Taken, laidOf, emptyDesk, feedOf}
+use Rattle.desk.specs.Feeding.{Laid, Taken, laidOf, emptyDesk, feedOf, longest}
+use lib.Dec.{leb}
+use Rattle.numbers.specs.Tests.{unless}
+use Rattle.sheet.specs.Laid.{laid}
+use Rattle.sheet.specs.Text.{mostSheet}
+use Rattle.intake.specs.declared.Intake.{Intake}
 use Rattle.prints.specs.Printed.{Prints, refuseText, closeText}
 use Rattle.prints.proofs.Texts.{as-text}
 use Rattle.intake.specs.declared.Turn.{Turn}
 use Rattle.intake.specs.declared.Turned.{Turned}
 use Rattle.intake.proofs.Turned.{the-type as turned}
 use Rattle.intake.specs.declared.Turned.the-variants.{On, Ended, Failed, Refused}
-use Rattle.intake.specs.Turns.{turnedBy, heldBy, turnOf, bufferBy, bufferAfter, isOn, stoppedBy, Came, none, part, outcomeBy, placeOf, onwards, Stood, textOf, Recorded, Unread}
+use Rattle.intake.specs.Turns.{turnedBy, heldBy, turnOf, bufferBy, bufferAfter, isOn, isFailed, Goes, Came, none, part, outcomeBy, placeOf, stoppedAt, placeBy, onwards, Stood, textOf, textBy, intakeOf, linesOf, Recorded, Unread}
 use Rattle.desk.proofs.Onward.{feed-used}
+use Rattle.desk.proofs.LeftOver.{feed-short}
 
 -- a turn that fed the desk says what the desk did
 outcome-of : (o : Outcome) → o ≡ outcomeBy (turnedBy o)
@@ -48,18 +56,36 @@ to-the-front u k b h g =
     ∙ sym (take-paste b 0 (drop u b) (k - u) zero-le (omega (arith, length-drop u b)))
     ∙ ap (λ (j : ℕ). take j (paste b 0 (drop u b) (k - u))) (zero-add (k - u))
 
--- a reading that gave no bytes ends the turns, and refuses no field
-pub not-on : (g : Got) → isOn (stoppedBy g) ≡ false
-not-on (got.Bytes k) = refl
-not-on got.End = refl
-not-on got.Again = refl
-not-on got.Failed = refl
+-- what is within m bytes is within more
+pub within-more : (m n : ℕ) (g : Got) → m ≤ n → Within m g → Within n g
+within-more m n (got.Bytes k) h w = (w .0, omega (arith, w .1))
+within-more m n got.End h w = tt
+within-more m n got.Again h w = tt
+within-more m n got.Failed h w = tt
 
-pub no-refusal : (g : Got) → outcomeBy (stoppedBy g) ≡ More
-no-refusal (got.Bytes k) = refl
-no-refusal got.End = refl
-no-refusal got.Again = refl
-no-refusal got.Failed = refl
+-- a reading that gave no bytes stops the turn
+pub stops : (g : Got) → OneOf (1 ∷ 2 ∷ 3 ∷ []) (tagOf got-type g) → (x : Laid) (held left : ℕ) (b : List ℕ) → stoppedAt g x held left b ≡ placeBy g x held left b
+stops (got.Bytes k) h x held left b = absurd (⊎-elim (λ e. omega arith) (⊎-elim (λ e. omega arith) (λ e. omega arith)) h)
+stops got.End h x held left b = refl
+stops got.Again h x held left b = refl
+stops got.Failed h x held left b = refl
+
+-- what is held after a turn is shorter than the longest field, and a turn that goes on leaves fewer bytes to read
+pub goes-by : (g : Got) (x : Laid) (held left : ℕ) (b : List ℕ) → held < longest → held ≤ length b → Within (length b - held) g → Within left g
+    → Goes left (placeBy g x held left b .turn)
+goes-by (got.Bytes n) x held left b short h space rest =
+    let i = take (held + n) b in
+    record {
+      held = held-by (feedOf x i .outcome) (λ e. omega (arith, feed-short x i e, length-take-le (held + n) b (omega (arith, space))));
+      falls = λ _. omega (arith, rest);
+    }
+  where
+    held-by : (o : Outcome) → (o ≡ More → held + n < feedOf x (take (held + n) b) .used + longest) → heldBy o (feedOf x (take (held + n) b) .used) (held + n) < longest
+    held-by More e = let f = e refl in omega arith
+    held-by (refused k) e = omega arith
+goes-by got.End x held left b short h space rest = record { held = short; falls = λ e. absurd (false≢true e) }
+goes-by got.Again x held left b short h space rest = record { held = short; falls = λ e. absurd (false≢true e) }
+goes-by got.Failed x held left b short h space rest = record { held = short; falls = λ e. absurd (false≢true e) }
 
 -- before the first turn nothing came
 pub nothing-yet : (most : ℕ) (desk : Desk) (b room : List ℕ) (l : List ℤ) (m : List ℕ) → desk ≡ emptyDesk
@@ -132,9 +158,12 @@ module _ (x₀ : Laid) (most : ℕ) (desk : Desk) (held left : ℕ) (b₀ room :
       all = omega (arith, length-append (s .bytes) came-new, size-new, s .all);
     }
 
-    pub bytes-came : {t : Turn} {b′ room′ : List ℕ} {l′ : List ℤ} {m′ : List ℕ} → t ≡ turnOf fed (held + n) (left - n) → b′ ≡ bufferAfter fed (held + n) b
-        → room′ ≡ fed .laid .room → l′ ≡ fed .laid .ledger → m′ ≡ fed .laid .map → Stood x₀ most (placeOf t b′ room′ l′ m′)
-    bytes-came p q r u v = subst (Stood x₀ most) (λ i. placeOf (sym p i) (sym q i) (sym r i) (sym u i) (sym v i)) digested
+  -- so whatever a reading gave, the record stands where it leads
+  pub stood-by : (g : Got) → held ≤ length b → Within (length b - held) g → Within left g → Stood x₀ most (placeBy g (laidOf desk room l m) held left b)
+  stood-by (got.Bytes n) h space rest = digested n (omega (arith, space)) (rest .1)
+  stood-by got.End h space rest = nothing-came Ended refl
+  stood-by got.Again h space rest = nothing-came Failed refl
+  stood-by got.Failed h space rest = nothing-came Failed refl
 
 -- no more is to be read of the record
 pub all-came : (x₀ : Laid) (most : ℕ) (desk : Desk) (held left : ℕ) (b room : List ℕ) (l : List ℤ) (m : List ℕ) → left ≡ 0
@@ -155,21 +184,37 @@ module _ (x₀ : Laid) (most : ℕ) (out : List ℕ) (t : Turn) (b room : List �
   same-text Failed h = ap (closeText x) (sym (h refl))
   same-text (Refused k) h = refl
 
-  -- it was read, to its end or to a refused field
-  pub recorded : {n : ℕ} {after : List ℕ} → Prints (textOf (outcomeBy (t .turned)) x (t .held)) out n after
-      → Recorded x₀ most out (record { printed = n; left = t .left; failed = false }) room l m after
-  recorded p =
-      let q = as-text out (same-text (t .turned) (λ e. s .held e .1)) p in
-      record {
+  -- what is answered of it
+  pub recorded : {r : Intake} {after : List ℕ} → r ≡ intakeOf t x out → after ≡ linesOf t x out → Recorded x₀ most out r room l m after
+  recorded {after = after} p q =
+      let same = same-text (t .turned) (λ e. s .held e .1) in
+      subst⁻¹ (λ (r : Intake). Recorded x₀ most out r room l m after) p
+      (record {
         desk = t .desk;
         bytes = s .bytes;
         rest = s .rest;
         outcome = outcomeBy (t .turned);
         came = s .came;
         all = s .all;
-        printed = q .0;
-        lines = q .1;
-      }
+        printed = ap (λ (text : List ℕ). cond (isFailed (t .turned)) 0 (unless 0 (leb mostSheet (length out)) (length text))) same;
+        lines = q ∙ ap (λ (text : List ℕ). cond (isFailed (t .turned)) out (unless out (leb mostSheet (length out)) (laid out 0 text))) same;
+      })
+
+-- what is answered of a turn, where reading failed and where it did not
+pub not-printed : (t : Turn) (x : Laid) (out : List ℕ) → isFailed (t .turned) ≡ true
+    → (_≡_ {A = Intake} (record { printed = 0; left = t .left; failed = true }) (intakeOf t x out)) × (out ≡ linesOf t x out)
+not-printed t x out e = (
+  (λ i. record { printed = cond (sym e i) 0 (unless 0 (leb mostSheet (length out)) (length (textBy t x))); left = t .left; failed = sym e i }),
+  (λ i. cond (sym e i) out (unless out (leb mostSheet (length out)) (laid out 0 (textBy t x)))),
+)
+
+pub printed-of : (t : Turn) (x : Laid) (out : List ℕ) → isFailed (t .turned) ≡ false → {n : ℕ} {after : List ℕ} → Prints (textBy t x) out n after
+    → (_≡_ {A = Intake} (record { printed = n; left = t .left; failed = false }) (intakeOf t x out)) × (after ≡ linesOf t x out)
+printed-of t x out e p = (
+  (λ i. record { printed = p .0 i; left = t .left; failed = false })
+      ∙ (λ i. record { printed = cond (sym e i) 0 (unless 0 (leb mostSheet (length out)) (length (textBy t x))); left = t .left; failed = sym e i }),
+  p .1 ∙ (λ i. cond (sym e i) out (unless out (leb mostSheet (length out)) (laid out 0 (textBy t x)))),
+)
 
 -- no field was refused
 pub not-refused : (z : Turned) → OneOf (0 ∷ 1 ∷ 2 ∷ []) (tagOf turned z) → outcomeBy z ≡ More

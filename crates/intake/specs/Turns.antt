@@ -97,6 +97,20 @@ pub record Place : Type 0 where
 abbrev pub placeOf : Turn → List ℕ → List ℕ → List ℤ → List ℕ → Place
 placeOf t buffer room l m = record { turn = t; buffer = buffer; room = room; ledger = l; map = m }
 
+-- nothing came
+abbrev pub stoppedAt : Got → Laid → ℕ → ℕ → List ℕ → Place
+stoppedAt g x held left buffer =
+    placeOf (record { turned = stoppedBy g; desk = x .desk; held = held; left = left }) buffer (x .room) (x .ledger) (x .map)
+
+-- what a reading makes of a turn, with so many bytes held and left: the bytes that came go to the desk with those held; without bytes the turn stops
+abbrev pub placeBy : Got → Laid → ℕ → ℕ → List ℕ → Place
+placeBy (got.Bytes n) x held left buffer =
+    let y = feedOf x (take (held + n) buffer) in
+    placeOf (turnOf y (held + n) (left - n)) (bufferAfter y (held + n) buffer) (y .laid .room) (y .laid .ledger) (y .laid .map)
+placeBy got.End x held left buffer = stoppedAt got.End x held left buffer
+placeBy got.Again x held left buffer = stoppedAt got.Again x held left buffer
+placeBy got.Failed x held left buffer = stoppedAt got.Failed x held left buffer
+
 -- before a turn
 abbrev pub onwards : Desk → ℕ → ℕ → Turn
 onwards desk held left = record { turned = On; desk = desk; held = held; left = left }
@@ -119,6 +133,20 @@ Leads p q = (x₀ : Laid) (most : ℕ) → Stood x₀ most p → Stood x₀ most
 abbrev pub textOf : Outcome → Laid → ℕ → List ℕ
 textOf More x left = closeText x left
 textOf (outcome.Refused k) x left = refuseText x k
+
+-- what is answered of the last turn t, on its memory x with the lines out, and what the lines then are: nothing is printed where reading failed
+abbrev pub textBy : Turn → Laid → List ℕ
+textBy t x = textOf (outcomeBy (t .turned)) x (t .held)
+
+abbrev pub intakeOf : Turn → Laid → List ℕ → Intake
+intakeOf t x out = record {
+  printed = cond (isFailed (t .turned)) 0 (unless 0 (leb mostSheet (length out)) (length (textBy t x)));
+  left = t .left;
+  failed = isFailed (t .turned);
+}
+
+abbrev pub linesOf : Turn → Laid → List ℕ → List ℕ
+linesOf t x out = cond (isFailed (t .turned)) out (unless out (leb mostSheet (length out)) (laid out 0 (textBy t x)))
 
 -- a record of at most so many bytes was read and printed to the lines out. Which bytes came, and in which parts, is the file's; all else follows from them
 pub record Recorded (x₀ : Laid) (most : ℕ) (out : List ℕ) (r : Intake) (room : List ℕ) (ledger : List ℤ) (map after : List ℕ) : Type 0 where

@@ -15,7 +15,7 @@ ghost use Prim.Native.Nat.{_≤_, _<_};
 ghost use lib.ListN.{length};
 ghost use Rattle.desk.specs.Feeding.{laidOf, emptyDesk, longest};
 ghost use Rattle.prints.specs.Printed.{Prints};
-ghost use Rattle.intake.specs.Turns.{outcomeBy, textOf, Recorded, Unread};
+ghost use Rattle.intake.specs.Turns.{textBy, intakeOf, linesOf, Recorded, Unread};
 
 // The buffer holds the longest field: tag, length and a cycle of 4,811 bytes.
 const LONGEST: usize = 4814;
@@ -45,7 +45,7 @@ pub struct Intake {
 
 // What is printed of a record that was read, to its end or to a refused field.
 fn print_record(t: Turn, room: &[u8], ledger: &[i64], map: &[u64], lines: &mut [u8]) -> usize
-    ensures { λ r. ⌜ Prints (textOf (outcomeBy (t .turned)) (laidOf (t .desk) (now (room .entry)) (now (ledger .entry)) (now (map .entry))) (t .held)) (now (lines .entry)) r (now (lines .exit)) ⌝ }
+    ensures { λ r. ⌜ Prints (textBy t (laidOf (t .desk) (now (room .entry)) (now (ledger .entry)) (now (map .entry)))) (now (lines .entry)) r (now (lines .exit)) ⌝ }
 {
     let desk = t.desk;
     let turned = t.turned;
@@ -53,6 +53,26 @@ fn print_record(t: Turn, room: &[u8], ledger: &[i64], map: &[u64], lines: &mut [
         return refuse(desk, number, &mut *lines);
     }
     close(desk, t.held, room, ledger, map, &mut *lines)
+}
+
+// What is answered of the last turn: where reading failed, nothing is printed.
+fn answer_to(t: Turn, room: &[u8], ledger: &[i64], map: &[u64], lines: &mut [u8]) -> Intake
+    ensures { λ r. ⌜ r ≡ intakeOf t (laidOf (t .desk) (now (room .entry)) (now (ledger .entry)) (now (map .entry))) (now (lines .entry)) ⌝ }
+    ensures { λ _. ⌜ now (lines .exit) ≡ linesOf t (laidOf (t .desk) (now (room .entry)) (now (ledger .entry)) (now (map .entry))) (now (lines .entry)) ⌝ }
+{
+    let turned = t.turned;
+    if has_failed(turned) {
+        return Intake {
+            printed: 0,
+            left: t.left,
+            failed: true,
+        };
+    }
+    Intake {
+        printed: print_record(t, room, ledger, map, &mut *lines),
+        left: t.left,
+        failed: false,
+    }
 }
 
 // A record of at most so many bytes: what is printed of it stands in the lines.
@@ -68,19 +88,7 @@ fn read_record(
     ensures { λ r. ⌜ Recorded (laidOf emptyDesk (now (room .entry)) (now (ledger .entry)) (now (map .entry))) most (now (lines .entry)) r (now (room .exit)) (now (ledger .exit)) (now (map .exit)) (now (lines .exit)) ⌝ }
 {
     let t = read_through(most, &mut *buffer, &mut *room, &mut *ledger, &mut *map);
-    let turned = t.turned;
-    if has_failed(turned) {
-        return Intake {
-            printed: 0,
-            left: t.left,
-            failed: true,
-        };
-    }
-    Intake {
-        printed: print_record(t, &room[..], &ledger[..], &map[..], &mut *lines),
-        left: t.left,
-        failed: false,
-    }
+    answer_to(t, &room[..], &ledger[..], &map[..], &mut *lines)
 }
 
 // The same, of any buffer: one that is too short for a field is refused 1 before all else.

@@ -12,7 +12,8 @@ ghost use Prim.Native.Nat.{_-_, _≤_, _<_, min};
 ghost use lib.ListN.{length, take, drop};
 ghost use lib.Seq.{paste};
 ghost use Rattle.desk.specs.Feeding.{laidOf, emptyDesk, feedOf, longest};
-ghost use Rattle.intake.specs.Turns.{turnOf, bufferAfter, isOn, isFailed, stoppedBy, Goes, placeOf, onwards, Stood, Leads};
+ghost use Rattle.edges.specs.Answers.{Within};
+ghost use Rattle.intake.specs.Turns.{turnOf, bufferAfter, isOn, isFailed, stoppedBy, placeBy, Goes, placeOf, onwards, Stood, Leads};
 
 // The smaller of the two.
 pub fn at_most(space: usize, left: u64) -> usize
@@ -50,7 +51,6 @@ fn digest(
     map: &mut [u64],
 ) -> Turn
     requires { ⌜ upto ≤ length (now buffer) ⌝ }
-    ensures { λ r. ⌜ (r .held < longest) × (r .left ≡ left) ⌝ }
     ensures { λ r. ⌜ r ≡ turnOf (feedOf (laidOf desk (now (room .entry)) (now (ledger .entry)) (now (map .entry))) (take upto (now (buffer .entry)))) upto left ⌝ }
     ensures { λ _. ⌜ now (buffer .exit) ≡ bufferAfter (feedOf (laidOf desk (now (room .entry)) (now (ledger .entry)) (now (map .entry))) (take upto (now (buffer .entry)))) upto (now (buffer .entry)) ⌝ }
     ensures { λ _. ⌜ now (room .exit) ≡ feedOf (laidOf desk (now (room .entry)) (now (ledger .entry)) (now (map .entry))) (take upto (now (buffer .entry))) .laid .room ⌝ }
@@ -89,7 +89,40 @@ fn stopped_by(got: Got) -> Turned
     }
 }
 
-// Reads once behind the bytes held, as far as the buffer and the record go, and digests what came.
+// What a reading gave goes to the desk with the bytes held; without bytes the turn stops.
+fn turn_by(
+    got: Got,
+    desk: Desk,
+    held: usize,
+    left: u64,
+    buffer: &mut [u8],
+    room: &mut [u8],
+    ledger: &mut [i64],
+    map: &mut [u64],
+) -> Turn
+    requires { ⌜ (held ≤ length (now buffer)) × Within (length (now buffer) - held) got × Within left got ⌝ }
+    ensures { λ r. ⌜ placeOf r (now (buffer .exit)) (now (room .exit)) (now (ledger .exit)) (now (map .exit)) ≡ placeBy got (laidOf desk (now (room .entry)) (now (ledger .entry)) (now (map .entry))) held left (now (buffer .entry)) ⌝ }
+{
+    let Got::Bytes(n) = got else {
+        return Turn {
+            turned: stopped_by(got),
+            desk,
+            held,
+            left,
+        };
+    };
+    digest(
+        desk,
+        &mut *buffer,
+        held + n,
+        left - n as u64,
+        &mut *room,
+        &mut *ledger,
+        &mut *map,
+    )
+}
+
+// Reads once behind the bytes held, as far as the buffer and the record go.
 fn read_once(
     desk: Desk,
     held: usize,
@@ -106,19 +139,12 @@ fn read_once(
     let space = buffer.len() - held;
     let end = held + at_most(space, left);
     let got = fill(&mut buffer[held..end]);
-    let Got::Bytes(n) = got else {
-        return Turn {
-            turned: stopped_by(got),
-            desk,
-            held,
-            left,
-        };
-    };
-    digest(
+    turn_by(
+        got,
         desk,
+        held,
+        left,
         &mut *buffer,
-        held + n,
-        left - n as u64,
         &mut *room,
         &mut *ledger,
         &mut *map,

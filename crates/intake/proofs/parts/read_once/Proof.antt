@@ -1,16 +1,15 @@
 -- `intake::parts::read_once` meets its contract: what is read stands in the buffer and belongs to the record.
 -- Assumes nothing.
-use mathlib.Core.Bool.{false≢true}
 use mathlib.Core.List.{List}
-use mathlib.Core.Path.{_≡_, sym, ap, subst, _∙_}
+use mathlib.Core.Path.{_≡_, ap, subst⁻¹}
 use Prim.Native.Nat.{ℕ, _+_, _-_, _≤_}
 use native.Mathlib.Omega.{arith}
 use lib.ListN.{length, take, drop, length-take, length-drop}
-use Rattle.edges.specs.Answers.{Within}
-use Rattle.intake.specs.Turns.{isOn, outcomeBy}
-use borrow.Author.Needs.{needs}
 use borrow.Rule.Slice.PartMut.{putMid, take-put}
-use Rattle.intake.proofs.Coming.{not-on, no-refusal, nothing-came, bytes-came}
+use Rattle.edges.specs.Answers.{Within}
+use Rattle.intake.specs.Turns.{Place, Goes, Stood}
+use Rattle.intake.proofs.Coming.{within-more, goes-by, stood-by}
+use borrow.Author.Needs.{needs}
 use Rattle.intake.proofs.parts.read_once.Statement.{statement}
 use Rattle.intake.proofs.parts.read_once.Tie as tie
 
@@ -39,9 +38,6 @@ fill-requires c κs =
     let size : s .args .held + n - s .args .held ≡ n = omega arith in
     omega (arith, size, c .before .at-most .ensures, s .pre, length-take (s .args .held + n - s .args .held) (drop (s .args .held) (s .args .buffer .now)), length-drop (s .args .held) (s .args .buffer .now))
 
-enum-known-got : tie.Need-enum-known-got
-enum-known-got c = search needs
-
 -- the buffer when its part has come back: what was held stands where it stood
 abbrev filled : tie.After-fill → List ℕ
 filled f =
@@ -55,53 +51,33 @@ still-held f =
     let n = f .before .before .at-most .result in
     take-put (s .args .held) (s .args .held + n - s .args .held) (s .args .buffer .now) (f .fill .last .0) (omega (arith, s .pre))
 
--- so many bytes were read: as many as the part has at most
-abbrev answer : tie.After-got → tie.After-fill
-answer c = c .before .before .before .before
+-- what was read stands within the buffer, and within the record
+abbrev Space : tie.After-buffer → Type 0
+Space c =
+    let s = c .before .before .before .before .before .before .before in
+    let b = filled (c .before) in
+    (s .args .held ≤ length b) × Within (length b - s .args .held) (c .before .fill .result) × Within (s .args .left) (c .before .fill .result)
 
-abbrev entry : tie.After-got → tie.Start
-entry c = answer c .before .before .before .before .before .before
-
-came : (c : tie.After-got) → (1 ≤ c .got .given .0 .0) × (c .got .given .0 .0 ≤ answer c .before .before .at-most .result)
-came c =
-    let s = entry c in
-    let n = answer c .before .before .at-most .result in
-    let h = subst (Within _) (c .got .given .1) (answer c .fill .ensures) in
+space : (c : tie.After-buffer) → Space c
+space c =
+    let f = c .before in
+    let s = f .before .before .before .before .before .before in
+    let n = f .before .before .at-most .result in
     let size : s .args .held + n - s .args .held ≡ n = omega arith in
-    (h .0, omega (arith, h .1, size, length-take (s .args .held + n - s .args .held) (drop (s .args .held) (s .args .buffer .now))))
+    let few = length-take (s .args .held + n - s .args .held) (drop (s .args .held) (s .args .buffer .now)) in
+    let same = c .buffer .given .1 in
+    let most = f .before .before .at-most .ensures in
+    let w = f .fill .ensures in (
+      omega (arith, same, s .pre),
+      within-more _ _ (f .fill .result) (omega (arith, size, few, same, most, s .pre)) w,
+      within-more _ _ (f .fill .result) (omega (arith, size, few, most)) w,
+    )
 
--- they end within the buffer, and within the record
-within : (c : tie.After-got) → (entry c .args .held + c .got .given .0 .0 ≤ length (entry c .args .buffer .now)) × (c .got .given .0 .0 ≤ entry c .args .left)
-within c =
-    let s = entry c in
-    let most = answer c .before .before .at-most .ensures in
-    (omega (arith, came c, most, s .pre), omega (arith, came c, most))
-
-stopped-by-requires : tie.Need-stopped-by-requires
-stopped-by-requires c κs = search needs
+turn-by-requires : tie.Need-turn-by-requires
+turn-by-requires c κs = space (c .before .before .before .before .before)
 
 same-length : tie.Need-same-length
 same-length c = search needs
-
-returns : tie.Need-returns
-returns c =
-    let f = c .before .before .before .before in
-    let s = f .before .before .before .before .before .before in
-    let e = c .stopped-by .ensures in (
-      record { held = s .pre .0; falls = λ on. absurd (false≢true (sym (not-on (f .fill .result)) ∙ ap isOn (sym e) ∙ on)) },
-      λ x₀ most stood. nothing-came x₀ most _ _ _ _ _ _ _ stood (filled f) (still-held f) _ (ap outcomeBy e ∙ no-refusal (f .fill .result)),
-    )
-
-add-digest : tie.Need-add-digest
-add-digest c = omega (arith, within (c .before .before), entry (c .before .before) .good .1 .1 .1 .0 .0)
-
-sub-digest : tie.Need-sub-digest
-sub-digest c = within (c .before .before) .1
-
-digest-requires : tie.Need-digest-requires
-digest-requires c κs =
-    let known = c .before .before .before .before .before in
-    omega (arith, within known, answer known .before .before .at-most .ensures, known .before .before .before .buffer .given .1)
 
 same-length-2 : tie.Need-same-length-2
 same-length-2 c = search needs
@@ -112,22 +88,16 @@ same-length-3 c = search needs
 same-length-4 : tie.Need-same-length-4
 same-length-4 c = search needs
 
-same-length-5 : tie.Need-same-length-5
-same-length-5 c = search needs
-
-returns-2 : tie.Need-returns-2
-returns-2 c =
-    let taken = c .before .before .before .before .before .before .before in
-    let known = taken .before .before .before .before .before .before in
-    let s = entry known in
-    let e = taken .digest .ensures in (
-      record {
-        held = e .0 .0;
-        falls = λ _. omega (arith, came known, within known, e .0 .1);
-      },
-      λ x₀ most stood.
-          bytes-came x₀ most _ _ _ _ _ _ _ stood (filled (answer known)) (still-held (answer known)) (known .got .given .0 .0) (digest-requires (taken .before) (taken .digest .lifetimes)) (within known .1)
-          (e .1 .0) (e .1 .1 .0) (e .1 .1 .1 .0) (e .1 .1 .1 .1 .0) (e .1 .1 .1 .1 .1),
+returns : tie.Need-returns
+returns c =
+    let turned = c .before .before .before .before .before .before .before in
+    let came = turned .before .before .before .before .before .before in
+    let f = came .before in
+    let s = f .before .before .before .before .before .before in
+    let w = space came in
+    let e = turned .turn-by .ensures in (
+      subst⁻¹ (Goes (s .args .left)) (ap (λ (p : Place). p .turn) e) (goes-by (f .fill .result) _ (s .args .held) (s .args .left) (filled f) (s .pre .0) (w .0) (w .1) (w .2)),
+      λ x₀ most stood. subst⁻¹ (Stood x₀ most) e (stood-by x₀ most _ _ _ _ _ _ _ stood (filled f) (still-held f) (f .fill .result) (w .0) (w .1) (w .2)),
     )
 
 pub read-once-spec : {M : Type 1} → statement M
@@ -141,15 +111,9 @@ read-once-spec =
     part-fill-start
     part-fill-end
     fill-requires
-    enum-known-got
-    stopped-by-requires
+    turn-by-requires
     same-length
-    returns
-    add-digest
-    sub-digest
-    digest-requires
     same-length-2
     same-length-3
     same-length-4
-    same-length-5
-    returns-2)
+    returns)
