@@ -20,7 +20,7 @@ use Rattle.opening.specs.Opening.{Begun, Opened}
 use Rattle.opening.specs.Answers.{Held, hold, cycleIn, begunOf, openingOf, openOf}
 use Rattle.reading.specs.Answers.{startedReading}
 use Rattle.records.specs.Records.{refused, sheetOf}
-use Rattle.records.proofs.OpenField.{by-open, starts}
+use Rattle.records.proofs.OpenField.{starts}
 use Rattle.records.proofs.Calls.{Lent, Until, open-changes-nothing}
 use Rattle.records.proofs.Calls.Until.{field as opened-by}
 use Rattle.records.proofs.Calls.Since.{begun as started-by}
@@ -33,6 +33,7 @@ use Rattle.desk.specs.declared.Outcome.the-variants.{More, Refused}
 use Rattle.desk.specs.Feeding.{Laid, Taken, laidOf, stops, behind, opensTo, openOne, goOn, openUpto}
 use Rattle.desk.proofs.Grounds.{opens-nothing}
 use Rattle.desk.proofs.Turns.{accepted-size}
+use Rattle.desk.proofs.Short.{one-more}
 use Rattle.desk.proofs.Standing.{more-not-refused, Stands, opens, reads, Became, became-on, nothing-taken}
 
 module _ (lent : Lent) where
@@ -50,12 +51,6 @@ module _ (lent : Lent) where
     call-is : called ≡ onRoom l₀ m₀ (begunOf o room) i
     unfolding openOf
     call-is = settled-taken _ (until-ready lent h)
-
-    call-takes : (n : ℕ) → called .step ≡ opening.Taken n → called .begun .fields ≡ o .fields + 1
-    call-takes n =
-        subst⁻¹ (λ (x : Opened Held). x .step ≡ opening.Taken n → x .begun .fields ≡ o .fields + 1) call-is
-        (by-open hold cycleIn (λ b t. startRefusal b t l₀ m₀) (λ (x : Opened Held). x .step ≡ opening.Taken n → x .begun .fields ≡ o .fields + 1) (begunOf o room) i
-        (λ s stays e. absurd (stays n (rw e refl))) (λ tag c f a e. refl))
 
     call-starts : (n : ℕ) (r : Run) → called .step ≡ opening.Started n r → (o .fields ≡ 3) × (called .begun ≡ record { fields = 4; vehicle = o .vehicle; kept = record { size = o .cycle; room = room } })
     call-starts n r e =
@@ -100,7 +95,7 @@ module _ (lent : Lent) where
 
       go : (s : OpenStep) → openOf (d .opening) room l₀ m₀ i .step ≡ s → Became lent p i (after s)
       go (opening.Taken c) e =
-          let more = call-takes h i c e in
+          let more = one-more (d .opening) room l₀ m₀ i c e .0 in
           takes c _ _ (accepted-size (d .opening) room l₀ m₀ i c (rw e refl))
           (on (p ++ take c i) (b .kept .room) (record { started = false; opening = openingOf b; reading = d .reading; fields = d .fields + 1 }) (drop c i) refl (opened-by h i c e)
           (omega (arith, more)) (omega (arith, more)))

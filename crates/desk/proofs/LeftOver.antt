@@ -1,68 +1,30 @@
 -- What feeding a desk leaves over is shorter than the longest field, whatever the desk and its memory are: a buffer of that many bytes has place for more.
 -- Assumes nothing.
-use mathlib.Core.Bool.{Bool, true, false, _&&_, cond, false≢true}
+use mathlib.Core.Bool.{Bool, true, false, cond, false≢true}
 use mathlib.Core.List.{List}
 use mathlib.Core.Path.{_≡_, refl, sym, subst, subst⁻¹, _∙_}
 use Prim.Native.Nat.{ℕ, zero, suc, _+_, _≤_, _<_}
 use native.Mathlib.Omega.{arith}
-use borrow.Author.Tests.{eqb-true, eqb-false, leb-true, ne-eqb}
+use borrow.Author.Tests.{ne-eqb}
 use lib.Dec.{leb, eqb}
-use lib.IntN.{ℤ}
 use lib.ListN.{length, drop, length-drop}
 use Rattle.numbers.specs.Tests.{unless}
-use Rattle.numbers.proofs.Tests.{not-refused, both}
-use Rattle.state.specs.declared.Run.{Run}
-use Rattle.state.specs.Refusals.{startRefusal, started}
-use Rattle.fields.specs.Fields.{valueIn}
-use Rattle.fields.specs.Values.{isNumber}
-use Rattle.opening.specs.declared.Opening.{Opening}
 use Rattle.opening.specs.declared.OpenStep.{OpenStep}
 use Rattle.opening.specs.declared.OpenStep.the-variants as opening
-use Rattle.opening.specs.Opening.{Opened, Begun, openAt}
-use Rattle.opening.specs.Answers.{Held, mostCycle, hold, cycleIn, begunOf, isOpening, openGround, openOf}
+use Rattle.opening.specs.Opening.{Begun}
+use Rattle.opening.specs.Answers.{Held, openOf}
 use Rattle.reading.specs.Answers.{readAllOf}
-use Rattle.records.proofs.OpenField.{by-open, allowed}
 use Rattle.desk.specs.declared.Outcome.the-variants.{More, Refused}
 use Rattle.desk.specs.Feeding.{Laid, Taken, stops, behind, opensTo, openOne, goOn, openUpto, readTo, cycleOf, readOn, mostFields, thenRead, feedOf, longest}
 use Rattle.desk.proofs.Grounds.{opens-nothing}
 use Rattle.desk.proofs.Turns.{accepted-size}
-use Rattle.desk.proofs.Short.{open-short, all-short}
+use Rattle.desk.proofs.Short.{one-more, open-short, all-short}
 use Rattle.desk.proofs.Standing.{more-not-refused}
 use Rattle.desk.proofs.Feeds.{outcome-more, all-ended}
 
 -- ---- until the start
 
--- an accepted field that starts no run is one more, and not the fourth
-module _ (o : Opening) (room : List ℕ) (l : List ℤ) (m i : List ℕ) where
-  abbrev More-to-come : Opened Held → ℕ → Type 0
-  More-to-come x n = x .step ≡ opening.Taken n → (x .begun .fields ≡ o .fields + 1) × (o .fields < 3)
-
-  few : openGround o room ≡ 0 → o .fields ≤ 3
-  unfolding openGround isOpening
-  few e =
-      let (_, r) = not-refused 0 (leb mostCycle (length room)) _ e in
-      let (t, _) = not-refused 0 (leb (o .fields) 3 && leb (o .cycle) mostCycle && isNumber (o .vehicle)) 0 r in
-      leb-true (o .fields) 3 (both (leb (o .fields) 3) _ (both (leb (o .fields) 3 && leb (o .cycle) mostCycle) _ t .0) .0)
-
-  pub one-more : (n : ℕ) → More-to-come (openOf o room l m i) n
-  unfolding openOf
-  one-more n = go (eqb (openGround o room) 0) refl
-    where
-      not-fourth : (r : Run) (c : ℕ) (b : Bool) → cond b (opening.Started c r) (opening.Taken c) ≡ opening.Taken n → b ≡ false
-      not-fourth r c true e = absurd (false≢true cc)
-      not-fourth r c false e = refl
-
-      go : (t : Bool) → eqb (openGround o room) 0 ≡ t
-          → More-to-come (cond t (openAt hold cycleIn (λ b t. startRefusal b t l m) (begunOf o room) i) (record { step = opening.Refused (openGround o room); begun = begunOf o room })) n
-      go true g =
-          by-open hold cycleIn (λ b t. startRefusal b t l m) (λ (x : Opened Held). More-to-come x n) (begunOf o room) i (λ s stays e. absurd (stays n (rw e refl)))
-          (λ tag c f a e.
-          let order = allowed hold cycleIn (λ b t. startRefusal b t l m) (begunOf o room) tag (valueIn i c) a .order in
-          let other = eqb-false tag 4 (not-fourth _ (3 + c) (eqb tag 4) e) in
-          (refl, omega (arith, few (eqb-true _ 0 g), order, other)))
-      go false g = λ e. absurd (false≢true cc)
-
--- so many fields are enough
+-- where more bytes are wanted and the run has not started, what is left over is shorter than the longest field
 abbrev Left-short : List ℕ → Taken → Type 0
 Left-short i y = y .outcome ≡ More → y .laid .desk .started ≡ false → length i < y .used + longest
 

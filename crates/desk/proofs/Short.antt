@@ -1,4 +1,4 @@
--- Where a field is not finished, fewer bytes than the longest field has are left: a field has at most 3 + 4,811 bytes.
+-- Where a field is not finished, fewer bytes than the longest field has are left: a field has at most 3 + 4,811 bytes. Until the start fields are few.
 -- Assumes nothing.
 use mathlib.Core.Bool.{Bool, true, false, cond, false≢true}
 use mathlib.Core.List.{List}
@@ -6,7 +6,7 @@ use mathlib.Core.Path.{_≡_, refl}
 use Prim.Native.Nat.{ℕ, zero, suc, _+_, _≤_, _<_}
 use native.Mathlib.Nat.{le-refl}
 use native.Mathlib.Omega.{arith}
-use borrow.Author.Tests.{ltb-false, leb-false}
+use borrow.Author.Tests.{eqb-true, eqb-false, ltb-false, leb-false}
 use lib.Dec.{leb, ltb, eqb}
 use lib.IntN.{ℤ}
 use lib.ListN.{length, getD, take, drop, length-drop}
@@ -28,10 +28,12 @@ use Rattle.opening.specs.declared.OpenStep.the-variants as opening
 use Rattle.reading.specs.declared.Reading.{Reading}
 use Rattle.reading.specs.declared.Step.the-variants as step
 use Rattle.reading.specs.Reading.{Tale, Read, stepOf, brought, byFront, fieldAt, upto, fieldsOf}
-use Rattle.opening.specs.Opening.{openRefusal, openByFront, openAt}
-use Rattle.opening.specs.Answers.{hold, cycleIn, begunOf, openGround, openOf}
+use Rattle.opening.specs.Opening.{Opened, openRefusal, openByFront, openAt}
+use Rattle.opening.specs.Answers.{Held, hold, cycleIn, begunOf, openGround, openOf}
 use Rattle.reading.specs.Answers.{offeredOf, takeBlock, taleOf, readGround, readAllOf}
 use Rattle.desk.specs.Feeding.{longest}
+use Rattle.opening.proofs.Starting.{ground-ready}
+use Rattle.records.proofs.OpenField.{by-open, allowed}
 use Rattle.reading.proofs.Onwards.{by-step}
 use Rattle.reading.proofs.Cuts.{field-size}
 
@@ -75,6 +77,29 @@ open-short o room l m i = go (eqb (openGround o room) 0)
     go : (t : Bool) → cond t (openByFront hold cycleIn (λ b t. startRefusal b t l m) (begunOf o room) i (frontOf i)) (record { step = opening.Refused (openGround o room); begun = begunOf o room }) .step ≡ opening.Incomplete → length i < longest
     go true = by (frontOf i) refl
     go false = λ z. absurd (false≢true cc)
+
+-- an accepted field that starts no run is one more, and not the fourth
+module _ (o : Opening) (room : List ℕ) (l : List ℤ) (m i : List ℕ) where
+  abbrev More-to-come : Opened Held → ℕ → Type 0
+  More-to-come x n = x .step ≡ opening.Taken n → (x .begun .fields ≡ o .fields + 1) × (o .fields < 3)
+
+  pub one-more : (n : ℕ) → More-to-come (openOf o room l m i) n
+  unfolding openOf
+  one-more n = go (eqb (openGround o room) 0) refl
+    where
+      not-fourth : (r : Run) (c : ℕ) (b : Bool) → cond b (opening.Started c r) (opening.Taken c) ≡ opening.Taken n → b ≡ false
+      not-fourth r c true e = absurd (false≢true cc)
+      not-fourth r c false e = refl
+
+      go : (t : Bool) → eqb (openGround o room) 0 ≡ t
+          → More-to-come (cond t (openAt hold cycleIn (λ b t. startRefusal b t l m) (begunOf o room) i) (record { step = opening.Refused (openGround o room); begun = begunOf o room })) n
+      go true g =
+          by-open hold cycleIn (λ b t. startRefusal b t l m) (λ (x : Opened Held). More-to-come x n) (begunOf o room) i (λ s stays e. absurd (stays n (rw e refl)))
+          (λ tag c f a e.
+          let order = allowed hold cycleIn (λ b t. startRefusal b t l m) (begunOf o room) tag (valueIn i c) a .order in
+          let other = eqb-false tag 4 (not-fourth _ (3 + c) (eqb tag 4) e) in
+          (refl, omega (arith, ground-ready o room (eqb-true _ 0 g) .few, order, other)))
+      go false g = λ e. absurd (false≢true cc)
 
 -- ---- after it
 answered : (c : Content) (n : ℕ) → stepOf c n ≡ step.Incomplete → ⊥

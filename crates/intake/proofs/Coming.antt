@@ -7,26 +7,26 @@ use mathlib.Core.Logic.{⊎-elim}
 use Prim.Native.Nat.{ℕ, _+_, _-_, _≤_, _<_, zero-le}
 use native.Mathlib.Nat.{zero-add}
 use native.Mathlib.Omega.{arith}
+use types.Run.{OneOf}
+use denote.Enum.Declared.{tagOf}
+use lib.Dec.{leb}
 use lib.IntN.{ℤ}
 use lib.ListN.{length, take, drop, length-append, length-drop}
 use lib.Seq.{paste, take-add, take-paste, length-take-le, drop-at}
+use Rattle.numbers.specs.Tests.{unless}
+use Rattle.sheet.specs.Laid.{laid}
+use Rattle.sheet.specs.Text.{mostSheet}
 use Rattle.edges.specs.declared.Got.{Got}
 use Rattle.edges.specs.declared.Got.the-variants as got
 use Rattle.edges.specs.Answers.{Within}
 use Rattle.edges.proofs.Got.{the-type as got-type}
-use types.Run.{OneOf}
-use denote.Enum.Declared.{tagOf}
 use Rattle.desk.specs.declared.Desk.{Desk}
 use Rattle.desk.specs.declared.Outcome.{Outcome}
 use Rattle.desk.specs.declared.Outcome.the-variants.{More, Refused as refused}
 use Rattle.desk.specs.Feeding.{Laid, Taken, laidOf, emptyDesk, feedOf, longest}
-use lib.Dec.{leb}
-use Rattle.numbers.specs.Tests.{unless}
-use Rattle.sheet.specs.Laid.{laid}
-use Rattle.sheet.specs.Text.{mostSheet}
-use Rattle.intake.specs.declared.Intake.{Intake}
 use Rattle.prints.specs.Printed.{Prints, refuseText, closeText}
 use Rattle.prints.proofs.Texts.{as-text}
+use Rattle.intake.specs.declared.Intake.{Intake}
 use Rattle.intake.specs.declared.Turn.{Turn}
 use Rattle.intake.specs.declared.Turned.{Turned}
 use Rattle.intake.proofs.Turned.{the-type as turned}
@@ -229,4 +229,4 @@ pub not-read : (most : ℕ) (out : List ℕ) (desk : Desk) (room : List ℕ) (l 
     → Unread (laidOf emptyDesk room l m) most out (record { printed = n; left = most; failed = false }) room l m after
 not-read most out desk room l m e p =
     let q = as-text out (ap (λ (d : Desk). refuseText (laidOf d room l m) 1) e) p in
-    record { memory = refl; left = refl; read = refl; printed = q .0; lines = q .1 }
+    record { memory = refl; left = refl; failed = refl; printed = q .0; lines = q .1 }

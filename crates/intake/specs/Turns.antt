@@ -164,6 +164,6 @@ pub record Recorded (x₀ : Laid) (most : ℕ) (out : List ℕ) (r : Intake) (ro
 pub record Unread (x₀ : Laid) (most : ℕ) (out : List ℕ) (r : Intake) (room : List ℕ) (ledger : List ℤ) (map after : List ℕ) : Type 0 where
   pub memory : laidOf (x₀ .desk) room ledger map ≡ x₀
   pub left : r .left ≡ most
-  pub read : r .failed ≡ false
+  pub failed : r .failed ≡ false
   pub printed : r .printed ≡ unless 0 (leb mostSheet (length out)) (length (refuseText x₀ 1))
   pub lines : after ≡ unless out (leb mostSheet (length out)) (laid out 0 (refuseText x₀ 1))
