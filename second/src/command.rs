@@ -20,7 +20,8 @@ second stream KIND COUNT FIRST_SEED [OPTION..] > STREAM
 second sheets < STREAM > SHEETS
 second agree KIND COUNT FIRST_SEED [OPTION..] < SHEETS
 
-kinds and options: small, long, full, prefix, change, million [BLOCK_SIZE [SAMPLES]], foreign [BLOCKS]
+kinds and options: small, long, full, prefix, change, million [BLOCK_SIZE [SAMPLES [TIME_TOLERANCE]]],
+foreign [BLOCKS]
 ";
 
 /// Why a command came to nothing.

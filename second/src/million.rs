@@ -7,10 +7,12 @@ use crate::long::{follow, long_draft};
 use crate::write::{block, head, recharge, transfer, Raw};
 
 /// `count` samples that follow a cycle of 1800 seconds closely, in blocks of
-/// `size`. The run does not stop; 64 cycles are 2,304,000 samples.
-pub fn million(seed: u64, size: usize, count: usize) -> Vec<u8> {
+/// `size`; the time tolerance is the one given or else the seed's. The run does
+/// not stop; 64 cycles are 2,304,000 samples.
+pub fn million(seed: u64, size: usize, count: usize, time_tolerance: Option<u16>) -> Vec<u8> {
     let chance = &mut Chance::new(seed);
-    let draft = long_draft(chance, 1800);
+    let mut draft = long_draft(chance, 1800);
+    draft.tolerances[1] = time_tolerance.unwrap_or(draft.tolerances[1]);
     let samples = follow(chance, &draft, count);
     let mut bytes = start(&draft);
     bytes.extend(transfer(0, 1_000_000));

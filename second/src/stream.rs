@@ -45,7 +45,9 @@ pub fn agree(
         let ours = format!("{}\n", sheet(&make(kind, seed, options)?));
         let Some(after) = rest.strip_prefix(ours.as_str()) else {
             let theirs: String = rest.chars().take(ours.len() + 40).collect();
-            return Some(Err(format!("{kind} seed {seed} differs\nour sheet:\n{ours}theirs begins:\n{theirs}\n")));
+            return Some(Err(format!(
+                "{kind} seed {seed} differs\nour sheet:\n{ours}theirs begins:\n{theirs}\n"
+            )));
         };
         rest = after;
     }

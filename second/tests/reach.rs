@@ -51,6 +51,15 @@ fn every_answer_dozens_of_times() {
     assert!(seen["range printed"] as u64 >= SEEDS / 2);
 }
 
+#[test]
+fn the_time_tolerance_asked_for_and_no_stop() {
+    for time in [0, 20, 40] {
+        let record = read(&make("million", 1, &[200, 100_000, time]).unwrap()).unwrap();
+        let run = Run::drive(&record.cycle, &record.tolerances, &record.samples);
+        assert_eq!((record.tolerances.time, run.end), (time as i128, End::None));
+    }
+}
+
 /// The corners that one good record shows.
 fn corners(record: &Record) -> Vec<&'static str> {
     let run = Run::drive(&record.cycle, &record.tolerances, &record.samples);
