@@ -9,24 +9,18 @@ use borrow.Author.Tests.{ne-eqb}
 use lib.Dec.{eqb}
 use lib.IntN.{ℤ}
 use lib.ListN.{length, take, drop}
-use Rattle.numbers.proofs.Tests.{settled-taken}
-use Rattle.state.specs.declared.Run.{Run}
 use Rattle.step.specs.Step.{startOf}
-use Rattle.state.specs.Refusals.{startRefusal}
-use Rattle.opening.specs.declared.Opening.{Opening}
 use Rattle.opening.specs.declared.OpenStep.{OpenStep}
 use Rattle.opening.specs.declared.OpenStep.the-variants as opening
-use Rattle.opening.specs.Opening.{Begun, Opened}
-use Rattle.opening.specs.Answers.{Held, hold, cycleIn, begunOf, openingOf, openOf}
+use Rattle.opening.specs.Opening.{Begun}
+use Rattle.opening.specs.Answers.{Held, begunOf, openingOf, openOf}
 use Rattle.reading.specs.Answers.{startedReading}
 use Rattle.records.specs.Records.{refused, sheetOf}
-use Rattle.records.proofs.OpenField.{starts}
 use Rattle.records.proofs.Calls.{Lent, Until, open-changes-nothing}
 use Rattle.records.proofs.Calls.Until.{field as opened-by}
 use Rattle.records.proofs.Calls.Since.{begun as started-by}
-use Rattle.records.proofs.Records.{until-ready, open-refused-longer, open-incomplete}
+use Rattle.records.proofs.Records.{open-refused-longer, open-incomplete}
 use Rattle.records.proofs.KeptUntil.{until-begins}
-use Rattle.records.proofs.Rooms.{onRoom}
 use Rattle.desk.specs.declared.Desk.{Desk}
 use Rattle.desk.specs.declared.Outcome.{Outcome}
 use Rattle.desk.specs.declared.Outcome.the-variants.{More, Refused}
@@ -34,6 +28,7 @@ use Rattle.desk.specs.Feeding.{Laid, Taken, laidOf, stops, behind, opens
 use Rattle.desk.proofs.Grounds.{opens-nothing}
 use Rattle.desk.proofs.Turns.{accepted-size}
 use Rattle.desk.proofs.Short.{one-more}
+use Rattle.desk.proofs.Starts.{open-starts}
 use Rattle.desk.proofs.Standing.{more-not-refused, Stands, opens, reads, Became, became-on, nothing-taken}
 
 module _ (lent : Lent) where
@@ -42,20 +37,6 @@ module _ (lent : Lent) where
 
   abbrev m₀ : List ℕ
   m₀ = lent .m₀
-
-  module _ {p : List ℕ} {o : Opening} {room : List ℕ} (h : Until lent p o room) (i : List ℕ) where
-    abbrev called : Opened Held
-    called = openOf o room l₀ m₀ i
-
-    -- a call is its field
-    call-is : called ≡ onRoom l₀ m₀ (begunOf o room) i
-    unfolding openOf
-    call-is = settled-taken _ (until-ready lent h)
-
-    call-starts : (n : ℕ) (r : Run) → called .step ≡ opening.Started n r → (o .fields ≡ 3) × (called .begun ≡ record { fields = 4; vehicle = o .vehicle; kept = record { size = o .cycle; room = room } })
-    call-starts n r e =
-        let w = starts hold cycleIn (λ b t. startRefusal b t l₀ m₀) (begunOf o room) i n r (sym (ap (λ (x : Opened Held). x .step) call-is) ∙ e) in
-        (w .three, ap (λ (x : Opened Held). x .begun) call-is ∙ w .begun)
 
   -- at most n fields are opened, and they are enough
   abbrev Opens : ℕ → Type 0
@@ -100,7 +81,7 @@ module _ (lent : Lent) where
           (on (p ++ take c i) (b .kept .room) (record { started = false; opening = openingOf b; reading = d .reading; fields = d .fields + 1 }) (drop c i) refl (opened-by h i c e)
           (omega (arith, more)) (omega (arith, more)))
       go (opening.Started c r) e =
-          let (three, same) = call-starts h i c r e in
+          let (three, same) = open-starts (d .opening) room l₀ m₀ i c r e in
           let ready = until-begins lent h .ready in
           let four : d .fields + 1 ≡ 4 = omega arith in
           let long : d .opening .cycle ≤ length room = omega (arith, ready .size, ready .room) in

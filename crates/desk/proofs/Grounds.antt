@@ -5,15 +5,15 @@ use mathlib.Core.List.{List}
 use mathlib.Core.Path.{_≡_, refl, sym, ap, _∙_}
 use Prim.Native.Nat.{ℕ, zero, suc, _≤_, _<_}
 use native.Mathlib.Nat.{add-zero}
-use borrow.Author.Tests.{le-leb, lt-leb}
-use lib.Dec.{leb, leb→le}
+use borrow.Author.Tests.{leb-true, le-leb, lt-leb}
+use lib.Dec.{leb}
 use lib.ListN.{length, drop}
 use Rattle.numbers.specs.Tests.{unless}
-use Rattle.numbers.proofs.Tests.{pass, stop, true-T, not-refused, settled-refused}
+use Rattle.numbers.proofs.Tests.{pass, stop, not-refused, settled-refused}
 use Rattle.opening.specs.Answers.{openGround, openOf}
 use Rattle.reading.specs.Answers.{readGround, readAllOf}
 use Rattle.desk.specs.declared.Outcome.the-variants.{More, Refused}
-use Rattle.desk.specs.Feeding.{Laid, Taken, stops, behind, opensTo, openOne, goOn, openUpto, readTo, cycleOf, readOn, thenRead, feedOf, mostFields, startedGround, deskGround}
+use Rattle.desk.specs.Feeding.{Laid, Taken, stops, behind, opensTo, openOne, goOn, openUpto, readTo, cycleOf, readOn, thenRead, feedOf, mostFields, startedGround, deskGround, Steady}
 
 -- a desk whose run has started opens nothing
 pub opens-nothing : (n : ℕ) (x : Laid) (i : List ℕ) → x .desk .started ≡ true → openUpto n x i ≡ stops x More
@@ -42,13 +42,19 @@ module _ (x : Laid) where
       pub of-reading : x .desk .opening .cycle ≤ length (x .room) → readGround (x .desk .reading) (cycleOf x) (x .ledger) (x .map) ≡ deskGround x
       of-reading h = pass 1 (le-leb _ _ h) refl ∙ by-start true e
 
-  -- a desk with none, whose run has started, has its cycle in the room
-  pub cycle-fits : deskGround x ≡ 0 → x .desk .started ≡ true → x .desk .opening .cycle ≤ length (x .room)
+  -- a started run with none has its cycle in the room, and may be read on
+  pub started-fits : startedGround x ≡ 0 → (x .desk .opening .cycle ≤ length (x .room)) × (readGround (x .desk .reading) (cycleOf x) (x .ledger) (x .map) ≡ 0)
+  started-fits g = let (long, rest) = not-refused 0 (leb (x .desk .opening .cycle) (length (x .room))) _ g in (leb-true _ _ long, rest)
+
+  -- a desk with none is as a call of its record left it
+  pub ground-steady : deskGround x ≡ 0 → Steady x
   unfolding deskGround
-  cycle-fits g e =
-      let (_, rest) = not-refused 0 (leb (x .desk .fields) mostFields) _ g in
-      let started : startedGround x ≡ 0 = ap (λ (t : Bool). cond t (startedGround x) (openGround (x .desk .opening) (x .room))) (sym e) ∙ rest in
-      leb→le _ _ (true-T (not-refused 0 (leb (x .desk .opening .cycle) (length (x .room))) _ started .0))
+  ground-steady g =
+      let (few, rest) = not-refused 0 (leb (x .desk .fields) mostFields) _ g in
+      record { few = leb-true _ _ few; ground = λ e. ap (λ (t : Bool). cond t (startedGround x) (openGround (x .desk .opening) (x .room))) (sym e) ∙ rest }
+
+  pub cycle-fits : deskGround x ≡ 0 → x .desk .started ≡ true → x .desk .opening .cycle ≤ length (x .room)
+  cycle-fits g e = started-fits (ground-steady g .ground e) .0
 
   -- ---- `feed` answers it, and takes nothing
   module _ (i : List ℕ) where

@@ -3,6 +3,7 @@ pub mod Grounds
 pub mod Turns
 pub mod Onward
 pub mod Short
+pub mod Starts
 pub mod Few
 pub mod Standing
 pub mod FirstFields

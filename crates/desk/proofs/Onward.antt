@@ -2,16 +2,16 @@
 -- Assumes nothing.
 use mathlib.Core.Bool.{Bool, true, false, cond}
 use mathlib.Core.List.{List}
-use mathlib.Core.Path.{_≡_, refl, sym, ap, subst, _∙_}
-use Prim.Native.Nat.{ℕ, zero, suc, _+_, _-_, _*_, _≤_, _<_, zero-le}
+use mathlib.Core.Path.{_≡_, refl, sym, ap, subst, subst⁻¹, _∙_}
+use Prim.Native.Nat.{ℕ, zero, suc, _+_, _-_, _*_, _≤_, zero-le}
 use native.Mathlib.Omega.{arith}
-use borrow.Author.Tests.{le-leb, lt-leb}
+use borrow.Author.Tests.{le-leb}
 use lib.Dec.{leb, eqb}
 use lib.IntN.{ℤ}
 use lib.ListN.{length, take, drop, length-drop}
 use Rattle.numbers.specs.Tests.{unless}
 use Rattle.numbers.proofs.Lists.{part-rest}
-use Rattle.numbers.proofs.Tests.{pass, stop}
+use Rattle.numbers.proofs.Tests.{pass}
 use Rattle.step.specs.Step.{State}
 use Rattle.reader.specs.declared.AllAnswer.{AllAnswer}
 use Rattle.reading.specs.declared.Reading.{Reading}
@@ -25,7 +25,9 @@ use Rattle.desk.specs.declared.Desk.{Desk}
 use Rattle.desk.specs.declared.Fed.{Fed}
 use Rattle.desk.specs.declared.Outcome.{Outcome}
 use Rattle.desk.specs.declared.Outcome.the-variants.{Refused}
-use Rattle.desk.specs.Feeding.{Laid, Taken, laidOf, fedOf, stops, behind, openUpto, outcomeOf, readTo, cycleOf, readOn, mostFields, thenRead, feedOf}
+use Rattle.desk.specs.Feeding.{Laid, Taken, laidOf, fedOf, stops, behind, openUpto, outcomeOf, readTo, cycleOf, readOn, mostFields, thenRead, feedOf, startedGround, deskGround}
+use Rattle.desk.proofs.Grounds.{feed-refuses}
+use Rattle.desk.proofs.Starts.{upto-grounded}
 use Rattle.desk.proofs.Turns.{Left, left-is, upto-within}
 
 -- ---- after the start
@@ -56,13 +58,7 @@ module _ (d : Desk) (room : List ℕ) (l : List ℤ) (m i : List ℕ) where
   abbrev laid : Laid
   laid = laidOf d room l m
 
-  -- the room is too short
-  pub short-room : length room < d .opening .cycle → (r : Fed) → r ≡ fedOf (stops laid (Refused 1)) → Left (readOn laid i) r room l m
-  unfolding readOn
-  short-room h r e =
-      subst (λ (y : Taken). Left y r room l m) (stop _ (lt-leb _ _ h)) (e, (refl, (refl, refl)))
-
-  -- it is long enough
+  -- the room is long enough
   pub read-left : d .opening .cycle ≤ length room → (a : AllAnswer) (l′ : List ℤ) (m′ : List ℕ)
       → (let y = readAllOf (d .reading) (take (d .opening .cycle) room) l m i in (a ≡ allAnswer (d .reading) y) × ((l′ ≡ y .tale .run .ledger) × (m′ ≡ y .tale .run .map)))
       → (o : Outcome) → o ≡ outcomeOf (a .last)
@@ -93,9 +89,11 @@ module _ (d : Desk) (room : List ℕ) (l : List ℤ) (m i : List ℕ) where
   abbrev at-first : Laid
   at-first = laidOf d room l m
 
-  pub too-many : mostFields < d .fields → (r : Fed) → r ≡ fedOf (stops at-first (Refused 1)) → Left (feedOf at-first i) r room l m
-  unfolding feedOf
-  too-many h r e = subst (λ (y : Taken). Left y r room l m) (stop _ (lt-leb _ _ h)) (e, (refl, (refl, refl)))
+  -- 1 or 2 comes before all else
+  pub feed-stops : (n : ℕ) → n ≡ deskGround at-first → (n ≡ 0 → ⊥) → (r : Fed) → r ≡ fedOf (stops at-first (Refused n)) → Left (feedOf at-first i) r room l m
+  feed-stops n e some r p =
+      subst⁻¹ (λ (y : Taken). Left y r room l m) (feed-refuses at-first i (λ z. some (e ∙ z)))
+      (p ∙ ap (λ (k : ℕ). fedOf (stops at-first (Refused k))) e, (refl, (refl, refl)))
 
   module _ (few : d .fields ≤ mostFields) (r : Fed) (room′ : List ℕ) (l′ : List ℤ) (m′ : List ℕ) (h : Left (openUpto 4 at-first i) r room′ l′ m′) where
     abbrev then : Laid
@@ -112,6 +110,12 @@ module _ (d : Desk) (room : List ℕ) (l : List ℤ) (m i : List ℕ) where
     open-size-all =
         let w = upto-within 4 at-first i in
         (omega (arith, w .used, ap (λ (y : Fed). y .used) (h .0)), omega (arith, w .fields, few, ap (λ (y : Fed). y .desk .fields) (h .0)))
+
+    -- where the run has started, then or before, it has no 1 or 2
+    pub then-ground : (d .started ≡ true → startedGround at-first ≡ 0) → r .desk .started ≡ true → startedGround then ≡ 0
+    then-ground =
+        let same = left-is (openUpto 4 at-first i) r room′ l′ m′ h in
+        λ g. subst (λ (y : Taken). y .laid .desk .started ≡ true → startedGround (y .laid) ≡ 0) same (upto-grounded 4 at-first i g)
 
     -- the run has not started
     pub not-yet : r .desk .started ≡ false → Left (feedOf at-first i) r room′ l′ m′

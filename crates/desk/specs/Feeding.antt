@@ -2,7 +2,8 @@
 -- Assumes nothing.
 use mathlib.Core.Bool.{true, false, cond}
 use mathlib.Core.List.{List}
-use Prim.Native.Nat.{ℕ, zero, suc, _+_}
+use mathlib.Core.Path.{_≡_}
+use Prim.Native.Nat.{ℕ, zero, suc, _+_, _≤_}
 use lib.Dec.{leb, eqb}
 use lib.IntN.{ℤ}
 use lib.ListN.{length, take, drop}
@@ -167,3 +168,8 @@ startedGround x = unless 1 (leb (x .desk .opening .cycle) (length (x .room))) (r
 -- the 1 or 2 of a desk, 0 where it has none: of its number of fields, then until the start of the opening, after it of the reading
 unfoldable pub deskGround : Laid → ℕ
 deskGround x = unless 1 (leb (x .desk .fields) mostFields) (cond (x .desk .started) (startedGround x) (openGround (x .desk .opening) (x .room)))
+
+-- a desk as a call of its record left it: no more fields than a record can have, and no 1 or 2 where its run has started
+pub record Steady (x : Laid) : Type 0 where
+  pub few : x .desk .fields ≤ mostFields
+  pub ground : x .desk .started ≡ true → startedGround x ≡ 0

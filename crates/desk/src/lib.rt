@@ -2,19 +2,21 @@
 use opening::OpenAnswer;
 use opening::OpenStep;
 use opening::Opening;
+use opening::open_refusal;
 use reader::blank;
 use reader::open;
-use reader::read_all;
+use reader::read_fields;
 use reader::reading_of;
 use reading::Reading;
 use reading::Step;
+use reading::read_refusal;
 use rules::End;
 use rules::Tolerances;
 use state::Ends;
 use state::Run;
 ghost use mathlib.Core.Path.{_≡_};
 ghost use Prim.Native.Nat.{_+_, _≤_};
-ghost use Rattle.desk.specs.Feeding.{emptyDesk, laidOf, fedOf, outcomeOf, opensAs, openOne, openUpto, readOn, feedOf, mostFields};
+ghost use Rattle.desk.specs.Feeding.{emptyDesk, laidOf, fedOf, outcomeOf, opensAs, openOne, openUpto, readOn, feedOf, mostFields, startedGround, deskGround, Steady};
 
 // A record as far as it was read: until the start the opening, after it the reading; and how many fields were accepted.
 pub struct Desk {
@@ -179,18 +181,20 @@ fn outcome_of(step: Step) -> Outcome
 
 // All whole fields after the start, with the cycle in the room.
 fn read_on(desk: Desk, input: &[u8], room: &[u8], ledger: &mut [i64], map: &mut [u64]) -> Fed
-    requires { ⌜ desk .fields ≤ mostFields + 4 ⌝ }
+    requires { ⌜ (desk .fields ≤ mostFields + 4) × (startedGround (laidOf desk (now room) (now ledger) (now map)) ≡ 0) ⌝ }
     ensures { λ r. ⌜ r ≡ fedOf (readOn (laidOf desk (now (room .entry)) (now (ledger .entry)) (now (map .entry))) (now (input .entry))) ⌝ }
     ensures { λ _. ⌜ now (ledger .exit) ≡ readOn (laidOf desk (now (room .entry)) (now (ledger .entry)) (now (map .entry))) (now (input .entry)) .laid .ledger ⌝ }
     ensures { λ _. ⌜ now (map .exit) ≡ readOn (laidOf desk (now (room .entry)) (now (ledger .entry)) (now (map .entry))) (now (input .entry)) .laid .map ⌝ }
 {
     let opening = desk.opening;
-    let size = opening.cycle;
-    if room.len() < size {
-        return stopped(desk, Outcome::Refused(1));
-    }
     let before = desk.reading;
-    let x = read_all(before, input, &room[..size], &mut *ledger, &mut *map);
+    let x = read_fields(
+        before,
+        input,
+        &room[..opening.cycle],
+        &mut *ledger,
+        &mut *map,
+    );
     let reading = x.reading;
     let last = x.last;
     Fed {
@@ -205,16 +209,20 @@ fn read_on(desk: Desk, input: &[u8], room: &[u8], ledger: &mut [i64], map: &mut 
     }
 }
 
-// All whole fields of the input: until the start by `open`, after it by one `read_all` on the rest.
-pub fn feed(desk: Desk, input: &[u8], room: &mut [u8], ledger: &mut [i64], map: &mut [u64]) -> Fed
+// All whole fields of the input, on a desk as the last call left it: until the start by `open`, after it by one `read_fields` on the rest.
+pub fn feed_on(
+    desk: Desk,
+    input: &[u8],
+    room: &mut [u8],
+    ledger: &mut [i64],
+    map: &mut [u64],
+) -> Fed
+    requires { ⌜ Steady (laidOf desk (now room) (now ledger) (now map)) ⌝ }
     ensures { λ r. ⌜ r ≡ fedOf (feedOf (laidOf desk (now (room .entry)) (now (ledger .entry)) (now (map .entry))) (now (input .entry))) ⌝ }
     ensures { λ _. ⌜ now (room .exit) ≡ feedOf (laidOf desk (now (room .entry)) (now (ledger .entry)) (now (map .entry))) (now (input .entry)) .laid .room ⌝ }
     ensures { λ _. ⌜ now (ledger .exit) ≡ feedOf (laidOf desk (now (room .entry)) (now (ledger .entry)) (now (map .entry))) (now (input .entry)) .laid .ledger ⌝ }
     ensures { λ _. ⌜ now (map .exit) ≡ feedOf (laidOf desk (now (room .entry)) (now (ledger .entry)) (now (map .entry))) (now (input .entry)) .laid .map ⌝ }
 {
-    if 8_000_008 < desk.fields {
-        return stopped(desk, Outcome::Refused(1));
-    }
     let x = open_all(desk, input, &mut *room, &mut *ledger, &mut *map);
     let on = x.desk;
     if !on.started {
@@ -229,4 +237,37 @@ pub fn feed(desk: Desk, input: &[u8], room: &mut [u8], ledger: &mut [i64], map: 
         used: used + y.used,
         desk,
     }
+}
+
+// 1 or 2, or 0 where the desk may go on.
+pub fn desk_refusal(desk: Desk, room: &[u8], ledger: &[i64], map: &[u64]) -> u32
+    ensures { λ r. ⌜ r ≡ deskGround (laidOf desk (now (room .entry)) (now (ledger .entry)) (now (map .entry))) ⌝ }
+{
+    if 8_000_008 < desk.fields {
+        return 1;
+    }
+    let opening = desk.opening;
+    if !desk.started {
+        return open_refusal(opening, room);
+    }
+    let size = opening.cycle;
+    if room.len() < size {
+        return 1;
+    }
+    let reading = desk.reading;
+    read_refusal(reading, &room[..size], ledger, map)
+}
+
+// All whole fields of the input, on any desk: desk, memory and cycle are tested once.
+pub fn feed(desk: Desk, input: &[u8], room: &mut [u8], ledger: &mut [i64], map: &mut [u64]) -> Fed
+    ensures { λ r. ⌜ r ≡ fedOf (feedOf (laidOf desk (now (room .entry)) (now (ledger .entry)) (now (map .entry))) (now (input .entry))) ⌝ }
+    ensures { λ _. ⌜ now (room .exit) ≡ feedOf (laidOf desk (now (room .entry)) (now (ledger .entry)) (now (map .entry))) (now (input .entry)) .laid .room ⌝ }
+    ensures { λ _. ⌜ now (ledger .exit) ≡ feedOf (laidOf desk (now (room .entry)) (now (ledger .entry)) (now (map .entry))) (now (input .entry)) .laid .ledger ⌝ }
+    ensures { λ _. ⌜ now (map .exit) ≡ feedOf (laidOf desk (now (room .entry)) (now (ledger .entry)) (now (map .entry))) (now (input .entry)) .laid .map ⌝ }
+{
+    let a = desk_refusal(desk, &room[..], &ledger[..], &map[..]);
+    if a != 0 {
+        return stopped(desk, Outcome::Refused(a));
+    }
+    feed_on(desk, input, &mut *room, &mut *ledger, &mut *map)
 }

@@ -1,4 +1,5 @@
 -- Laws of a turn of reading.
 pub mod Fed
 pub mod Coming
+pub mod Untested
 pub mod Told

@@ -14,29 +14,23 @@ use Rattle.sheet.specs.Laid.{laid}
 use Rattle.sheet.specs.Text.{mostSheet}
 use Rattle.desk.specs.declared.Outcome.{Outcome}
 use Rattle.desk.specs.declared.Outcome.the-variants.{More, Refused}
-use Rattle.desk.specs.Feeding.{Laid, Taken, laidOf, emptyDesk, feedOf}
+use Rattle.desk.specs.Feeding.{Laid, Taken, laidOf, feedOf}
 use Rattle.desk.proofs.Arriving.{Arrived, arrived-none, arrived-more}
 use Rattle.prints.specs.Printed.{printed}
 use Rattle.prints.proofs.Texts.{text-is}
 use Rattle.prints.proofs.Printing.{report-prints, refusal-prints}
 use Rattle.intake.specs.declared.Intake.{Intake}
 use Rattle.intake.specs.Turns.{Came, none, part, textOf, Recorded, Unread}
+use Rattle.intake.proofs.Untested.{begin, came-arrived}
 
 -- on a room, a ledger and a map that are long enough
 module _ (lent : Lent) where
-  abbrev pub begin : Laid
-  begin = laidOf emptyDesk (lent .room₀) (lent .l₀) (lent .m₀)
-
-  came-arrived : {w rest : List ℕ} {x : Laid} {o : Outcome} → Came begin w x rest o → o ≡ More → Arrived lent w x rest
-  came-arrived none e = arrived-none lent
-  came-arrived (part h new) e = arrived-more lent (came-arrived h refl) new e
-
-  came-prints : {w rest : List ℕ} {x : Laid} {o : Outcome} → Came begin w x rest o → textOf o x (length rest) ≡ printed (sheetOf w)
+  came-prints : {w rest : List ℕ} {x : Laid} {o : Outcome} → Came (begin lent) w x rest o → textOf o x (length rest) ≡ printed (sheetOf w)
   came-prints none = report-prints lent (arrived-none lent)
   came-prints (part {w = w} {rest = rest} {x = x} h new) = go (y .outcome) refl
     where
       arrived : Arrived lent w x rest
-      arrived = came-arrived h refl
+      arrived = came-arrived lent h refl
 
       y : Taken
       y = feedOf x (rest ++ new)
@@ -46,7 +40,7 @@ module _ (lent : Lent) where
       go (Refused k) e = refusal-prints lent arrived new k e [] ∙ ap (λ (q : List ℕ). printed (sheetOf q)) (append-nil (w ++ new))
 
   -- "Every figure equals the rules of document 01", to the bytes that are written: the lines are what the rules give for the bytes that came
-  pub take-record-prints : {most : ℕ} {out room after : List ℕ} {l : List ℤ} {m : List ℕ} {r : Intake} (c : Recorded begin most out r room l m after)
+  pub take-record-prints : {most : ℕ} {out room after : List ℕ} {l : List ℤ} {m : List ℕ} {r : Intake} (c : Recorded (begin lent) most out r room l m after)
       → r .failed ≡ false → mostSheet ≤ length out → take (r .printed) after ≡ printed (sheetOf (c .bytes))
   take-record-prints {out = out} {room = room} {l = l} {m = m} c e h =
       let text = textOf (c .outcome) (laidOf (c .desk) room l m) (length (c .rest)) in
@@ -56,6 +50,6 @@ module _ (lent : Lent) where
       ∙ came-prints (c .came)
 
   -- and where the buffer is too short for a field, a refusal before all else
-  pub short-buffer-prints : {most : ℕ} {out room after : List ℕ} {l : List ℤ} {m : List ℕ} {r : Intake} → Unread begin most out r room l m after
+  pub short-buffer-prints : {most : ℕ} {out room after : List ℕ} {l : List ℤ} {m : List ℕ} {r : Intake} → Unread (begin lent) most out r room l m after
       → mostSheet ≤ length out → take (r .printed) after ≡ printed (refused 1 1)
   short-buffer-prints {out = out} u h = text-is _ out (u .printed) (u .lines) h

@@ -4,14 +4,14 @@ use crate::Turned;
 use desk::Desk;
 use desk::Outcome;
 use desk::empty;
-use desk::feed;
+use desk::feed_on;
 use edges::Got;
 use edges::fill;
 ghost use mathlib.Core.Path.{_≡_};
 ghost use Prim.Native.Nat.{_-_, _≤_, _<_, min};
 ghost use lib.ListN.{length, take, drop};
 ghost use lib.Seq.{paste};
-ghost use Rattle.desk.specs.Feeding.{laidOf, emptyDesk, feedOf, longest};
+ghost use Rattle.desk.specs.Feeding.{laidOf, emptyDesk, feedOf, longest, Steady};
 ghost use Rattle.edges.specs.Answers.{Within};
 ghost use Rattle.intake.specs.Turns.{turnOf, bufferAfter, isOn, isFailed, stoppedBy, placeBy, Goes, placeOf, onwards, Stood, Leads};
 
@@ -40,7 +40,7 @@ fn to_front(buffer: &mut [u8], from: usize, upto: usize) -> usize
     n
 }
 
-// The whole fields of the first `upto` bytes go to the desk; the rest moves to the front.
+// The whole fields of the first `upto` bytes go to the desk, as the last turn left it; the rest moves to the front.
 fn digest(
     desk: Desk,
     buffer: &mut [u8],
@@ -50,14 +50,14 @@ fn digest(
     ledger: &mut [i64],
     map: &mut [u64],
 ) -> Turn
-    requires { ⌜ upto ≤ length (now buffer) ⌝ }
+    requires { ⌜ (upto ≤ length (now buffer)) × Steady (laidOf desk (now room) (now ledger) (now map)) ⌝ }
     ensures { λ r. ⌜ r ≡ turnOf (feedOf (laidOf desk (now (room .entry)) (now (ledger .entry)) (now (map .entry))) (take upto (now (buffer .entry)))) upto left ⌝ }
     ensures { λ _. ⌜ now (buffer .exit) ≡ bufferAfter (feedOf (laidOf desk (now (room .entry)) (now (ledger .entry)) (now (map .entry))) (take upto (now (buffer .entry)))) upto (now (buffer .entry)) ⌝ }
     ensures { λ _. ⌜ now (room .exit) ≡ feedOf (laidOf desk (now (room .entry)) (now (ledger .entry)) (now (map .entry))) (take upto (now (buffer .entry))) .laid .room ⌝ }
     ensures { λ _. ⌜ now (ledger .exit) ≡ feedOf (laidOf desk (now (room .entry)) (now (ledger .entry)) (now (map .entry))) (take upto (now (buffer .entry))) .laid .ledger ⌝ }
     ensures { λ _. ⌜ now (map .exit) ≡ feedOf (laidOf desk (now (room .entry)) (now (ledger .entry)) (now (map .entry))) (take upto (now (buffer .entry))) .laid .map ⌝ }
 {
-    let x = feed(desk, &buffer[..upto], &mut *room, &mut *ledger, &mut *map);
+    let x = feed_on(desk, &buffer[..upto], &mut *room, &mut *ledger, &mut *map);
     let on = x.desk;
     let used = x.used;
     let outcome = x.outcome;
@@ -100,7 +100,7 @@ fn turn_by(
     ledger: &mut [i64],
     map: &mut [u64],
 ) -> Turn
-    requires { ⌜ (held ≤ length (now buffer)) × Within (length (now buffer) - held) got × Within left got ⌝ }
+    requires { ⌜ (held ≤ length (now buffer)) × Within (length (now buffer) - held) got × Within left got × Steady (laidOf desk (now room) (now ledger) (now map)) ⌝ }
     ensures { λ r. ⌜ placeOf r (now (buffer .exit)) (now (room .exit)) (now (ledger .exit)) (now (map .exit)) ≡ placeBy got (laidOf desk (now (room .entry)) (now (ledger .entry)) (now (map .entry))) held left (now (buffer .entry)) ⌝ }
 {
     let Got::Bytes(n) = got else {
@@ -132,7 +132,7 @@ fn read_once(
     ledger: &mut [i64],
     map: &mut [u64],
 ) -> Turn
-    requires { ⌜ (held < longest) × (longest ≤ length (now buffer)) × (1 ≤ left) ⌝ }
+    requires { ⌜ (held < longest) × (longest ≤ length (now buffer)) × (1 ≤ left) × Steady (laidOf desk (now room) (now ledger) (now map)) ⌝ }
     ensures { λ r. ⌜ Goes left r ⌝ }
     ensures { λ r. ⌜ Leads (placeOf (onwards desk held left) (now (buffer .entry)) (now (room .entry)) (now (ledger .entry)) (now (map .entry))) (placeOf r (now (buffer .exit)) (now (room .exit)) (now (ledger .exit)) (now (map .exit))) ⌝ }
 {

@@ -1,10 +1,9 @@
 // What the report prints of a record: its sheet, or the refusal with the number of its field.
 use desk::Desk;
+use desk::desk_refusal;
 use figures::figures_of;
-use opening::open_refusal;
 use reader::Ending;
 use reader::ended;
-use reading::read_refusal;
 use sheet::refusal_line;
 use sheet::sheet_lines;
 ghost use mathlib.Core.Path.{_≡_};
@@ -15,7 +14,7 @@ ghost use Rattle.numbers.specs.Tests.{unless};
 ghost use Rattle.sheet.specs.Laid.{laid};
 ghost use Rattle.sheet.specs.Text.{mostSheet, refusalText};
 ghost use Rattle.reader.specs.declared.Ending.the-variants.{Whole};
-ghost use Rattle.desk.specs.Feeding.{laidOf, deskGround};
+ghost use Rattle.desk.specs.Feeding.{laidOf};
 ghost use Rattle.prints.specs.Printed.{nextField, textBy, closeText};
 
 // "K is the number of accepted fields .. plus one".
@@ -34,25 +33,6 @@ pub fn refuse(desk: Desk, number: u32, out: &mut [u8]) -> usize
     ensures { λ _. ⌜ now (out .exit) ≡ unless (now (out .entry)) (leb mostSheet (length (now (out .entry)))) (laid (now (out .entry)) 0 (refusalText number (nextField (desk .fields)))) ⌝ }
 {
     refusal_line(number, next_field(desk.fields), &mut *out)
-}
-
-// 1 or 2, or 0 where the desk may be closed.
-fn desk_refusal(desk: Desk, room: &[u8], ledger: &[i64], map: &[u64]) -> u32
-    ensures { λ r. ⌜ r ≡ deskGround (laidOf desk (now (room .entry)) (now (ledger .entry)) (now (map .entry))) ⌝ }
-{
-    if 8_000_008 < desk.fields {
-        return 1;
-    }
-    let opening = desk.opening;
-    if !desk.started {
-        return open_refusal(opening, room);
-    }
-    let size = opening.cycle;
-    if room.len() < size {
-        return 1;
-    }
-    let reading = desk.reading;
-    read_refusal(reading, &room[..size], ledger, map)
 }
 
 // A record that was read to its end.

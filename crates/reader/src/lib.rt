@@ -12,7 +12,7 @@ use state::Run;
 ghost use mathlib.Core.Path.{_≡_};
 ghost use Rattle.step.specs.Step.{startOf};
 ghost use Rattle.opening.specs.Answers.{nothing, openOf, openAnswer, memoryAfter};
-ghost use Rattle.reading.specs.Answers.{startedReading, readOf, readAllOf};
+ghost use Rattle.reading.specs.Answers.{startedReading, readGround, readOf, readAllOf};
 ghost use Rattle.reader.specs.Answers.{readAnswer, allAnswer, endingOf};
 
 // Whether the input may end here.
@@ -130,6 +130,34 @@ pub fn read(
     }
 }
 
+// All whole fields of the input, on memory, state and cycle that have no 1 or 2.
+pub fn read_fields(
+    reading: Reading,
+    input: &[u8],
+    b: &[u8],
+    ledger: &mut [i64],
+    map: &mut [u64],
+) -> AllAnswer
+    requires { ⌜ readGround reading (now b) (now ledger) (now map) ≡ 0 ⌝ }
+    ensures { λ r. ⌜ r ≡ allAnswer reading (readAllOf reading (now (b .entry)) (now (ledger .entry)) (now (map .entry)) (now (input .entry))) ⌝ }
+    ensures { λ _. ⌜ now (ledger .exit) ≡ readAllOf reading (now (b .entry)) (now (ledger .entry)) (now (map .entry)) (now (input .entry)) .tale .run .ledger ⌝ }
+    ensures { λ _. ⌜ now (map .exit) ≡ readAllOf reading (now (b .entry)) (now (ledger .entry)) (now (map .entry)) (now (input .entry)) .tale .run .map ⌝ }
+{
+    let me = reading.vehicle;
+    let run = reading.run;
+    let t = run.tolerances;
+    let k = reading::along_at(reading, b);
+    let x = reading::all_fields(&me[..], b, t, k, &mut *ledger, &mut *map, input);
+    let on = x.along;
+    let last = x.last;
+    AllAnswer {
+        reading: reading::with_along(reading, on),
+        fields: x.fields,
+        used: x.used,
+        last,
+    }
+}
+
 // All whole fields of the input: memory, state and cycle are tested once.
 pub fn read_all(
     reading: Reading,
@@ -151,19 +179,7 @@ pub fn read_all(
             last: Step::Refused(a),
         };
     }
-    let me = reading.vehicle;
-    let run = reading.run;
-    let t = run.tolerances;
-    let k = reading::along_at(reading, b);
-    let x = reading::all_fields(&me[..], b, t, k, &mut *ledger, &mut *map, input);
-    let on = x.along;
-    let last = x.last;
-    AllAnswer {
-        reading: reading::with_along(reading, on),
-        fields: x.fields,
-        used: x.used,
-        last,
-    }
+    read_fields(reading, input, b, &mut *ledger, &mut *map)
 }
 
 // Whether the input may end where the run has started or not, with so many bytes of an unfinished field left.

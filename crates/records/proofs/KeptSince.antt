@@ -24,7 +24,7 @@ use Rattle.reading.specs.Reading.{Tale, Answered, Read, fieldAt, fieldsOf}
 use Rattle.opening.specs.Opening.{Begun, Opened}
 use Rattle.opening.specs.Answers.{Held, cycleIn, begunOf}
 use Rattle.reading.specs.declared.Reading.{Reading}
-use Rattle.reading.specs.Answers.{noAmounts, startedReading, offeredOf, takeBlock, taleOf, readingOf, isReading, readGround, readOf, readAllOf}
+use Rattle.reading.specs.Answers.{startedReading, offeredOf, takeBlock, taleOf, readingOf, isReading, readGround, readOf, readAllOf}
 use Rattle.records.specs.Records.{Told, withBlock, sheetBy, sheetOf}
 use Rattle.reading.specs.declared.Step.{Step}
 use Rattle.reading.specs.declared.Step.the-variants as step
@@ -50,6 +50,33 @@ toldOf r b xs = record {
   tale = record { place = r .place; passed = r .passed; amounts = r .amounts; run = xs };
 }
 
+-- a reading within its limits, whose memory is that of its run, has no 1 or 2
+module _ {b : List ℕ} {l₀ : List ℤ} {m₀ : List ℕ} {xs : List Sample} (r : Reading) (l : List ℤ) (m : List ℕ) (limits : InLimits (taleOf r l m)) (number : isNumber (r .vehicle) ≡ true)
+    (reached : Reached b (r .run .tolerances) l₀ m₀ xs (r .run) l m) where
+  is-reading : isReading r ≡ true
+  unfolding isReading
+  is-reading = rw (le-leb _ _ (limits .place), le-leb _ _ (limits .passed), limits .amounts, number)
+
+  reached-ground : readGround r b l m ≡ 0
+  unfolding readGround
+  reached-ground = sym (pass 1 is-reading (sym (runs.never-refused b (r .run .tolerances) l₀ m₀ reached 0)))
+
+-- a run that has just started, on whatever memory granted it
+module _ (l : List ℤ) (m : List ℕ) (k : Begun Held) (i : List ℕ) (n : ℕ) (r : Run) (e : onRoom l m k i .step ≡ opening.Started n r) where
+  start-reached : Reached (cycleIn (k .kept)) (r .tolerances) l m [] r (startOf l m .ledger) (startOf l m .map)
+  start-reached =
+      let w = starts _ _ (λ b t. startRefusal b t l m) k i n r e in
+      subst (λ (y : Run). Reached (cycleIn (k .kept)) (y .tolerances) l m [] y (startOf l m .ledger) (startOf l m .map)) (sym (w .run))
+      (runs.Reached.start (w .granted))
+
+  start-limits : InLimits (taleOf (startedReading (k .vehicle) r) (startOf l m .ledger) (startOf l m .map))
+  unfolding areAmounts
+  start-limits = record { place = zero-le; passed = zero-le; amounts = refl }
+
+  -- has no 1 or 2
+  pub start-ground : isNumber (k .vehicle) ≡ true → readGround (startedReading (k .vehicle) r) (cycleIn (k .kept)) (startOf l m .ledger) (startOf l m .map) ≡ 0
+  start-ground number = reached-ground _ _ _ start-limits number start-reached
+
 module _ (lent : Lent) where
   abbrev l₀ : List ℤ
   l₀ = lent .l₀
@@ -68,13 +95,8 @@ module _ (lent : Lent) where
     pub number : isNumber (r .vehicle) ≡ true
 
   module _ (p b : List ℕ) (n : ℕ) (r : Reading) (l : List ℤ) (m : List ℕ) (h : Holds p b n r l m) where
-    is-reading : isReading r ≡ true
-    unfolding isReading
-    is-reading = rw (le-leb _ _ (h .limits .place), le-leb _ _ (h .limits .passed), h .limits .amounts, h .number)
-
     pub ground-passed : readGround r b l m ≡ 0
-    unfolding readGround
-    ground-passed = sym (pass 1 is-reading (sym (runs.never-refused b (r .run .tolerances) l₀ m₀ (h .reached) 0)))
+    ground-passed = reached-ground r l m (h .limits) (h .number) (h .reached)
 
     -- the run of the state a is that of the samples xs
     Ran : State → List Sample → Type 0
@@ -196,25 +218,17 @@ module _ (lent : Lent) where
         (holds-next (take (read i .used) i) (alone (read i)) (fields-alone offeredOf taking (r .vehicle) (taleOf r l m) i)
         (sym (length-take-le (read i .used) i most)) refl)
 
-  no-amounts : areAmounts noAmounts ≡ true
-  unfolding areAmounts
-  no-amounts = refl
-
   holds-start : (p : List ℕ) (k : Begun Held) → Begins lent p k → (i : List ℕ) (n : ℕ) (r : Run) → onRoom l₀ m₀ k i .step ≡ opening.Started n r
       → Holds (p ++ take n i) (cycleIn (k .kept)) 4 (startedReading (k .vehicle) r) (startOf l₀ m₀ .ledger) (startOf l₀ m₀ .map)
-  holds-start p k h i n r e =
-      let w = starts _ _ (λ b t. startRefusal b t l₀ m₀) k i n r e in
-      record {
-        samples = [];
-        fields = 0;
-        count = refl;
-        tells = begins-start lent p k h i n r e;
-        reached =
-            subst (λ (y : Run). Reached (cycleIn (k .kept)) (y .tolerances) l₀ m₀ [] y (startOf l₀ m₀ .ledger) (startOf l₀ m₀ .map)) (sym (w .run))
-            (runs.Reached.start (w .granted));
-        limits = record { place = zero-le; passed = zero-le; amounts = no-amounts };
-        number = h .ready .number;
-      }
+  holds-start p k h i n r e = record {
+    samples = [];
+    fields = 0;
+    count = refl;
+    tells = begins-start lent p k h i n r e;
+    reached = start-reached l₀ m₀ k i n r e;
+    limits = start-limits l₀ m₀ k i n r e;
+    number = h .ready .number;
+  }
 
   pub since-holds : {p b : List ℕ} {n : ℕ} {r : Reading} {l : List ℤ} {m : List ℕ} → Since lent p b n r l m → Holds p b n r l m
   since-holds (started-by {p} {o} {room} h i n r e) =

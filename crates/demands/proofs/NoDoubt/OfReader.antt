@@ -5,6 +5,7 @@ use Rattle.reader.proofs.blank
 use Rattle.reader.proofs.open
 use Rattle.reader.proofs.reading_of
 use Rattle.reader.proofs.read
+use Rattle.reader.proofs.read_fields
 use Rattle.reader.proofs.read_all
 use Rattle.reader.proofs.ended
 use Rattle.demands.proofs.NoDoubt.{AsksNothing, OneAnswer, same}
@@ -33,6 +34,9 @@ read-one-answer κs a r r′ w w′ p q = (same (p .0) (q .0), λ i. (tt, (tt, (
 
 pub read-asks-nothing : AsksNothing read.ended read.Reads.Asked
 read-asks-nothing κs a = tt
+
+pub read-fields-one-answer : OneAnswer read_fields.ended read_fields.Reads.Learnt
+read-fields-one-answer κs a r r′ w w′ p q = (same (p .0) (q .0), λ i. (tt, (tt, (tt, (same (p .1 .0) (q .1 .0) i, (same (p .1 .1) (q .1 .1) i, tt))))))
 
 pub read-all-one-answer : OneAnswer read_all.ended read_all.Reads.Learnt
 read-all-one-answer κs a r r′ w w′ p q = (same (p .0) (q .0), λ i. (tt, (tt, (tt, (same (p .1 .0) (q .1 .0) i, (same (p .1 .1) (q .1 .1) i, tt))))))

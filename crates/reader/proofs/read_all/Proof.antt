@@ -1,23 +1,10 @@
--- `reader::read_all` meets its contract: a test that refuses leaves all as it was; else the input is read from where the run stands.
+-- `reader::read_all` meets its contract: a test that refuses leaves all as it was; else the fields are read.
 -- Assumes nothing.
-use mathlib.Core.Path.{_≡_, sym, _∙_}
+use mathlib.Core.Path.{sym, _∙_}
 use borrow.Author.Needs.{needs}
-use lib.ListN.{length}
-use Rattle.reading.specs.Answers.{readGround}
-use Rattle.reader.proofs.Answering.{along-asked, ready-at, all-refuses, all-taken}
+use Rattle.reader.proofs.Answering.{all-refuses}
 use Rattle.reader.proofs.read_all.Statement.{statement}
 use Rattle.reader.proofs.read_all.Tie as tie
-
--- the tests passed
-abbrev entry : tie.Else1 → tie.Start
-entry c = c .before .before .before .before .before .before .before
-
-passed : (c : tie.Else1) → (let a = entry c .args in readGround (a .reading) (a .b .now) (a .ledger .now) (a .map .now) ≡ 0)
-passed c = sym (c .before .read-refusal .ensures) ∙ c .if1 .left
-
--- the vehicle has 17 characters
-seventeen : (s : tie.Start) → length (s .args .reading .vehicle) ≡ 17
-seventeen s = search needs
 
 read-refusal-requires : tie.Need-read-refusal-requires
 read-refusal-requires c κs = search needs
@@ -34,24 +21,8 @@ returns c =
     let a = f .before .before .before .before .before .before .args in
     all-refuses (a .reading) (a .b .now) (a .ledger .now) (a .map .now) (a .input .now) _ (f .read-refusal .ensures) (c .if1 .taken)
 
-along-at-requires : tie.Need-along-at-requires
-along-at-requires c κs =
-    let e = c .before .before .before in
-    let a = entry e .args in
-    along-asked (a .reading) (a .b .now) (a .ledger .now) (a .map .now) (passed e)
-
-slice-aggregate-all-fields : tie.Need-slice-aggregate-all-fields
-slice-aggregate-all-fields c = sym (seventeen (entry (c .before .before .before .before .before)))
-
-all-fields-requires : tie.Need-all-fields-requires
-all-fields-requires c κs =
-    let k = c .before .before .before in
-    let e = k .before .before .before .before in
-    let a = entry e .args in
-    ready-at (a .reading) (a .b .now) (a .ledger .now) (a .map .now) (passed e) (seventeen (entry e)) _ (k .along-at .ensures)
-
-with-along-requires : tie.Need-with-along-requires
-with-along-requires c κs = search needs
+read-fields-requires : tie.Need-read-fields-requires
+read-fields-requires c κs = let e = c .before .before in sym (e .before .read-refusal .ensures) ∙ e .if1 .left
 
 same-length-3 : tie.Need-same-length-3
 same-length-3 c = search needs
@@ -60,12 +31,7 @@ same-length-4 : tie.Need-same-length-4
 same-length-4 c = search needs
 
 returns-2 : tie.Need-returns-2
-returns-2 c =
-    let x = c .before .before .before .before .before in
-    let k = x .before .before .before .before in
-    let e = k .before .before .before .before in
-    let a = entry e .args in
-    all-taken (a .reading) (a .b .now) (a .ledger .now) (a .map .now) (passed e) (a .input .now) _ (k .along-at .ensures) _ _ (x .all-fields .ensures) (c .with-along .ensures)
+returns-2 c = c .before .before .before .read-fields .ensures
 
 pub read-all-spec : {M : Type 1} → statement M
 read-all-spec =
@@ -75,10 +41,7 @@ read-all-spec =
     same-length
     same-length-2
     returns
-    along-at-requires
-    slice-aggregate-all-fields
-    all-fields-requires
-    with-along-requires
+    read-fields-requires
     same-length-3
     same-length-4
     returns-2)

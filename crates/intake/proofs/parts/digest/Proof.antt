@@ -13,7 +13,7 @@ use Rattle.intake.proofs.parts.digest.Statement.{statement}
 use Rattle.intake.proofs.parts.digest.Tie as tie
 
 -- the desk on its memory, and what it takes of the bytes lent
-abbrev entry : tie.After-feed → tie.Start
+abbrev entry : tie.After-feed-on → tie.Start
 entry c = c .before .before .before .before .before .before .before .before
 
 abbrev laid : tie.Start → Laid
@@ -22,14 +22,14 @@ laid s = laidOf (s .args .desk) (s .args .room .now) (s .args .ledger .now) (s .
 abbrev taken : tie.Start → Taken
 taken s = feedOf (laid s) (take (s .args .upto) (s .args .buffer .now))
 
-slice-reshare-prefix-feed : tie.Need-slice-reshare-prefix-feed
-slice-reshare-prefix-feed c = search needs
+slice-reshare-prefix-feed-on : tie.Need-slice-reshare-prefix-feed-on
+slice-reshare-prefix-feed-on c = search needs
 
-slice-aggregate-feed : tie.Need-slice-aggregate-feed
-slice-aggregate-feed c = let s = c .before .before .before .before in sym (length-take-le (s .args .upto) (s .args .buffer .now) (s .pre))
+slice-aggregate-feed-on : tie.Need-slice-aggregate-feed-on
+slice-aggregate-feed-on c = let s = c .before .before .before .before in sym (length-take-le (s .args .upto) (s .args .buffer .now) (s .pre .0))
 
-feed-requires : tie.Need-feed-requires
-feed-requires c κs = search needs
+feed-on-requires : tie.Need-feed-on-requires
+feed-on-requires c κs = let s = c .before .before .before .before .before .before .before in s .pre .1
 
 enum-known-outcome : tie.Need-enum-known-outcome
 enum-known-outcome c = search needs
@@ -41,9 +41,9 @@ to-front-requires : tie.Need-to-front-requires
 to-front-requires c κs =
     let fed = c .before .before .before .before .before .before .before .before .before in
     let s = entry fed in
-    let used = ap (λ (x : Fed). x .used) (fed .feed .ensures .0) in
+    let used = ap (λ (x : Fed). x .used) (fed .feed-on .ensures .0) in
     let most = feed-used (laid s) (take (s .args .upto) (s .args .buffer .now)) in
-    (omega (arith, used, most, length-take-le (s .args .upto) (s .args .buffer .now) (s .pre)), s .pre)
+    (omega (arith, used, most, length-take-le (s .args .upto) (s .args .buffer .now) (s .pre .0)), s .pre .0)
 
 same-length : tie.Need-same-length
 same-length c = search needs
@@ -62,7 +62,7 @@ returns c =
     let known = c .before in
     let fed = known .before .before .before .before .before .before .before .before in
     let s = entry fed in
-    let e = fed .feed .ensures in
+    let e = fed .feed-on .ensures in
     let t = refused-turn (taken s) _ (e .0) (s .args .upto) (s .args .left) (s .args .buffer .now) (known .outcome .given .0 .0) (known .outcome .given .1) in
     (t .0, (t .1, e .1))
 
@@ -84,7 +84,7 @@ returns-2 c =
     let told = moved .before .before in
     let fed = told .before .before .before .before .before .before .before .before in
     let s = entry fed in
-    let e = fed .feed .ensures in
+    let e = fed .feed-on .ensures in
     let m = moved .to-front .ensures in
     let t = more-turn (taken s) _ (e .0) (s .args .upto) (s .args .left) (s .args .buffer .now) (told .enum-told .given .1) _ _ (m .0) (m .1) in
     (t .0, (t .1, e .1))
@@ -93,9 +93,9 @@ pub digest-spec : {M : Type 1} → statement M
 digest-spec =
     tie.close
     (tie.spec
-    slice-reshare-prefix-feed
-    slice-aggregate-feed
-    feed-requires
+    slice-reshare-prefix-feed-on
+    slice-aggregate-feed-on
+    feed-on-requires
     enum-known-outcome
     enum-told
     to-front-requires

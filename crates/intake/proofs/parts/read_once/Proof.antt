@@ -74,7 +74,10 @@ space c =
     )
 
 turn-by-requires : tie.Need-turn-by-requires
-turn-by-requires c κs = space (c .before .before .before .before .before)
+turn-by-requires c κs =
+    let came = c .before .before .before .before .before in
+    let w = space came in
+    (w .0, w .1, w .2, came .before .before .before .before .before .before .before .pre .3)
 
 same-length : tie.Need-same-length
 same-length c = search needs

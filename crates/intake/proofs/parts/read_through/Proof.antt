@@ -9,6 +9,7 @@ use lib.ListN.{length}
 use Rattle.desk.specs.Feeding.{laidOf, emptyDesk, longest}
 use Rattle.intake.specs.Turns.{placeOf, onwards, Stood}
 use Rattle.intake.proofs.Coming.{nothing-yet, on-again, all-came}
+use Rattle.intake.proofs.Untested.{stood-steady}
 use Rattle.intake.proofs.parts.read_through.Statement.{statement}
 use Rattle.intake.proofs.parts.read_through.Tie as tie
 
@@ -35,7 +36,9 @@ loop-holds : tie.Need-loop-holds Inv-loop μ-loop
 loop-holds c = (omega arith, (refl, (refl, (refl, refl))), nothing-yet _ _ _ _ _ _ (c .empty .ensures))
 
 read-once-requires : tie.Need-read-once-requires Inv-loop μ-loop
-read-once-requires c κs = let at = c .before .before .before .before .before in (at .loop .inv .0, omega (arith, at .loop .inv .1 .0, at .before .before .before .before .before .pre), omega arith)
+read-once-requires c κs =
+    let at = c .before .before .before .before .before in
+    (at .loop .inv .0, omega (arith, at .loop .inv .1 .0, at .before .before .before .before .before .pre), omega arith, stood-steady _ _ _ _ _ _ _ _ _ _ _ (at .loop .inv .2))
 
 goes-on-requires : tie.Need-goes-on-requires Inv-loop μ-loop
 goes-on-requires c κs = search needs

@@ -47,7 +47,7 @@ sub-digest : tie.Need-sub-digest
 sub-digest c = came (c .before .before) .1
 
 digest-requires : tie.Need-digest-requires
-digest-requires c κs = came (c .before .before .before .before .before) .0
+digest-requires c κs = let known = c .before .before .before .before .before in (came known .0, entry known .pre .3)
 
 same-length : tie.Need-same-length
 same-length c = search needs

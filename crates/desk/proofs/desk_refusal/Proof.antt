@@ -1,13 +1,13 @@
--- `prints::desk_refusal` meets its contract: each return is under the tests that `deskGround` makes.
+-- `desk::desk_refusal` meets its contract: each return is under the tests that `deskGround` makes.
 -- Assumes nothing.
 use mathlib.Core.Path.{sym, _∙_}
 use borrow.Author.Needs.{needs}
 use borrow.Author.Tests.{not-true, not-false}
 use lib.Seq.{length-take-le}
 use Rattle.desk.specs.Feeding.{Laid, laidOf}
 use Rattle.desk.proofs.Grounds.{many-fields, of-opening, no-room, of-reading}
-use Rattle.prints.proofs.desk_refusal.Statement.{statement}
-use Rattle.prints.proofs.desk_refusal.Tie as tie
+use Rattle.desk.proofs.desk_refusal.Statement.{statement}
+use Rattle.desk.proofs.desk_refusal.Tie as tie
 
 abbrev laid : tie.Start → Laid
 laid s = laidOf (s .args .desk) (s .args .room .now) (s .args .ledger .now) (s .args .map .now)
