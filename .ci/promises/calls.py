@@ -1,4 +1,4 @@
-# The functions of the sources, which calls which, and in which of them a must-fail edit stands.
+# The functions and constants of the sources, which names which, and in which of them a must-fail edit stands.
 import glob
 import re
 
@@ -11,9 +11,9 @@ def line_of(edit):
 
 
 def functions_of(path):
-    """Name and text of each function, in order."""
+    """Name and text of each function and constant, in order."""
     text = open(path).read()
-    starts = [m for m in re.finditer(r'^(?:pub )?(?:extern "C" )?fn (\w+)', text, re.M)]
+    starts = [m for m in re.finditer(r'^(?:pub )?(?:(?:extern "C" )?fn|const) (\w+)', text, re.M)]
     ends = [m.start() for m in starts[1:]] + [len(text)]
     return [(m.group(1), text[m.start():end]) for m, end in zip(starts, ends)]
 
@@ -38,7 +38,7 @@ class Calls:
         crate, file, _ = function
         code = "\n".join(line for line in self.text[function].splitlines() if not re.match(r"\s*(//|requires|ensures)", line))
         found = set()
-        for first, name in re.findall(r"\b(?:(\w+)::)?(?:\w+::)*(\w+)\(", code):
+        for first, name in re.findall(r"\b(?:(\w+)::)?(?:\w+::)*(\w+(?=\()|[A-Z][A-Z0-9_]+\b)", code):
             found |= self.named(first, name) or self.named(self.imports[crate, file].get(name, crate), name)
         return found
 

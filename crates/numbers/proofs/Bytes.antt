@@ -1,9 +1,10 @@
 -- Laws of numbers of several bytes, whatever their width.
 -- Assumes nothing.
 use mathlib.Core.List.{List, _++_}
+use mathlib.Core.Logic.{⊎-elim}
 use mathlib.Core.Path.{_≡_, refl, sym, ap, ap₂, _∙_}
 use Prim.Native.Nat.{ℕ, zero, suc, _+_, _*_, _^_, _≤_, _<_}
-use native.Mathlib.Nat.{pow-suc, add-zero, add-suc, add-assoc}
+use native.Mathlib.Nat.{le-refl, le-step, le-of-suc-le-suc, not-suc-le-zero, eq-or-lt-of-le, pow-suc, add-zero, add-suc, add-assoc}
 use native.Mathlib.Omega.{arith}
 use lib.Dec.{lit<}
 use lib.ListN.{length, getD, List·getD-append}
@@ -45,3 +46,21 @@ be-right zero p q i = refl
 be-right (suc n) p q i =
     let e : length p + i + n ≡ length p + (i + n) = omega arith in
     ap₂ (λ (x y : ℕ). 256 * x + y) (be-right n p q i) (ap (λ (k : ℕ). getD (p ++ q) k 0) e ∙ getD-append-add p q (i + n) 0)
+
+-- ---- the same n bytes from place i, and the same number
+
+pub same-bytes : (n : ℕ) (a b : List ℕ) (i : ℕ) → ((k : ℕ) → k < n → getD a (i + k) 0 ≡ getD b (i + k) 0) → be n a i ≡ be n b i
+unfolding be
+same-bytes zero a b i h = refl
+same-bytes (suc n) a b i h =
+    ap₂ (λ (x y : ℕ). 256 * x + y) (same-bytes n a b i (λ k l. h k (le-step l))) (h n (le-refl (suc n)))
+
+pub same-be : (a b : List ℕ) → ((k : ℕ) → getD a k 0 < 256) → ((k : ℕ) → getD b k 0 < 256)
+    → (n i : ℕ) → be n a i ≡ be n b i → (k : ℕ) → k < n → getD a (i + k) 0 ≡ getD b (i + k) 0
+unfolding be
+same-be a b p q zero i e k l = absurd (not-suc-le-zero l)
+same-be a b p q (suc n) i e k l =
+    ⊎-elim
+    (λ (m : k ≡ n). rw m (omega (arith, p (i + n), q (i + n))))
+    (λ (m : k < n). same-be a b p q n i (omega (arith, p (i + n), q (i + n))) k m)
+    (eq-or-lt-of-le (le-of-suc-le-suc l))

@@ -1,21 +1,23 @@
--- Sums over the numbers below n: one term grows, no term counts, bounds of a sum from bounds of its terms, and a sum that a loop forms.
+-- Sums over the numbers below n: one term grows, no term counts, bounds of a sum from bounds of its terms, a sum that a loop forms, and how many of n tests pass.
 -- Assumes nothing.
-use mathlib.Core.Bool.{true}
+use mathlib.Core.Bool.{Bool, true, false, _&&_, and-true, and-false}
 use mathlib.Core.Logic.{⊎-elim}
 use mathlib.Core.Path.{_≡_, refl, sym, ap, ap₂, _∙_}
 use Prim.Native.Nat.{ℕ, zero, suc, _+_, _*_, _^_, _≤_, _<_, zero-le}
 use native.Mathlib.Nat.{le-refl, le-step, le-of-suc-le-suc, not-suc-le-zero, eq-or-lt-of-le, suc-mul, add-zero, add-suc, add-assoc, add-le-add, mul-le-mul-right}
+use native.Mathlib.Numerals.{add-one}
 use native.Mathlib.Omega.{arith}
-use borrow.Author.Tests.{le-leb}
-use lib.Dec.{T, ltb}
+use borrow.Author.Tests.{le-leb, ne-eqb}
+use lib.Dec.{T, ltb, eqb, eqb·suc-suc}
 use lib.IntN.{ℤ, pos, _+ℤ_}
 use lib.Signed.{leZ}
 use mir.Syntax.{Width}
 use mir.Val.{SFits, hbits, toZ, ofZ}
 use Rattle.numbers.specs.Range.{fold, sum, sumℤ}
+use Rattle.numbers.specs.Tests.{bit, allBelow}
 use Rattle.numbers.specs.Whole.{between, Sized}
 use Rattle.numbers.proofs.Range.{fold-same, fold-more, fold-none, sum-ℕ}
-use Rattle.numbers.proofs.Tests.{both}
+use Rattle.numbers.proofs.Tests.{both, bit-most}
 use Rattle.numbers.proofs.Whole.{of-nat, weaken, sized-add, le-add}
 use Rattle.numbers.proofs.Signed.{sfits, read}
 
@@ -102,3 +104,38 @@ added {w} {b} {n} {f} {s} {k} {x} small h p l term = record { fits = fits; summe
 
     fits : SFits w (toZ w s +ℤ x)
     fits = rw more (sfits w small sized)
+
+-- ---- a loop that counts how many of n tests pass
+
+-- s of the tests below k do
+pub record Counting (n : ℕ) (test : ℕ → Bool) (s k : ℕ) : Type 0 where
+  pub most : k ≤ n
+  pub is : s ≡ sum (λ j. bit (test j)) k
+
+pub counting-none : {n : ℕ} {test : ℕ → Bool} → Counting n test 0 0
+unfolding fold
+counting-none = record { most = zero-le; is = refl }
+
+pub counting-more : {n : ℕ} {test : ℕ → Bool} {s k x : ℕ} → Counting n test s k → k < n → x ≡ bit (test k) → Counting n test (s + x) (k + 1)
+counting-more {test = test} {k = k} p h e = record { most = omega arith; is = ap₂ _+_ (p .is) e ∙ sym (fold-more _+_ 0 (λ j. bit (test j)) k) }
+
+pub counting-few : {n : ℕ} {test : ℕ → Bool} {s k : ℕ} → Counting n test s k → s ≤ k
+counting-few {test = test} {k = k} p = let m = sum-most 1 (λ j. bit (test j)) k (λ j _. bit-most (test j)) in omega (arith, p .is)
+
+-- all pass where n do
+all-pass : (n : ℕ) (test : ℕ → Bool) → eqb (sum (λ j. bit (test j)) n) n ≡ allBelow n test
+unfolding fold allBelow
+all-pass zero test = refl
+all-pass (suc n) test = go (test n) (all-pass n test)
+  where
+    few : ℕ
+    few = sum (λ j. bit (test j)) n
+
+    go : (b : Bool) → eqb few n ≡ allBelow n test → eqb (few + bit b) (suc n) ≡ (allBelow n test && b)
+    go true e = rw (add-one, eqb·suc-suc) (e ∙ sym (and-true (allBelow n test)))
+    go false e =
+        let m = sum-most 1 (λ j. bit (test j)) n (λ j _. bit-most (test j)) in
+        ne-eqb (few + 0) (suc n) (λ e. omega arith) ∙ sym (and-false (allBelow n test))
+
+pub counting-all : {n : ℕ} {test : ℕ → Bool} {s k : ℕ} → Counting n test s k → n ≤ k → eqb s n ≡ allBelow n test
+counting-all {n} {test} {s} {k} p h = let e : k ≡ n = omega arith in ap (λ (x : ℕ). eqb x n) (p .is ∙ ap (sum (λ j. bit (test j))) e) ∙ all-pass n test

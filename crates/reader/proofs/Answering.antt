@@ -1,19 +1,23 @@
 -- `read` and `read_all` on a reading with its lent memory: what the tests before a field say, and what is answered after them.
 -- Assumes nothing.
-use mathlib.Core.Bool.{true}
+use mathlib.Core.Bool.{true, _&&_}
 use mathlib.Core.List.{List}
 use mathlib.Core.Path.{_≡_, refl, sym, ap, subst, subst⁻¹, _∙_}
 use Prim.Native.Nat.{ℕ}
 use native.Mathlib.Omega.{arith}
+use lib.Dec.{leb}
 use lib.IntN.{ℤ}
 use lib.ListN.{length}
-use Rattle.numbers.proofs.Tests.{not-refused, settled-taken, settled-refused}
+use Rattle.numbers.proofs.Tests.{both, not-refused, settled-taken, settled-refused}
+use Rattle.rules.specs.Bench.{mostPassed}
+use Rattle.rules.specs.Closing.{areAmounts}
 use Rattle.rules.specs.Cycle.{valid, seconds}
 use Rattle.rules.specs.declared.Tolerances.{Tolerances}
 use Rattle.step.specs.Step.{State}
 use Rattle.numbers.specs.Tests.{settled}
 use Rattle.judge.proofs.Calls.{kept-ground}
 use Rattle.state.proofs.Checked.{Ground, ground-passed}
+use Rattle.fields.specs.Values.{isNumber}
 use Rattle.reading.specs.declared.Along.{Along}
 use Rattle.reading.specs.declared.Passage.{Passage}
 use Rattle.reader.specs.declared.ReadAnswer.{ReadAnswer}
@@ -22,7 +26,7 @@ use Rattle.reading.specs.declared.Reading.{Reading}
 use Rattle.reading.specs.declared.Step.the-variants.{Refused}
 use Rattle.reading.specs.declared.Stepped.{Stepped}
 use Rattle.reading.specs.Reading.{Answered, Read}
-use Rattle.reading.specs.Answers.{readGround, readOf, readAllOf}
+use Rattle.reading.specs.Answers.{isReading, readGround, readOf, readAllOf}
 use Rattle.reader.specs.Answers.{readAnswer, allAnswer}
 use Rattle.reading.specs.Along.{alongAt, withAlong, frontAs, allAs, Ready}
 use Rattle.reading.proofs.Taking.{Took, Passed}
@@ -44,13 +48,17 @@ module _ (r : Reading) (b : List ℕ) (l : List ℤ) (m : List ℕ) where
     unfolding readGround
     grounded = ground-passed (not-refused 0 _ _ e .1)
 
+    valid-number : isNumber (r .vehicle) ≡ true
+    unfolding readGround isReading
+    valid-number = both (leb (r .place) 4 && leb (r .passed) mostPassed && areAmounts (r .amounts)) _ (not-refused 0 (isReading r) _ e .0) .1
+
     pub along-asked : (valid b ≡ true) × (seconds b ≡ r .run .seconds)
     along-asked = (grounded .sound, grounded .same-seconds)
 
     pub ready-at : length (r .vehicle) ≡ 17 → (k : Along) → k ≡ alongAt r b → Ready (r .vehicle) b t k l m
     ready-at h k p =
         subst⁻¹ (λ (y : Along). Ready (r .vehicle) b t y l m) p
-        (record { number = omega arith; kept = kept-ground (r .run) b l m grounded; few = grounded .limits .offered })
+        (record { number = omega arith; valid = valid-number; kept = kept-ground (r .run) b l m grounded; few = grounded .limits .offered })
 
     -- what is read from k on is what the call reads
     called : {X : Type 0} (f : Along → X) (k : Along) → k ≡ alongAt r b → (refused : X) → f k ≡ settled (readGround r b l m) (f (alongAt r b)) refused

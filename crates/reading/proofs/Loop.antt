@@ -88,6 +88,7 @@ module _ (me b : List ℕ) (t : Tolerances) where
         let going : r .along .going ≡ goingOf b (frontAs b t k l m me i .tale .run) = ap (λ (x : Stepped). x .along .going) (h .0) in
         record {
           number = y .number;
+          valid = y .valid;
           kept =
               subst⁻¹ (λ (g : Going). Kept b t g l′ m′) going
               (subst⁻¹ (λ (x : List ℤ). Kept b t (goingOf b (frontAs b t k l m me i .tale .run)) x m′) (h .1 .0)

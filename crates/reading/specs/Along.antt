@@ -10,7 +10,7 @@ use Rattle.rules.specs.declared.Amounts.{Amounts}
 use Rattle.rules.specs.declared.Tolerances.{Tolerances}
 use Rattle.step.specs.Step.{State, Kept, held, standing, goingOf, withGoing}
 use Rattle.blocks.specs.Blocks.{samplesIn, areSamples}
-use Rattle.fields.specs.Values.{samplesOf}
+use Rattle.fields.specs.Values.{isNumber, samplesOf}
 use Rattle.contents.specs.declared.Content.{Content}
 use Rattle.contents.specs.declared.Content.the-variants.{Own, Foreign}
 use Rattle.reading.specs.Reading.{Tale, Answered, Read, stepOf, taleAfter, brought, fieldAt, fieldsOf}
@@ -75,5 +75,6 @@ pub record Brought (b : List ℕ) (t : Tolerances) (k : Along) (l : List ℤ) (m
 -- what holds of a reading while fields are taken
 pub record Ready (me : List ℕ) (b : List ℕ) (t : Tolerances) (k : Along) (l : List ℤ) (m : List ℕ) : Type 0 where
   pub number : 17 ≤ length me
+  pub valid : isNumber me ≡ true
   pub kept : Kept b t (k .going) l m
   pub few : k .going .offered ≤ 4_000_000
