@@ -1,5 +1,6 @@
 # The functions and constants of the sources, which names which, and in which of them a must-fail edit stands.
 import glob
+import os
 import re
 
 
@@ -24,9 +25,9 @@ class Calls:
         self.imports = {}
         for path in sorted(glob.glob("crates/*/src/*.rt")):
             crate, file = path.split("/")[1], path.split("/")[3]
-            # the names that the file imports from other crates
+            # the names that the file imports from other crates: `super` and the crate's own modules are none
             used = re.findall(r"^use (\w+)(?:::\w+)*::(\w+);", open(path).read(), re.M)
-            self.imports[crate, file] = {name: source for source, name in used if source != "super"}
+            self.imports[crate, file] = {name: source for source, name in used if os.path.isdir(f"crates/{source}")}
             for name, text in functions_of(path):
                 self.text[crate, file, name] = text
         self.called = {f: self.calls(f) for f in self.text}

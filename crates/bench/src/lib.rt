@@ -32,5 +32,5 @@ pub extern "C" fn paperwhelk_verdict(
     if 1500 < speed {
         return -5;
     }
-    band::verdict_at(cycle, t, position, speed) as i32
+    window::verdict_at(cycle, t, position, speed) as i32
 }

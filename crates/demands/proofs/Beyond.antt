@@ -70,7 +70,7 @@ module _ (c : ℕ) (l : List ℤ) (h : c < 64) where
           plus-beyond (plus l₁ (9 * c + k) e) (9 * c + (4 + k)) d (omega arith) ∙ plus-beyond l₁ (9 * c + k) e (omega arith) ∙ marked-beyond out
 
 module _ (b : List ℕ) (t : Tolerances) where
-  step-beyond : (a : State) (x : Sample) → Kept b t (goingOf b a) (a .ledger) (a .map)
+  step-beyond : (a : State) (x : Sample) → Kept b t (goingOf b (t .time) a) (a .ledger) (a .map)
       → Beyond (a .ledger) (a .map) (step b t a x .ledger) (step b t a x .map)
   unfolding step judge
   step-beyond a x k = go (isOpen (a .end)) refl
@@ -87,7 +87,7 @@ module _ (b : List ℕ) (t : Tolerances) where
           }
       go false e = untouched
 
-  pub steps-beyond : (a : State) (s : ℕ → Sample) (n : ℕ) → Kept b t (goingOf b a) (a .ledger) (a .map) → ((i : ℕ) → i < n → isSample (s i) ≡ true)
+  pub steps-beyond : (a : State) (s : ℕ → Sample) (n : ℕ) → Kept b t (goingOf b (t .time) a) (a .ledger) (a .map) → ((i : ℕ) → i < n → isSample (s i) ≡ true)
       → Beyond (a .ledger) (a .map) (steps b t a s n .ledger) (steps b t a s n .map)
   unfolding fold
   steps-beyond a s zero k h = untouched

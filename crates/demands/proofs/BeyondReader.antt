@@ -58,7 +58,7 @@ open-beyond c =
 
 module _ (me b : List ℕ) (t : Tolerances) (l : List ℤ) (m : List ℕ) where
   record Keeps (k : Tale State) : Type 0 where
-    kept : Kept b t (goingOf b (k .run)) (k .run .ledger) (k .run .map)
+    kept : Kept b t (goingOf b (t .time) (k .run)) (k .run .ledger) (k .run .map)
     beyond : Beyond l m (k .run .ledger) (k .run .map)
 
   content-keeps : (k : Tale State) (tag : ℕ) (v : List ℕ) (c : Content) → Says me (k .passed) (k .run .offered) tag v c → Keeps k

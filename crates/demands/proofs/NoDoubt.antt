@@ -7,7 +7,7 @@ use borrow.Fn.World.{ArgsD, ResD}
 pub mod OfNumbers
 pub mod OfValues
 pub mod OfCycle
-pub mod OfBand
+pub mod OfWindow
 pub mod OfBench
 pub mod OfMap
 pub mod OfLedger

@@ -3,7 +3,7 @@
 use mathlib.Core.Bool.{true, _&&_}
 use mathlib.Core.List.{List}
 use mathlib.Core.Path.{_≡_, refl, sym, ap, subst, subst⁻¹, _∙_}
-use Prim.Native.Nat.{ℕ}
+use Prim.Native.Nat.{ℕ, _≤_}
 use native.Mathlib.Omega.{arith}
 use lib.Dec.{leb}
 use lib.IntN.{ℤ}
@@ -52,8 +52,8 @@ module _ (r : Reading) (b : List ℕ) (l : List ℤ) (m : List ℕ) where
     unfolding readGround isReading
     valid-number = both (leb (r .place) 4 && leb (r .passed) mostPassed && areAmounts (r .amounts)) _ (not-refused 0 (isReading r) _ e .0) .1
 
-    pub along-asked : (valid b ≡ true) × (seconds b ≡ r .run .seconds)
-    along-asked = (grounded .sound, grounded .same-seconds)
+    pub along-asked : (valid b ≡ true) × (seconds b ≡ r .run .seconds) × (r .run .tolerances .time ≤ 40)
+    along-asked = (grounded .sound, grounded .same-seconds, grounded .limits .tolerated .time)
 
     pub ready-at : length (r .vehicle) ≡ 17 → (k : Along) → k ≡ alongAt r b → Ready (r .vehicle) b t k l m
     ready-at h k p =
@@ -65,18 +65,18 @@ module _ (r : Reading) (b : List ℕ) (l : List ℤ) (m : List ℕ) where
     called f k p refused = ap f p ∙ sym (settled-taken _ e)
 
     module _ (i : List ℕ) (k : Along) (p : k ≡ alongAt r b) {l′ : List ℤ} {m′ : List ℕ} (y : Reading) where
-      pub read-taken : (x : Stepped) → Took b (frontAs b t k l m (r .vehicle) i) x l′ m′ → y ≡ withAlong r (x .along)
+      pub read-taken : (x : Stepped) → Took b (t .time) (frontAs b t k l m (r .vehicle) i) x l′ m′ → y ≡ withAlong r (x .along)
           → ReadBy r (readOf r b l m i) (record { step = x .step; reading = y }) l′ m′
       unfolding readOf
       read-taken x h q =
-          let g = subst (λ (z : Answered State). Took b z x l′ m′) (called (λ z. frontAs b t z l m (r .vehicle) i) k p _) h in
+          let g = subst (λ (z : Answered State). Took b (t .time) z x l′ m′) (called (λ z. frontAs b t z l m (r .vehicle) i) k p _) h in
           ((λ j. record { step = g .0 j .step; reading = (q ∙ ap (λ (z : Stepped). withAlong r (z .along)) (g .0)) j }), g .1)
 
-      pub all-taken : (x : Passage) → Passed b (allAs b t k l m (r .vehicle) i) x l′ m′ → y ≡ withAlong r (x .along)
+      pub all-taken : (x : Passage) → Passed b (t .time) (allAs b t k l m (r .vehicle) i) x l′ m′ → y ≡ withAlong r (x .along)
           → AllBy r (readAllOf r b l m i) (record { reading = y; fields = x .fields; used = x .used; last = x .last }) l′ m′
       unfolding readAllOf
       all-taken x h q =
-          let g = subst (λ (z : Read State). Passed b z x l′ m′) (called (λ z. allAs b t z l m (r .vehicle) i) k p _) h in
+          let g = subst (λ (z : Read State). Passed b (t .time) z x l′ m′) (called (λ z. allAs b t z l m (r .vehicle) i) k p _) h in
           ((λ j. record { reading = (q ∙ ap (λ (z : Passage). withAlong r (z .along)) (g .0)) j; fields = g .0 j .fields; used = g .0 j .used; last = g .0 j .last }), g .1)
 
   -- ---- a test refuses

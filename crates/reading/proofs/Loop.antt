@@ -49,7 +49,7 @@ bytes-used (step.Refused x) m u = absurd u
 module _ (me b : List ℕ) (t : Tolerances) where
   -- ---- what every field keeps
   record Stands (s : State) : Type 0 where
-    kept : Kept b t (goingOf b s) (s .ledger) (s .map)
+    kept : Kept b t (goingOf b (t .time) s) (s .ledger) (s .map)
     few : s .offered ≤ 4_000_000
 
   stands-after : (s : State) (passed tag : ℕ) (v : List ℕ) (c : Content) → Says me passed (s .offered) tag v c → Stands s
@@ -73,7 +73,7 @@ module _ (me b : List ℕ) (t : Tolerances) where
       let v = valueIn i n in
       stands-after (k .run) (k .passed) tag v (brought offeredOf (takeBlock b t) me k tag v) (says me (k .passed) (k .run .offered) tag v (k .place)) h)
 
-  module _ (k : Along) (l : List ℤ) (m : List ℕ) (i : List ℕ) (r : Stepped) (l′ : List ℤ) (m′ : List ℕ) (h : Took b (frontAs b t k l m me i) r l′ m′) where
+  module _ (k : Along) (l : List ℤ) (m : List ℕ) (i : List ℕ) (r : Stepped) (l′ : List ℤ) (m′ : List ℕ) (h : Took b (t .time) (frontAs b t k l m me i) r l′ m′) where
     -- what has been read, on the memory as it is left
     tale-is : taleAlong (r .along) l′ m′ ≡ frontAs b t k l m me i .tale
     tale-is = λ j. taleAlong (h .0 j .along) (h .1 .0 j) (h .1 .1 j)
@@ -85,14 +85,14 @@ module _ (me b : List ℕ) (t : Tolerances) where
     ready-on y =
         let a = y .kept in
         let z = stands-field (taleAlong k l m) i (record { kept = subst (λ (g : Going). Kept b t g l m) (a .stands) a; few = y .few }) in
-        let going : r .along .going ≡ goingOf b (frontAs b t k l m me i .tale .run) = ap (λ (x : Stepped). x .along .going) (h .0) in
+        let going : r .along .going ≡ goingOf b (t .time) (frontAs b t k l m me i .tale .run) = ap (λ (x : Stepped). x .along .going) (h .0) in
         record {
           number = y .number;
           valid = y .valid;
           kept =
               subst⁻¹ (λ (g : Going). Kept b t g l′ m′) going
-              (subst⁻¹ (λ (x : List ℤ). Kept b t (goingOf b (frontAs b t k l m me i .tale .run)) x m′) (h .1 .0)
-              (subst⁻¹ (λ (x : List ℕ). Kept b t (goingOf b (frontAs b t k l m me i .tale .run)) (frontAs b t k l m me i .tale .run .ledger) x) (h .1 .1) (z .kept)));
+              (subst⁻¹ (λ (x : List ℤ). Kept b t (goingOf b (t .time) (frontAs b t k l m me i .tale .run)) x m′) (h .1 .0)
+              (subst⁻¹ (λ (x : List ℕ). Kept b t (goingOf b (t .time) (frontAs b t k l m me i .tale .run)) (frontAs b t k l m me i .tale .run .ledger) x) (h .1 .1) (z .kept)));
           few = omega (arith, ap (λ (g : Going). g .offered) going, z .few);
         }
 
@@ -133,9 +133,9 @@ module _ (me b : List ℕ) (t : Tolerances) where
 
   -- ---- a turn of the loop: the field after the first u bytes of the input, as they are lent on
   module _ (k : Along) (l : List ℤ) (m input : List ℕ) (u : ℕ) (r : Stepped) (l′ : List ℤ) (m′ : List ℕ)
-      (h : Took b (frontAs b t k l m me (take (length input - u) (drop u input))) r l′ m′) (n : ℕ) (e : n ≡ bytesOf (r .step)) where
-    here : Took b (frontAs b t k l m me (drop u input)) r l′ m′
-    here = subst (λ (i : List ℕ). Took b (frontAs b t k l m me i) r l′ m′) (part-rest u input) h
+      (h : Took b (t .time) (frontAs b t k l m me (take (length input - u) (drop u input))) r l′ m′) (n : ℕ) (e : n ≡ bytesOf (r .step)) where
+    here : Took b (t .time) (frontAs b t k l m me (drop u input)) r l′ m′
+    here = subst (λ (i : List ℕ). Took b (t .time) (frontAs b t k l m me i) r l′ m′) (part-rest u input) h
 
     pub turn-ready : Ready me b t k l m → Ready me b t (r .along) l′ m′
     turn-ready = ready-on k l m (drop u input) r l′ m′ here
@@ -174,8 +174,8 @@ module _ (me b : List ℕ) (t : Tolerances) where
 -- after the last: the reading and its memory are those of x
 pub passage : (me b : List ℕ) (t : Tolerances) (x : Read State) (k : Along) (l : List ℤ) (m : List ℕ) (f u : ℕ) (s : Step) → Ready me b t k l m
     → x ≡ record { tale = taleAlong k l m; fields = f; used = u; last = s }
-    → Passed b x (record { along = k; fields = f; used = u; last = s }) l m
+    → Passed b (t .time) x (record { along = k; fields = f; used = u; last = s }) l m
 passage me b t x k l m f u s h e = (
-  (λ j. record { along = record { place = k .place; passed = k .passed; amounts = k .amounts; going = h .kept .stands j }; fields = f; used = u; last = s }) ∙ sym (ap (passageOf b) e),
+  (λ j. record { along = record { place = k .place; passed = k .passed; amounts = k .amounts; going = h .kept .stands j }; fields = f; used = u; last = s }) ∙ sym (ap (passageOf b (t .time)) e),
   (sym (ap (λ (y : Read State). y .tale .run .ledger) e), sym (ap (λ (y : Read State). y .tale .run .map) e)),
 )

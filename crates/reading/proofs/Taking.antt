@@ -32,11 +32,11 @@ use Rattle.reading.specs.Along.{taleAlong, steppedOf, passageOf, withAmo
 use Rattle.contents.proofs.Brought.{OwnBlock, Says, says, own-block}
 
 -- the answer r and the memory l and m are those of x, for one field and for all
-abbrev pub Took : List ℕ → Answered State → Stepped → List ℤ → List ℕ → Type 0
-Took b x r l m = (r ≡ steppedOf b x) × ((l ≡ x .tale .run .ledger) × (m ≡ x .tale .run .map))
+abbrev pub Took : List ℕ → ℕ → Answered State → Stepped → List ℤ → List ℕ → Type 0
+Took b w x r l m = (r ≡ steppedOf b w x) × ((l ≡ x .tale .run .ledger) × (m ≡ x .tale .run .map))
 
-abbrev pub Passed : List ℕ → Read State → Passage → List ℤ → List ℕ → Type 0
-Passed b x r l m = (r ≡ passageOf b x) × ((l ≡ x .tale .run .ledger) × (m ≡ x .tale .run .map))
+abbrev pub Passed : List ℕ → ℕ → Read State → Passage → List ℤ → List ℕ → Type 0
+Passed b w x r l m = (r ≡ passageOf b w x) × ((l ≡ x .tale .run .ledger) × (m ≡ x .tale .run .map))
 
 -- two energies as the machine holds them
 pub as-held : (k : Along) {place : ℕ} {before after : ℤ} {charge : Charge} {r : Along} → SFits w64 before → SFits w64 after
@@ -51,29 +51,29 @@ alongAfter k c g = record { place = placeAfter (k .place) c; passed = passedAfte
 module _ (b : List ℕ) (t : Tolerances) (k : Along) (l : List ℤ) (m : List ℕ) where
   module _ (v : List ℕ) (n : ℕ) where
     -- by what the content is known to be
-    pub by-content : {c d : Content} {r : Stepped} {l′ : List ℤ} {m′ : List ℕ} → c ≡ d → Took b (takenAs b t k l m v d n) r l′ m′ → Took b (takenAs b t k l m v c n) r l′ m′
-    by-content {r = r} {l′ = l′} {m′ = m′} e h = subst⁻¹ (λ (x : Content). Took b (takenAs b t k l m v x n) r l′ m′) e h
+    pub by-content : {c d : Content} {r : Stepped} {l′ : List ℤ} {m′ : List ℕ} → c ≡ d → Took b (t .time) (takenAs b t k l m v d n) r l′ m′ → Took b (t .time) (takenAs b t k l m v c n) r l′ m′
+    by-content {r = r} {l′ = l′} {m′ = m′} e h = subst⁻¹ (λ (x : Content). Took b (t .time) (takenAs b t k l m v x n) r l′ m′) e h
 
     -- an own block is taken by the judge
-    pub own-taken : (q : List ℕ) → q ≡ samplesOf v → (g : Going) (l′ : List ℤ) (m′ : List ℕ) → g ≡ goingOf b (takeBlock b t (held (k .going) l m) q)
+    pub own-taken : (q : List ℕ) → q ≡ samplesOf v → (g : Going) (l′ : List ℤ) (m′ : List ℕ) → g ≡ goingOf b (t .time) (takeBlock b t (held (k .going) l m) q)
         → l′ ≡ takeBlock b t (held (k .going) l m) q .ledger → m′ ≡ takeBlock b t (held (k .going) l m) q .map
-        → Took b (takenAs b t k l m v Own n) (record { step = step.Taken n; along = alongAfter k Own g }) l′ m′
+        → Took b (t .time) (takenAs b t k l m v Own n) (record { step = step.Taken n; along = alongAfter k Own g }) l′ m′
     own-taken q e g l′ m′ p u w =
         let f = ap (takeBlock b t (held (k .going) l m)) e in (
-          (λ i. record { step = step.Taken n; along = alongAfter k Own ((p ∙ ap (goingOf b) f) i) }),
+          (λ i. record { step = step.Taken n; along = alongAfter k Own ((p ∙ ap (goingOf b (t .time)) f) i) }),
           (u ∙ ap (λ (a : State). a .ledger) f, w ∙ ap (λ (a : State). a .map) f),
         )
 
     -- what leaves the run as it is
     pub left-by : Kept b t (k .going) l m → {c : Content} (d : Content) → c ≡ d → runAfter offeredOf (takeBlock b t) (held (k .going) l m) v d ≡ held (k .going) l m
-        → {r : Along} → r ≡ alongAfter k d (k .going) → Took b (takenAs b t k l m v c n) (record { step = stepOf d n; along = r }) l m
+        → {r : Along} → r ≡ alongAfter k d (k .going) → Took b (t .time) (takenAs b t k l m v c n) (record { step = stepOf d n; along = r }) l m
     left-by h d e f {r} z = by-content e (
-      (λ i. record { step = stepOf d n; along = (z ∙ ap (alongAfter k d) (h .stands ∙ ap (goingOf b) (sym f))) i }),
+      (λ i. record { step = stepOf d n; along = (z ∙ ap (alongAfter k d) (h .stands ∙ ap (goingOf b (t .time)) (sym f))) i }),
       (ap (λ (a : State). a .ledger) (sym f), ap (λ (a : State). a .map) (sym f)),
     )
 
   -- where nothing is taken
-  pub unmoved : Kept b t (k .going) l m → (s : Step) → Took b (record { step = s; tale = taleAlong k l m }) (record { step = s; along = k }) l m
+  pub unmoved : Kept b t (k .going) l m → (s : Step) → Took b (t .time) (record { step = s; tale = taleAlong k l m }) (record { step = s; along = k }) l m
   unmoved h s = ((λ i. record { step = s; along = record { place = k .place; passed = k .passed; amounts = k .amounts; going = h .stands i } }), (refl, refl))
 
   module _ (me : List ℕ) where
@@ -92,15 +92,15 @@ module _ (b : List ℕ) (t : Tolerances) (k : Along) (l : List ℤ) (m : List �
 
     -- by what stands at the front of the input
     pub front-taken : {x : Front} {r : Stepped} {l′ : List ℤ} {m′ : List ℕ} (i : List ℕ) → x ≡ frontOf i
-        → Took b (byFront offeredOf (takeBlock b t) me (taleAlong k l m) i x) r l′ m′ → Took b (frontAs b t k l m me i) r l′ m′
+        → Took b (t .time) (byFront offeredOf (takeBlock b t) me (taleAlong k l m) i x) r l′ m′ → Took b (t .time) (frontAs b t k l m me i) r l′ m′
     unfolding fieldAt
     front-taken {r = r} {l′ = l′} {m′ = m′} i e h =
-        subst (λ (x : Front). Took b (byFront offeredOf (takeBlock b t) me (taleAlong k l m) i x) r l′ m′) e h
+        subst (λ (x : Front). Took b (t .time) (byFront offeredOf (takeBlock b t) me (taleAlong k l m) i x) r l′ m′) e h
 
     -- the value as it is lent on
     pub whole-taken : {r : Stepped} {l′ : List ℤ} {m′ : List ℕ} (i : List ℕ) (tag n : ℕ) → frontOf i ≡ field tag n
-        → Took b (wholeAs b t k l m me tag (take (3 + n - 3) (drop 3 i))) r l′ m′
-        → Took b (byFront offeredOf (takeBlock b t) me (taleAlong k l m) i (field tag n)) r l′ m′
+        → Took b (t .time) (wholeAs b t k l m me tag (take (3 + n - 3) (drop 3 i))) r l′ m′
+        → Took b (t .time) (byFront offeredOf (takeBlock b t) me (taleAlong k l m) i (field tag n)) r l′ m′
     whole-taken {r} {l′} {m′} i tag n e h =
         of-value i tag n (front-whole i tag n e)
-        (λ v size. Took b (takenAs b t k l m v (contentOf me (k .place) (k .passed) (k .going .offered) tag v) (3 + size)) r l′ m′) h
+        (λ v size. Took b (t .time) (takenAs b t k l m v (contentOf me (k .place) (k .passed) (k .going .offered) tag v) (3 + size)) r l′ m′) h

@@ -22,24 +22,24 @@ pub use Rattle.reading.specs.declared.Passage.{Passage}
 
 -- where a reading of the cycle b stands, and the reading taken on to where it stands now
 abbrev pub alongAt : Reading → List ℕ → Along
-alongAt r b = record { place = r .place; passed = r .passed; amounts = r .amounts; going = standing b (r .run .offered) (r .run .counted) (r .run .end) }
+alongAt r b = record { place = r .place; passed = r .passed; amounts = r .amounts; going = standing b (r .run .tolerances .time) (r .run .offered) (r .run .counted) (r .run .end) }
 
 abbrev pub withAlong : Reading → Along → Reading
 withAlong r k = record { vehicle = r .vehicle; place = k .place; passed = k .passed; amounts = k .amounts; run = withGoing (r .run) (k .going) }
 
--- as what has been read, on the memory l and m; and back, for the cycle b
+-- as what has been read, on the memory l and m; and back, for the cycle b and the time tolerance w
 abbrev pub taleAlong : Along → List ℤ → List ℕ → Tale State
 taleAlong k l m = record { place = k .place; passed = k .passed; amounts = k .amounts; run = held (k .going) l m }
 
-abbrev pub alongOf : List ℕ → Tale State → Along
-alongOf b x = record { place = x .place; passed = x .passed; amounts = x .amounts; going = goingOf b (x .run) }
+abbrev pub alongOf : List ℕ → ℕ → Tale State → Along
+alongOf b w x = record { place = x .place; passed = x .passed; amounts = x .amounts; going = goingOf b w (x .run) }
 
 -- the answer to a field, and to all
-abbrev pub steppedOf : List ℕ → Answered State → Stepped
-steppedOf b x = record { step = x .step; along = alongOf b (x .tale) }
+abbrev pub steppedOf : List ℕ → ℕ → Answered State → Stepped
+steppedOf b w x = record { step = x .step; along = alongOf b w (x .tale) }
 
-abbrev pub passageOf : List ℕ → Read State → Passage
-passageOf b x = record { along = alongOf b (x .tale); fields = x .fields; used = x .used; last = x .last }
+abbrev pub passageOf : List ℕ → ℕ → Read State → Passage
+passageOf b w x = record { along = alongOf b w (x .tale); fields = x .fields; used = x .used; last = x .last }
 
 -- a block is passed over; an amount is brought, and moves the place in the order
 abbrev pub withPassed : Along → Along

@@ -94,7 +94,7 @@ pub fn read_refusal(r: Reading, b: &[u8], ledger: &[i64], map: &[u64]) -> u32
 
 // Where the reading stands.
 pub fn along_at(r: Reading, b: &[u8]) -> Along
-    requires { ⌜ (valid (now b) ≡ true) × (seconds (now b) ≡ r .run .seconds) ⌝ }
+    requires { ⌜ (valid (now b) ≡ true) × (seconds (now b) ≡ r .run .seconds) × (r .run .tolerances .time ≤ 40) ⌝ }
     ensures { λ x. ⌜ x ≡ alongAt r (now (b .entry)) ⌝ }
 {
     let run = r.run;
@@ -168,7 +168,7 @@ fn take_content(
     n: usize,
 ) -> Stepped
     requires { ⌜ Brought (now b) t k (now ledger) (now map) (now v) c ⌝ }
-    ensures { λ r. ⌜ r ≡ steppedOf (now (b .entry)) (takenAs (now (b .entry)) t k (now (ledger .entry)) (now (map .entry)) (now (v .entry)) c n) ⌝ }
+    ensures { λ r. ⌜ r ≡ steppedOf (now (b .entry)) (t .time) (takenAs (now (b .entry)) t k (now (ledger .entry)) (now (map .entry)) (now (v .entry)) c n) ⌝ }
     ensures { λ _. ⌜ now (ledger .exit) ≡ takenAs (now (b .entry)) t k (now (ledger .entry)) (now (map .entry)) (now (v .entry)) c n .tale .run .ledger ⌝ }
     ensures { λ _. ⌜ now (map .exit) ≡ takenAs (now (b .entry)) t k (now (ledger .entry)) (now (map .entry)) (now (v .entry)) c n .tale .run .map ⌝ }
 {
@@ -220,7 +220,7 @@ fn whole_field(
     v: &[u8],
 ) -> Stepped
     requires { ⌜ Ready (now me) (now b) t k (now ledger) (now map) × (isLength tag (length (now v)) ≡ true) ⌝ }
-    ensures { λ r. ⌜ r ≡ steppedOf (now (b .entry)) (wholeAs (now (b .entry)) t k (now (ledger .entry)) (now (map .entry)) (now (me .entry)) tag (now (v .entry))) ⌝ }
+    ensures { λ r. ⌜ r ≡ steppedOf (now (b .entry)) (t .time) (wholeAs (now (b .entry)) t k (now (ledger .entry)) (now (map .entry)) (now (me .entry)) tag (now (v .entry))) ⌝ }
     ensures { λ _. ⌜ now (ledger .exit) ≡ wholeAs (now (b .entry)) t k (now (ledger .entry)) (now (map .entry)) (now (me .entry)) tag (now (v .entry)) .tale .run .ledger ⌝ }
     ensures { λ _. ⌜ now (map .exit) ≡ wholeAs (now (b .entry)) t k (now (ledger .entry)) (now (map .entry)) (now (me .entry)) tag (now (v .entry)) .tale .run .map ⌝ }
 {
@@ -240,7 +240,7 @@ pub fn one_field(
     input: &[u8],
 ) -> Stepped
     requires { ⌜ Ready (now me) (now b) t k (now ledger) (now map) ⌝ }
-    ensures { λ r. ⌜ r ≡ steppedOf (now (b .entry)) (frontAs (now (b .entry)) t k (now (ledger .entry)) (now (map .entry)) (now (me .entry)) (now (input .entry))) ⌝ }
+    ensures { λ r. ⌜ r ≡ steppedOf (now (b .entry)) (t .time) (frontAs (now (b .entry)) t k (now (ledger .entry)) (now (map .entry)) (now (me .entry)) (now (input .entry))) ⌝ }
     ensures { λ _. ⌜ now (ledger .exit) ≡ frontAs (now (b .entry)) t k (now (ledger .entry)) (now (map .entry)) (now (me .entry)) (now (input .entry)) .tale .run .ledger ⌝ }
     ensures { λ _. ⌜ now (map .exit) ≡ frontAs (now (b .entry)) t k (now (ledger .entry)) (now (map .entry)) (now (me .entry)) (now (input .entry)) .tale .run .map ⌝ }
 {
@@ -283,7 +283,7 @@ pub fn all_fields(
     input: &[u8],
 ) -> Passage
     requires { ⌜ Ready (now me) (now b) t k (now ledger) (now map) ⌝ }
-    ensures { λ r. ⌜ r ≡ passageOf (now (b .entry)) (allAs (now (b .entry)) t k (now (ledger .entry)) (now (map .entry)) (now (me .entry)) (now (input .entry))) ⌝ }
+    ensures { λ r. ⌜ r ≡ passageOf (now (b .entry)) (t .time) (allAs (now (b .entry)) t k (now (ledger .entry)) (now (map .entry)) (now (me .entry)) (now (input .entry))) ⌝ }
     ensures { λ _. ⌜ now (ledger .exit) ≡ allAs (now (b .entry)) t k (now (ledger .entry)) (now (map .entry)) (now (me .entry)) (now (input .entry)) .tale .run .ledger ⌝ }
     ensures { λ _. ⌜ now (map .exit) ≡ allAs (now (b .entry)) t k (now (ledger .entry)) (now (map .entry)) (now (me .entry)) (now (input .entry)) .tale .run .map ⌝ }
 {

@@ -84,14 +84,18 @@ verdict-most b t p v = go (leb _ (20 * v + 20 * t .speed)) (leb (20 * v) _)
     go false y = lit≤ tt
 
 -- the verdict is 0 exactly where the sample is inside
-pub verdict-zero : (b : List ℕ) (t : Tolerances) (p v : ℕ) → eqb (verdict b t p v) 0 ≡ inside b t p v
-unfolding verdict side inside
-verdict-zero b t p v = go (leb _ (20 * v + 20 * t .speed)) (leb (20 * v) _)
+pub side-zero : (lo hi s v : ℕ) → eqb (side lo hi s v) 0 ≡ insideOf lo hi s v
+unfolding side
+side-zero lo hi s v = go (leb lo (20 * v + 20 * s)) (leb (20 * v) (hi + 20 * s))
   where
     go : (x y : Bool) → eqb (cond (x && y) 0 (cond (not x) 1 2)) 0 ≡ (x && y)
     go true true = refl
     go true false = refl
     go false y = refl
+
+pub verdict-zero : (b : List ℕ) (t : Tolerances) (p v : ℕ) → eqb (verdict b t p v) 0 ≡ inside b t p v
+unfolding verdict inside
+verdict-zero b t p v = side-zero (lo b (t .time) p) (hi b (t .time) p) (t .speed) v
 
 -- ---- the tolerances
 

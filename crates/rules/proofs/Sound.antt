@@ -4,7 +4,7 @@ use mathlib.Core.Bool.{true, false}
 use mathlib.Core.List.{List}
 use mathlib.Core.Logic.{_⊎_, ⊎-elim}
 use mathlib.Core.Path.{_≡_, refl, ap, subst}
-use Prim.Native.Nat.{ℕ, suc, _+_, _-_, _*_, _≤_, _<_}
+use Prim.Native.Nat.{ℕ, zero, suc, _+_, _-_, _*_, _≤_, _<_}
 use native.Mathlib.Nat.{not-suc-le-zero, le-of-suc-le-suc, eq-or-lt-of-le}
 use native.Mathlib.Omega.{arith}
 use borrow.Author.Tests.{leb-true, ltb-true, eqb-true, le-leb, eq-eqb, lt-ltb, le-ltb}
@@ -56,6 +56,17 @@ not-valid b h = refuted (valid b) (λ e. h (sound b e))
 -- phase k ends after it starts
 pub rising : {b : List ℕ} → Sound b → (k : ℕ) → k < phases b → phaseStart b k < phaseEnd b k
 rising {b} o k h = ltb-true _ _ (all-at (phases b) (rises b) (o .all-rise) k h)
+
+-- no phase ends after the cycle
+pub ends-within : {b : List ℕ} → Sound b → (k : ℕ) → k < phases b → phaseEnd b k ≤ seconds b
+ends-within {b} o k h = go (phases b - suc k) k (omega arith)
+  where
+    go : (d k : ℕ) → suc k + d ≡ phases b → phaseEnd b k ≤ seconds b
+    go zero k e =
+        let last : k ≡ phases b - 1 = omega arith in
+        let f = ap (phaseEnd b) last in
+        omega arith
+    go (suc d) k e = omega (arith, rising o (suc k) (omega arith), go d (suc k) (omega arith))
 
 -- a cycle has a position
 pub real : {b : List ℕ} → Sound b → 0 < positions b

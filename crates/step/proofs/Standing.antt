@@ -2,19 +2,23 @@
 -- Assumes nothing.
 use mathlib.Core.Bool.{true}
 use mathlib.Core.List.{List}
-use mathlib.Core.Path.{_≡_, sym, ap}
-use Prim.Native.Nat.{ℕ, _+_, _≤_, _<_}
+use mathlib.Core.Path.{_≡_, sym, ap, ap₂}
+use Prim.Native.Nat.{ℕ, _+_, _*_, _≤_, _<_, min}
 use native.Mathlib.Nat.{mod-lt, div-add-mod', div-lt-iff-lt-mul}
+use native.Mathlib.Numerals.{add-one}
 use native.Mathlib.Omega.{arith}
 use lib.Dec.{ltb}
 use borrow.Author.Tests.{lt-ltb}
 use Rattle.numbers.proofs.Order.{digits, ltb-div}
-use Rattle.rules.specs.Cycle.{positions, phaseAt}
+use Rattle.rules.specs.Cycle.{positions, phaseEnd, phaseAt}
 use Rattle.rules.specs.Run.{cycleOf, positionOf, most}
-use Rattle.rules.proofs.Sound.{Sound, real, four}
-use Rattle.step.specs.Step.{Going, standing}
+use Rattle.rules.proofs.Sound.{Sound, real, four, ends-within, phase-exists, phase-stays}
+use Rattle.window.specs.declared.Window.{Window}
+use Rattle.window.specs.Moving.{windowOf}
+use Rattle.window.proofs.Moves.{shifts}
+use Rattle.step.specs.Step.{Going, untilAt, standing}
 
-module _ (b : List ℕ) (o : Sound b) (g : Going) (stands : g ≡ standing b (g .offered) (g .counted) (g .end)) where
+module _ (b : List ℕ) (o : Sound b) (w : ℕ) (g : Going) (stands : g ≡ standing b w (g .offered) (g .counted) (g .end)) where
   pub position-is : g .position ≡ positionOf b (g .counted)
   position-is = ap (λ (y : Going). y .position) stands
 
@@ -23,6 +27,12 @@ module _ (b : List ℕ) (o : Sound b) (g : Going) (stands : g ≡ standing b (g 
 
   pub phase-is : g .phase ≡ phaseAt b (positionOf b (g .counted))
   phase-is = ap (λ (y : Going). y .phase) stands
+
+  pub window-is : g .window ≡ windowOf b w (positionOf b (g .counted))
+  window-is = ap (λ (y : Going). y .window) stands
+
+  pub until-is : g .until ≡ untilAt b w (positionOf b (g .counted))
+  until-is = ap (λ (y : Going). y .until) stands
 
   pub position-small : g .position < positions b
   position-small = rw position-is (mod-lt (g .counted) (real o))
@@ -35,6 +45,24 @@ module _ (b : List ℕ) (o : Sound b) (g : Going) (stands : g ≡ standing b (g 
 
   pub cycle-small : g .counted < most b → g .cycle < 64
   cycle-small h = rw cycle-is (div-lt-iff-lt-mul {x = g .counted} {y = 64} (real o) .1 h)
+
+-- while only the ends of the window move
+module _ (b : List ℕ) (o : Sound b) (w p : ℕ) (small : p < positions b) (h : p + 1 < untilAt b w p) where
+  phase-goes-on : p + 1 < 20 * phaseEnd b (phaseAt b p)
+  phase-goes-on = omega arith
+
+  pub near-positions : p + 1 < positions b
+  near-positions = omega (arith, phase-goes-on, ends-within o (phaseAt b p) (phase-exists b p o small))
+
+  pub same-phase : phaseAt b p ≡ phaseAt b (p + 1)
+  same-phase = rw add-one (sym (phase-stays b o p (omega (arith, near-positions)) (omega (arith, phase-goes-on))))
+
+  pub later : p + 1 < windowOf b w p .until
+  later = omega arith
+
+  pub same-until : untilAt b w p ≡ untilAt b w (p + 1)
+  same-until =
+      ap₂ min (sym (ap (λ (x : Window). x .until) (shifts b o w p near-positions later))) (ap (λ (k : ℕ). 20 * phaseEnd b k) same-phase)
 
 -- after one sample more
 module _ (b : List ℕ) (o : Sound b) (n : ℕ) where

@@ -3,7 +3,7 @@
 use mathlib.Core.Bool.{Bool, true, not, cond}
 use mathlib.Core.List.{List}
 use mathlib.Core.Path.{_≡_}
-use Prim.Native.Nat.{ℕ, suc, _+_, _*_, _≤_, _<_}
+use Prim.Native.Nat.{ℕ, suc, _+_, _*_, _≤_, _<_, min}
 use lib.Dec.{ltb}
 use lib.IntN.{ℤ, pos}
 use lib.ListN.{length}
@@ -15,14 +15,16 @@ use Rattle.rules.specs.declared.Tolerances.{Tolerances}
 use Rattle.rules.specs.declared.End.{End}
 use Rattle.rules.specs.declared.End.the-variants.{None as none, Stop as stop, Limit as limit}
 use Rattle.rules.specs.Bench.{isOpen, drawn, distance}
-use Rattle.rules.specs.Cycle.{valid, phaseAt}
+use Rattle.rules.specs.Cycle.{valid, phaseEnd, phaseAt}
 use Rattle.rules.specs.Band.{inside}
 use Rattle.rules.specs.Run.{cycleOf, positionOf, most}
 use Rattle.rules.specs.Shown.{ledgerNumbers, mapWords, mostEnergy}
+use Rattle.window.specs.Moving.{windowOf}
 use Rattle.ledger.specs.Row.{at, isOver, sampleAdded}
 use Rattle.map.specs.Map.{opened, markedIf}
 use Rattle.state.specs.declared.Run.{Run}
 pub use Rattle.step.specs.declared.Going.{Going}
+pub use Rattle.step.specs.declared.Next.{Next}
 
 -- what changes in a run, with its memory
 pub record State : Type 0 where
@@ -79,19 +81,42 @@ stateOf r l m = record { offered = r .offered; counted = r .counted; end = r .en
 abbrev pub runOf : Run → State → Run
 runOf r a = record { seconds = r .seconds; ends = r .ends; tolerances = r .tolerances; offered = a .offered; counted = a .counted; end = a .end }
 
--- where a run of the cycle b stands: at the cycle, position and phase of its next sample
-abbrev pub standing : List ℕ → ℕ → ℕ → End → Going
-standing b offered counted end = record {
+-- up to which position phase and window stay what they are at position p, but for the window's ends; w the time tolerance
+abbrev pub untilAt : List ℕ → ℕ → ℕ → ℕ
+untilAt b w p = min (windowOf b w p .until) (20 * phaseEnd b (phaseAt b p))
+
+-- where a run of the cycle b stands: at the cycle, position and phase of its next sample, in the window of that position
+abbrev pub standing : List ℕ → ℕ → ℕ → ℕ → End → Going
+standing b w offered counted end = record {
   offered = offered;
   counted = counted;
   end = end;
   cycle = cycleOf b counted;
   position = positionOf b counted;
   phase = phaseAt b (positionOf b counted);
+  window = windowOf b w (positionOf b counted);
+  until = untilAt b w (positionOf b counted);
 }
 
-abbrev pub goingOf : List ℕ → State → Going
-goingOf b a = standing b (a .offered) (a .counted) (a .end)
+-- where sample n stands, and the end of a run that has counted the n before it
+abbrev pub nextOf : List ℕ → ℕ → Next
+nextOf b n = record { end = cond (ltb n (most b)) none limit; cycle = cycleOf b n; position = positionOf b n; phase = phaseAt b (positionOf b n) }
+
+abbrev pub goingOf : List ℕ → ℕ → State → Going
+goingOf b w a = standing b w (a .offered) (a .counted) (a .end)
+
+-- a sample more is offered, and nothing else but the end changes
+abbrev pub offeredOne : Going → End → Going
+offeredOne g end = record {
+  offered = g .offered + 1;
+  counted = g .counted;
+  end = end;
+  cycle = g .cycle;
+  position = g .position;
+  phase = g .phase;
+  window = g .window;
+  until = g .until;
+}
 
 -- the run, taken on to where it stands now
 abbrev pub withGoing : Run → Going → Run
@@ -105,7 +130,7 @@ held g l m = record { offered = g .offered; counted = g .counted; end = g .end; 
 pub record Kept (b : List ℕ) (t : Tolerances) (g : Going) (l : List ℤ) (m : List ℕ) : Type 0 where
   pub sound : valid b ≡ true
   pub time : t .time ≤ 40
-  pub stands : g ≡ standing b (g .offered) (g .counted) (g .end)
+  pub stands : g ≡ standing b (t .time) (g .offered) (g .counted) (g .end)
   pub room : isOpen (g .end) ≡ true → g .counted < most b
   pub long-ledger : ledgerNumbers ≤ length l
   pub long-map : mapWords ≤ length m

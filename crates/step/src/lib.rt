@@ -1,33 +1,38 @@
 // One accepted sample.
-use band::verdict_at;
 use cycle::end_of;
 use cycle::phase_of;
 use cycle::seconds_of;
 use ledger::row::add_sample;
 use map::mark_if;
 use map::open_map;
+use numbers::smaller;
 use rules::End;
 use rules::Sample;
 use rules::Tolerances;
 use state::Run;
 use values::drawn_by;
+use window::Window;
+use window::shift;
+use window::verdict_in;
+use window::window_at;
 ghost use mathlib.Core.Path.{_≡_};
 ghost use mathlib.Core.Bool.{true, not, cond};
-ghost use Prim.Native.Nat.{ℕ, _+_, _*_, _<_, _≤_};
+ghost use Prim.Native.Nat.{ℕ, _+_, _*_, _<_, _≤_, min};
 ghost use lib.Dec.{ltb};
 ghost use lib.IntN.{pos};
 ghost use lib.ListN.{length};
 ghost use Rattle.numbers.specs.Whole.{Sized};
 ghost use Rattle.rules.specs.Bench.{isSample, isOpen, drawn, distance};
-ghost use Rattle.rules.specs.Cycle.{seconds, phaseAt, positions, valid};
-ghost use Rattle.rules.specs.Band.{inside};
+ghost use Rattle.rules.specs.Cycle.{phaseEnd, seconds, phaseAt, positions, valid};
+ghost use Rattle.rules.specs.Band.{insideOf};
+ghost use Rattle.window.specs.Moving.{leastIn, greatestIn};
 ghost use Rattle.rules.specs.Run.{most};
 ghost use Rattle.map.specs.Map.{opened, markedIf};
 ghost use Rattle.ledger.specs.Row.{at, isOver, sampleAdded};
-ghost use Rattle.rules.specs.declared.End.the-variants.{None as none, Stop as stop, Limit as limit};
-ghost use Rattle.step.specs.Step.{standing, held, goingOf, step, judge, Kept, withGoing};
+ghost use Rattle.rules.specs.declared.End.the-variants.{None as none, Limit as limit};
+ghost use Rattle.step.specs.Step.{standing, nextOf, offeredOne, held, goingOf, step, judge, Kept, withGoing};
 
-// Where a run stands while samples are taken: cycle, position and phase of the next sample beside what changes in the run.
+// Where a run stands while samples are taken: cycle, position and phase of the next sample and the window of its position, beside what changes in the run. Up to position `until` only the ends of the window move.
 pub struct Going {
     pub offered: u32,
     pub counted: u32,
@@ -35,23 +40,46 @@ pub struct Going {
     pub cycle: usize,
     pub position: u32,
     pub phase: usize,
+    pub window: Window,
+    pub until: u32,
+}
+
+// Where the next sample stands.
+struct Next {
+    end: End,
+    cycle: usize,
+    position: u32,
+    phase: usize,
+}
+
+// Up to which position phase and window stay what they are, but for the window's ends.
+fn until_in(b: &[u8], window: Window, phase: usize) -> u32
+    requires { ⌜ 2 + 2 * phase < length (now b) ⌝ }
+    ensures { λ r. ⌜ r ≡ min (window .until) (20 * phaseEnd (now (b .entry)) phase) ⌝ }
+{
+    smaller(window.until, 20 * (end_of(b, phase) as u32))
 }
 
 // Where the run stands.
 pub fn place(b: &[u8], run: Run) -> Going
-    requires { ⌜ (valid (now b) ≡ true) × (seconds (now b) ≡ run .seconds) ⌝ }
-    ensures { λ r. ⌜ r ≡ standing (now (b .entry)) (run .offered) (run .counted) (run .end) ⌝ }
+    requires { ⌜ (valid (now b) ≡ true) × (seconds (now b) ≡ run .seconds) × (run .tolerances .time ≤ 40) ⌝ }
+    ensures { λ r. ⌜ r ≡ standing (now (b .entry)) (run .tolerances .time) (run .offered) (run .counted) (run .end) ⌝ }
 {
     let n = 20 * run.seconds;
     let position = run.counted % n;
+    let t = run.tolerances;
     let end = run.end;
+    let phase = phase_of(b, position);
+    let window = window_at(b, t.time, position);
     Going {
         offered: run.offered,
         counted: run.counted,
         end,
         cycle: (run.counted / n) as usize,
         position,
-        phase: phase_of(b, position),
+        phase,
+        window,
+        until: until_in(b, window, phase),
     }
 }
 
@@ -83,12 +111,12 @@ fn next_phase(b: &[u8], phase: usize, position: u32) -> usize
     phase + 1
 }
 
-// A sample after the end.
-fn passed_by(g: Going) -> Going
+// A sample more is offered and not counted: with it the run has this end.
+fn offered_by(g: Going, end: End) -> Going
     requires { ⌜ g .offered < 4_000_000 ⌝ }
-    ensures { λ r. ⌜ r ≡ record { offered = g .offered + 1; counted = g .counted; end = g .end; cycle = g .cycle; position = g .position; phase = g .phase } ⌝ }
+    ensures { λ r. ⌜ r ≡ offeredOne g end ⌝ }
 {
-    let end = g.end;
+    let window = g.window;
     Going {
         offered: g.offered + 1,
         counted: g.counted,
@@ -96,74 +124,91 @@ fn passed_by(g: Going) -> Going
         cycle: g.cycle,
         position: g.position,
         phase: g.phase,
+        window,
+        until: g.until,
     }
 }
 
-// The sample that stops the run.
-fn stopped_by(g: Going) -> Going
-    requires { ⌜ g .offered < 4_000_000 ⌝ }
-    ensures { λ r. ⌜ r ≡ record { offered = g .offered + 1; counted = g .counted; end = stop; cycle = g .cycle; position = g .position; phase = g .phase } ⌝ }
+// The end when a cycle is finished: "limit" after 64 of them.
+fn end_after(cycles: usize) -> End
+    ensures { λ r. ⌜ r ≡ cond (ltb cycles 64) none limit ⌝ }
 {
-    Going {
-        offered: g.offered + 1,
-        counted: g.counted,
-        end: End::Stop,
-        cycle: g.cycle,
-        position: g.position,
-        phase: g.phase,
+    if cycles < 64 {
+        return End::None;
     }
+    End::Limit
 }
 
-// The first sample of the next cycle, or the end by limit.
-fn next_cycle(offered: u32, counted: u32, cycle: usize) -> Going
-    ensures { λ r. ⌜ r ≡ record { offered = offered; counted = counted; end = cond (ltb cycle 64) none limit; cycle = cycle; position = 0; phase = 0 } ⌝ }
+// Where the sample behind a counted one stands, and the run's end with that.
+fn next_place(b: &[u8], w: u32, g: Going) -> Next
+    requires { ⌜ (valid (now b) ≡ true) × (g ≡ standing (now b) w (g .offered) (g .counted) (g .end)) × (g .counted < most (now b)) ⌝ }
+    ensures { λ r. ⌜ r ≡ nextOf (now (b .entry)) (g .counted + 1) ⌝ }
 {
-    if cycle < 64 {
-        return Going {
-            offered,
-            counted,
+    let position = g.position;
+    if position + 1 < 20 * seconds_of(b) {
+        return Next {
             end: End::None,
-            cycle,
-            position: 0,
-            phase: 0,
+            cycle: g.cycle,
+            position: position + 1,
+            phase: next_phase(b, g.phase, position),
         };
     }
-    Going {
-        offered,
-        counted,
-        end: End::Limit,
+    let cycle = g.cycle + 1;
+    Next {
+        end: end_after(cycle),
         cycle,
         position: 0,
         phase: 0,
     }
 }
 
-// A sample that counts.
-fn counted_by(b: &[u8], g: Going) -> Going
-    requires { ⌜ (valid (now b) ≡ true) × (g ≡ standing (now b) (g .offered) (g .counted) (g .end)) × (g .offered < 4_000_000) × (g .counted < most (now b)) ⌝ }
-    ensures { λ r. ⌜ r ≡ standing (now (b .entry)) (g .offered + 1) (g .counted + 1) (cond (ltb (g .counted + 1) (most (now (b .entry)))) none limit) ⌝ }
+// A sample that counts, behind which phase, cycle or window may be others: all is worked out anew.
+fn turned_by(b: &[u8], w: u32, g: Going) -> Going
+    requires { ⌜ (valid (now b) ≡ true) × (w ≤ 40) × (g ≡ standing (now b) w (g .offered) (g .counted) (g .end)) × (g .offered < 4_000_000) × (g .counted < most (now b)) ⌝ }
+    ensures { λ r. ⌜ r ≡ standing (now (b .entry)) w (g .offered + 1) (g .counted + 1) (cond (ltb (g .counted + 1) (most (now (b .entry)))) none limit) ⌝ }
 {
-    let position = g.position;
-    let phase = g.phase;
-    if position + 1 < 20 * seconds_of(b) {
-        return Going {
-            offered: g.offered + 1,
-            counted: g.counted + 1,
-            end: End::None,
-            cycle: g.cycle,
-            position: position + 1,
-            phase: next_phase(b, phase, position),
-        };
+    let next = next_place(b, w, g);
+    let end = next.end;
+    let window = window_at(b, w, next.position);
+    Going {
+        offered: g.offered + 1,
+        counted: g.counted + 1,
+        end,
+        cycle: next.cycle,
+        position: next.position,
+        phase: next.phase,
+        window,
+        until: until_in(b, window, next.phase),
     }
-    next_cycle(g.offered + 1, g.counted + 1, g.cycle + 1)
 }
 
-// Whether the speed v at position p is outside.
-fn is_outside(b: &[u8], t: Tolerances, p: u32, v: u32) -> bool
-    requires { ⌜ (valid (now b) ≡ true) × (t .time ≤ 40) × (p < positions (now b)) ⌝ }
-    ensures { λ r. ⌜ r ≡ not (inside (now (b .entry)) t p v) ⌝ }
+// A sample that counts.
+fn counted_by(b: &[u8], w: u32, g: Going) -> Going
+    requires { ⌜ (valid (now b) ≡ true) × (w ≤ 40) × (g ≡ standing (now b) w (g .offered) (g .counted) (g .end)) × (g .offered < 4_000_000) × (g .counted < most (now b)) ⌝ }
+    ensures { λ r. ⌜ r ≡ standing (now (b .entry)) w (g .offered + 1) (g .counted + 1) (cond (ltb (g .counted + 1) (most (now (b .entry)))) none limit) ⌝ }
 {
-    verdict_at(b, t, p, v) != 0
+    let position = g.position;
+    if g.until <= position + 1 {
+        return turned_by(b, w, g);
+    }
+    let window = g.window;
+    Going {
+        offered: g.offered + 1,
+        counted: g.counted + 1,
+        end: End::None,
+        cycle: g.cycle,
+        position: position + 1,
+        phase: g.phase,
+        window: shift(b, w, position, window),
+        until: g.until,
+    }
+}
+
+// Whether the speed v is outside in a window, with the tolerance s.
+fn is_outside(window: Window, s: u32, v: u32) -> bool
+    ensures { λ r. ⌜ r ≡ not (insideOf (leastIn window) (greatestIn window) s v) ⌝ }
+{
+    verdict_in(window, s, v) != 0
 }
 
 // The map after a judged sample at position p.
@@ -213,18 +258,19 @@ fn judge_one(
 ) -> Going
     requires { ⌜ Kept (now b) t g (now ledger) (now map) ⌝ }
     requires { ⌜ (g .offered < 4_000_000) × (isSample x ≡ true) × (isOpen (g .end) ≡ true) ⌝ }
-    ensures { λ r. ⌜ r ≡ goingOf (now (b .entry)) (judge (now (b .entry)) t (held g (now (ledger .entry)) (now (map .entry))) x) ⌝ }
+    ensures { λ r. ⌜ r ≡ goingOf (now (b .entry)) (t .time) (judge (now (b .entry)) t (held g (now (ledger .entry)) (now (map .entry))) x) ⌝ }
     ensures { λ _. ⌜ now (ledger .exit) ≡ judge (now (b .entry)) t (held g (now (ledger .entry)) (now (map .entry))) x .ledger ⌝ }
     ensures { λ _. ⌜ now (map .exit) ≡ judge (now (b .entry)) t (held g (now (ledger .entry)) (now (map .entry))) x .map ⌝ }
 {
     let position = g.position;
-    let outside = is_outside(b, t, position, x.speed as u32);
+    let window = g.window;
+    let outside = is_outside(window, t.speed, x.speed as u32);
     mark_sample(&mut *map, position as usize, outside);
     let over = add_in_cycle(&mut *ledger, g.cycle, g.phase, x, outside, t.allowance);
     if over {
-        return stopped_by(g);
+        return offered_by(g, End::Stop);
     }
-    counted_by(b, g)
+    counted_by(b, t.time, g)
 }
 
 // One accepted sample: judged while the run is open.
@@ -238,14 +284,14 @@ pub fn take_one(
 ) -> Going
     requires { ⌜ Kept (now b) t g (now ledger) (now map) ⌝ }
     requires { ⌜ (g .offered < 4_000_000) × (isSample x ≡ true) ⌝ }
-    ensures { λ r. ⌜ r ≡ goingOf (now (b .entry)) (step (now (b .entry)) t (held g (now (ledger .entry)) (now (map .entry))) x) ⌝ }
+    ensures { λ r. ⌜ r ≡ goingOf (now (b .entry)) (t .time) (step (now (b .entry)) t (held g (now (ledger .entry)) (now (map .entry))) x) ⌝ }
     ensures { λ _. ⌜ now (ledger .exit) ≡ step (now (b .entry)) t (held g (now (ledger .entry)) (now (map .entry))) x .ledger ⌝ }
     ensures { λ _. ⌜ now (map .exit) ≡ step (now (b .entry)) t (held g (now (ledger .entry)) (now (map .entry))) x .map ⌝ }
 {
     let end = g.end;
     match end {
         End::None => judge_one(b, t, g, &mut *ledger, &mut *map, x),
-        End::Stop => passed_by(g),
-        End::Limit => passed_by(g),
+        End::Stop => offered_by(g, end),
+        End::Limit => offered_by(g, end),
     }
 }

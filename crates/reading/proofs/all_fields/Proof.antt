@@ -77,7 +77,7 @@ returns c =
     ∙ turn-end (a .me .now) (a .b .now) (a .t) (at .loop .along) (at .loop .ledger) (at .loop .map) (a .input .now) (at .loop .used) _ _ _ h _ (f .bytes-of .ensures) (c .if1 .taken) (at .loop .fields))
 
 add-fields : tie.Need-add-fields Inv-loop μ-loop
-add-fields c = let at = place (c .before) in omega (arith, sized c, at .loop .inv .0 .1)
+add-fields c = let at = place (c .before) in omega (arith, sized c, at .loop .inv .0 .1, entry (c .before) .good .1 .1 .1 .1 .1 .1 .0 .0)
 
 add-used : tie.Need-add-used Inv-loop μ-loop
 add-used c = omega (arith, sized c, entry (c .before) .good .1 .1 .1 .1 .1 .1 .0 .0)

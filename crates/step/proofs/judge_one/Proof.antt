@@ -12,9 +12,9 @@ use Rattle.ledger.specs.Row.{isOver, sampleAdded}
 use Rattle.map.specs.Map.{opened, markedIf}
 use Rattle.step.specs.Step.{judge, held, Kept}
 use Rattle.rules.proofs.Sound.{Sound, sound}
-use Rattle.step.proofs.Standing.{position-small, position-most, phase-small, cycle-small}
+use Rattle.step.proofs.Standing.{position-most, phase-small, cycle-small}
 use Rattle.step.proofs.Keeping.{number-small}
-use Rattle.step.proofs.Steps.{ledger-is, map-is, stops-is, goes-is}
+use Rattle.step.proofs.Steps.{out-in, ledger-is, map-is, stops-is, goes-is}
 use Rattle.step.proofs.judge_one.Statement.{statement}
 use Rattle.step.proofs.judge_one.Tie as tie
 
@@ -40,10 +40,12 @@ out s = not (inside (b s) (s .args .t) (s .args .g .position) (s .args .x .speed
 
 -- after the three calls
 abbrev entry : tie.After-ledger → tie.Start
-entry c = c .before .before .before .before .before .before .before .before .before .before .before
+entry c = c .before .before .before .before .before .before .before .before .before .before .before .before
 
 out-known : (c : tie.After-ledger) → c .before .before .before .before .before .before .before .is-outside .result ≡ out (entry c)
-out-known c = c .before .before .before .before .before .before .before .is-outside .ensures
+out-known c =
+    let s = entry c in
+    c .before .before .before .before .before .before .before .is-outside .ensures ∙ out-in (b s) (s .args .t) (s .args .g) (l s) (m s) (kept s) (s .args .x)
 
 over-known : (c : tie.After-ledger) → c .before .add-in-cycle .result ≡ isOver (9 * entry c .args .g .cycle) (l (entry c)) (out (entry c)) (entry c .args .t .allowance)
 over-known c =
@@ -70,33 +72,31 @@ cast-is-outside : tie.Need-cast-is-outside
 cast-is-outside c = search needs
 
 is-outside-requires : tie.Need-is-outside-requires
-is-outside-requires c κs =
-    let s = c .before .before .before in
-    (kept s .sound, kept s .time, position-small (b s) (good s) (s .args .g) (kept s .stands))
+is-outside-requires c κs = search needs
 
 cast-mark-sample : tie.Need-cast-mark-sample
 cast-mark-sample c = search needs
 
 mark-sample-requires : tie.Need-mark-sample-requires
 mark-sample-requires c κs =
-    let s = c .before .before .before .before .before in
-    (position-most (b s) (good s) (s .args .g) (kept s .stands), kept s .long-map)
+    let s = c .before .before .before .before .before .before in
+    (position-most (b s) (good s) (s .args .t .time) (s .args .g) (kept s .stands), kept s .long-map)
 
 add-in-cycle-requires : tie.Need-add-in-cycle-requires
 add-in-cycle-requires c κs =
-    let s = c .before .before .before .before .before .before .before .before .before in
+    let s = c .before .before .before .before .before .before .before .before .before .before in
     let k = kept s in (
       (
         k .long-ledger,
-        cycle-small (b s) (good s) (s .args .g) (k .stands) (k .room (s .pre .1 .2)),
-        phase-small (b s) (good s) (s .args .g) (k .stands),
+        cycle-small (b s) (good s) (s .args .t .time) (s .args .g) (k .stands) (k .room (s .pre .1 .2)),
+        phase-small (b s) (good s) (s .args .t .time) (s .args .g) (k .stands),
         s .pre .1 .1,
       ),
       number-small k (s .pre .1 .0),
     )
 
-stopped-by-requires : tie.Need-stopped-by-requires
-stopped-by-requires c κs = search needs
+offered-by-requires : tie.Need-offered-by-requires
+offered-by-requires c κs = search needs
 
 same-length : tie.Need-same-length
 same-length c = search needs
@@ -108,14 +108,14 @@ returns : tie.Need-returns
 returns c =
     let a = c .before .before in
     let s = entry a in (
-      c .stopped-by .ensures ∙ stops-is (b s) (s .args .t) (s .args .g) (l s) (m s) (kept s) (s .args .x) (sym (over-known a) ∙ c .before .if1 .taken),
+      c .offered-by .ensures ∙ stops-is (b s) (s .args .t) (s .args .g) (l s) (m s) (kept s) (s .args .x) (sym (over-known a) ∙ c .before .if1 .taken),
       (ledger-known a, map-known a),
     )
 
 counted-by-requires : tie.Need-counted-by-requires
 counted-by-requires c κs =
     let s = entry (c .before) in
-    (kept s .sound, kept s .stands, s .pre .1 .0, kept s .room (s .pre .1 .2))
+    (kept s .sound, kept s .time, kept s .stands, s .pre .1 .0, kept s .room (s .pre .1 .2))
 
 same-length-3 : tie.Need-same-length-3
 same-length-3 c = search needs
@@ -140,7 +140,7 @@ judge-one-spec =
     cast-mark-sample
     mark-sample-requires
     add-in-cycle-requires
-    stopped-by-requires
+    offered-by-requires
     same-length
     same-length-2
     returns

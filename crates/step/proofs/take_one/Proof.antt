@@ -2,10 +2,9 @@
 -- Assumes nothing.
 use mathlib.Core.Bool.{false}
 use mathlib.Core.Path.{_≡_, refl, sym, ap, _∙_}
-use Prim.Native.Nat.{_+_}
 use borrow.Author.Needs.{needs}
 use Rattle.rules.specs.Bench.{isOpen}
-use Rattle.step.specs.Step.{State, Going, step, held}
+use Rattle.step.specs.Step.{State, Going, step, offeredOne, held}
 use Rattle.step.proofs.Steps.{Leaves, leaves-same, step-open, step-ended, passed-is}
 use Rattle.step.proofs.take_one.Statement.{statement}
 use Rattle.step.proofs.take_one.Tie as tie
@@ -18,11 +17,10 @@ abbrev after : tie.Start → State
 after s = step (s .args .b .now) (s .args .t) (before s) (s .args .x)
 
 -- where it stands after a sample that is passed by, and its memory
-by : (s : tie.Start) (r : Going) → isOpen (s .args .g .end) ≡ false
-    → r ≡ record { offered = s .args .g .offered + 1; counted = s .args .g .counted; end = s .args .g .end; cycle = s .args .g .cycle; position = s .args .g .position; phase = s .args .g .phase }
-    → Leaves (s .args .b .now) (after s) r (s .args .ledger .now) (s .args .map .now)
+by : (s : tie.Start) (r : Going) → isOpen (s .args .g .end) ≡ false → r ≡ offeredOne (s .args .g) (s .args .g .end)
+    → Leaves (s .args .b .now) (s .args .t .time) (after s) r (s .args .ledger .now) (s .args .map .now)
 by s r e q =
-    leaves-same (s .args .b .now) (sym (step-ended (s .args .b .now) (s .args .t) (before s) (s .args .x) e))
+    leaves-same (s .args .b .now) (s .args .t .time) (sym (step-ended (s .args .b .now) (s .args .t) (before s) (s .args .x) e))
     (q ∙ passed-is (s .args .b .now) (s .args .t) (s .args .g) (s .args .ledger .now) (s .args .map .now) (s .pre .0), (refl, refl))
 
 enum-told : tie.Need-enum-told
@@ -36,14 +34,14 @@ judge-one-requires c κs =
 enum-told-2 : tie.Need-enum-told-2
 enum-told-2 c = search needs
 
-passed-by-requires : tie.Need-passed-by-requires
-passed-by-requires c κs = search needs
+offered-by-requires : tie.Need-offered-by-requires
+offered-by-requires c κs = search needs
 
 enum-told-3 : tie.Need-enum-told-3
 enum-told-3 c = search needs
 
-passed-by-requires-2 : tie.Need-passed-by-requires-2
-passed-by-requires-2 c κs = search needs
+offered-by-requires-2 : tie.Need-offered-by-requires-2
+offered-by-requires-2 c κs = search needs
 
 same-length : tie.Need-same-length
 same-length c = search needs
@@ -55,19 +53,19 @@ returns : tie.Need-returns
 returns c =
     let j = c .before .before .before in
     let s = j .before .before .before .before .before .before .before in
-    leaves-same (s .args .b .now)
+    leaves-same (s .args .b .now) (s .args .t .time)
     (sym (step-open (s .args .b .now) (s .args .t) (before s) (s .args .x) (ap isOpen (j .before .before .before .enum-told .given .1))))
     (j .judge-one .ensures)
 
 returns-2 : tie.Need-returns-2
 returns-2 c =
     let s = c .before .before .before .before .before in
-    by s (c .passed-by .result) (ap isOpen (c .before .enum-told2 .given .1)) (c .passed-by .ensures)
+    by s (c .offered-by .result) (ap isOpen (c .before .enum-told2 .given .1)) (c .offered-by .ensures)
 
 returns-3 : tie.Need-returns-3
 returns-3 c =
     let s = c .before .before .before .before .before in
-    by s (c .passed-by2 .result) (ap isOpen (c .before .enum-told3 .given .1)) (c .passed-by2 .ensures)
+    by s (c .offered-by2 .result) (ap isOpen (c .before .enum-told3 .given .1)) (c .offered-by2 .ensures)
 
 pub take-one-spec : {M : Type 1} → statement M
 take-one-spec =
@@ -76,9 +74,9 @@ take-one-spec =
     enum-told
     judge-one-requires
     enum-told-2
-    passed-by-requires
+    offered-by-requires
     enum-told-3
-    passed-by-requires-2
+    offered-by-requires-2
     same-length
     same-length-2
     returns

@@ -1,0 +1,104 @@
+-- Where a run stands after a sample that counts, put together from its parts.
+-- Assumes nothing.
+use mathlib.Core.Bool.{Bool, cond}
+use mathlib.Core.List.{List}
+use mathlib.Core.Path.{_≡_, sym, ap, ap₂, _∙_}
+use Prim.Native.Nat.{ℕ, _+_, _*_, _≤_, _<_, min}
+use native.Mathlib.Omega.{arith}
+use lib.Dec.{ltb}
+use Rattle.rules.specs.declared.End.{End}
+use Rattle.rules.specs.declared.End.the-variants.{None as none, Limit as limit}
+use Rattle.rules.specs.Cycle.{positions, phaseEnd, phaseAt}
+use Rattle.rules.specs.Run.{cycleOf, positionOf, most}
+use Rattle.rules.proofs.Sound.{Sound, phase-first}
+use Rattle.window.specs.declared.Window.{Window}
+use Rattle.window.specs.Moving.{windowOf}
+use Rattle.step.specs.Step.{Going, Next, untilAt, standing, nextOf}
+use Rattle.step.proofs.Standing.{position-is, cycle-is, phase-is, until-is, position-small, near-positions, same-phase, same-until, same-cycle, next-position, still-open, next-cycle, first-position, limit-test}
+
+-- where the sample after n counted ones stands, n + 1 with the last of them
+module _ (b : List ℕ) (o : Sound b) (n c p : ℕ) (hc : c ≡ cycleOf b n) (hp : p ≡ positionOf b n) where
+  pub next-within : (k : ℕ) → p + 1 < positions b → n < most b → k ≡ phaseAt b (p + 1)
+      → _≡_ {A = Next} (record { end = none; cycle = c; position = p + 1; phase = k }) (nextOf b (n + 1))
+  next-within k h l e =
+      let h′ : positionOf b n + 1 < positions b = omega arith in
+      let there = ap (λ (i : ℕ). i + 1) hp ∙ next-position b o n h′ in
+      λ i. record {
+        end = cond (sym (still-open b o n h′ l) i) none limit;
+        cycle = (hc ∙ same-cycle b o n h′) i;
+        position = there i;
+        phase = (e ∙ ap (phaseAt b) there) i;
+      }
+
+  pub next-first : (e : End) → positions b ≤ p + 1 → e ≡ cond (ltb (c + 1) 64) none limit
+      → _≡_ {A = Next} (record { end = e; cycle = c + 1; position = 0; phase = 0 }) (nextOf b (n + 1))
+  next-first e h q =
+      let h′ : positions b ≤ positionOf b n + 1 = omega arith in
+      let there = first-position b o n h′ in
+      λ i. record {
+        end = (q ∙ ap (λ (k : ℕ). cond (ltb (k + 1) 64) none limit) hc ∙ ap (λ (x : Bool). cond x none limit) (limit-test b o n h′)) i;
+        cycle = (ap (λ (k : ℕ). k + 1) hc ∙ next-cycle b o n h′) i;
+        position = there i;
+        phase = (sym (phase-first b o) ∙ ap (phaseAt b) there) i;
+      }
+
+-- phase and window worked out anew
+module _ (b : List ℕ) (w : ℕ) (y : Window) (u : ℕ) where
+  pub until-made : (p k : ℕ) → y ≡ windowOf b w p → k ≡ phaseAt b p → u ≡ min (y .until) (20 * phaseEnd b k) → u ≡ untilAt b w p
+  until-made p k hy hk hu = hu ∙ ap₂ (λ (z : Window) (j : ℕ). min (z .until) (20 * phaseEnd b j)) hy hk
+
+  pub turned-is : (m n : ℕ) (x : Next) → x ≡ nextOf b n → y ≡ windowOf b w (x .position) → u ≡ min (y .until) (20 * phaseEnd b (x .phase))
+      → _≡_ {A = Going}
+      (record { offered = m; counted = n; end = x .end; cycle = x .cycle; position = x .position; phase = x .phase; window = y; until = u })
+      (standing b w m n (cond (ltb n (most b)) none limit))
+  turned-is m n x hx hy hu =
+      let there = hy ∙ ap (λ (z : Next). windowOf b w (z .position)) hx in
+      λ i. record {
+        offered = m;
+        counted = n;
+        end = hx i .end;
+        cycle = hx i .cycle;
+        position = hx i .position;
+        phase = hx i .phase;
+        window = there i;
+        until = until-made (positionOf b n) (x .phase) there (ap (λ (z : Next). z .phase) hx) hu i;
+      }
+
+-- while only the ends of the window move
+module _ (b : List ℕ) (o : Sound b) (w : ℕ) (g : Going) (stands : g ≡ standing b w (g .offered) (g .counted) (g .end)) (h : g .position + 1 < g .until) where
+  abbrev n : ℕ
+  n = g .counted
+
+  abbrev p : ℕ
+  p = positionOf b n
+
+  position-now : g .position ≡ p
+  position-now = position-is b o w g stands
+
+  small : p < positions b
+  small = omega (arith, position-now, position-small b o w g stands)
+
+  near : p + 1 < untilAt b w p
+  near = omega (arith, position-now, until-is b o w g stands)
+
+  pub goes-on : g .position + 1 < positions b
+  goes-on = omega (arith, position-now, near-positions b o w p small near)
+
+  pub moved-is : g .counted < most b → (x : Window) → x ≡ windowOf b w (g .position + 1)
+      → _≡_ {A = Going}
+      (record { offered = g .offered + 1; counted = g .counted + 1; end = none; cycle = g .cycle; position = g .position + 1; phase = g .phase; window = x; until = g .until })
+      (standing b w (g .offered + 1) (g .counted + 1) (cond (ltb (g .counted + 1) (most b)) none limit))
+  moved-is l x e =
+      let inner = near-positions b o w p small near in
+      let next = next-position b o n inner in
+      let there = ap (λ (i : ℕ). i + 1) position-now ∙ next in
+      λ i. record {
+        offered = g .offered + 1;
+        counted = n + 1;
+        end = cond (sym (still-open b o n inner l) i) none limit;
+        cycle = (cycle-is b o w g stands ∙ same-cycle b o n inner) i;
+        position = there i;
+        phase = (phase-is b o w g stands ∙ same-phase b o w p small near ∙ ap (phaseAt b) next) i;
+        window = (e ∙ ap (windowOf b w) there) i;
+        until = (until-is b o w g stands ∙ same-until b o w p small near ∙ ap (untilAt b w) next) i;
+      }

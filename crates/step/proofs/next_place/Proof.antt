@@ -1,0 +1,80 @@
+-- `step::next_place` meets its contract: the next sample stands at the next position, or at the first of the next cycle.
+-- Assumes nothing.
+use mathlib.Core.Path.{_≡_, sym, ap, _∙_}
+use Prim.Native.Nat.{_<_}
+use native.Mathlib.Omega.{arith}
+use borrow.Author.Needs.{needs}
+use Rattle.rules.specs.Cycle.{phaseAt}
+use Rattle.rules.specs.Run.{cycleOf, positionOf}
+use Rattle.rules.proofs.Sound.{Sound, sound}
+use Rattle.step.proofs.Standing.{position-is, cycle-is, phase-is, position-most, cycle-small}
+use Rattle.step.proofs.Placing.{next-within, next-first}
+use Rattle.step.proofs.next_place.Statement.{statement}
+use Rattle.step.proofs.next_place.Tie as tie
+
+-- the sound cycle, and where the run stands, at the entry
+module _ (c : tie.Start) where
+  good : Sound (c .args .b .now)
+  good = sound _ (c .pre .0)
+
+  at-position : c .args .g .position ≡ positionOf (c .args .b .now) (c .args .g .counted)
+  at-position = position-is (c .args .b .now) good (c .args .w) (c .args .g) (c .pre .1)
+
+  at-cycle : c .args .g .cycle ≡ cycleOf (c .args .b .now) (c .args .g .counted)
+  at-cycle = cycle-is (c .args .b .now) good (c .args .w) (c .args .g) (c .pre .1)
+
+  at-phase : c .args .g .phase ≡ phaseAt (c .args .b .now) (c .args .g .position)
+  at-phase = phase-is (c .args .b .now) good (c .args .w) (c .args .g) (c .pre .1) ∙ ap (phaseAt (c .args .b .now)) (sym at-position)
+
+  small-position : c .args .g .position < 48_000
+  small-position = position-most (c .args .b .now) good (c .args .w) (c .args .g) (c .pre .1)
+
+  small-cycle : c .args .g .cycle < 64
+  small-cycle = cycle-small (c .args .b .now) good (c .args .w) (c .args .g) (c .pre .1) (c .pre .2)
+
+add-if1 : tie.Need-add-if1
+add-if1 c = omega (arith, small-position (c .before))
+
+seconds-of-requires : tie.Need-seconds-of-requires
+seconds-of-requires c κs = let s = good (c .before) in omega arith
+
+mul-if1 : tie.Need-mul-if1
+mul-if1 c = let s = good (c .before .before) in omega arith
+
+add-t11 : tie.Need-add-t11
+add-t11 c = omega (arith, small-position (c .before .before .before))
+
+next-phase-requires : tie.Need-next-phase-requires
+next-phase-requires c κs =
+    let start = c .before .before .before in
+    (start .pre .0, omega arith, at-phase start)
+
+returns : tie.Need-returns
+returns c =
+    let start = c .before .before .before .before in
+    next-within (start .args .b .now) (good start) (start .args .g .counted) _ _ (at-cycle start) (at-position start) _ (omega arith) (start .pre .2) (c .next-phase .ensures)
+
+add-cycle : tie.Need-add-cycle
+add-cycle c = omega (arith, small-cycle (c .before .before .before .before))
+
+end-after-requires : tie.Need-end-after-requires
+end-after-requires c κs = search needs
+
+returns-2 : tie.Need-returns-2
+returns-2 c =
+    let start = c .before .before .before .before .before in
+    next-first (start .args .b .now) (good start) (start .args .g .counted) _ _ (at-cycle start) (at-position start) _ (omega arith) (c .end-after .ensures)
+
+pub next-place-spec : {M : Type 1} → statement M
+next-place-spec =
+    tie.close
+    (tie.spec
+    add-if1
+    seconds-of-requires
+    mul-if1
+    add-t11
+    next-phase-requires
+    returns
+    add-cycle
+    end-after-requires
+    returns-2)

@@ -1,0 +1,65 @@
+-- `step::turned_by` meets its contract: where the next sample stands, with the window worked out anew.
+-- Assumes nothing.
+use mathlib.Core.Path.{ap}
+use Prim.Native.Nat.{_+_, _<_}
+use native.Mathlib.Nat.{mod-lt}
+use native.Mathlib.Omega.{arith}
+use borrow.Author.Needs.{needs}
+use Rattle.rules.specs.Cycle.{phases, positions}
+use Rattle.rules.specs.Run.{positionOf}
+use Rattle.rules.proofs.Sound.{Sound, sound, real, phase-exists}
+use Rattle.step.specs.Step.{Next}
+use Rattle.step.proofs.Placing.{turned-is}
+use Rattle.step.proofs.turned_by.Statement.{statement}
+use Rattle.step.proofs.turned_by.Tie as tie
+
+good : (c : tie.Start) → Sound (c .args .b .now)
+good c = sound _ (c .pre .0)
+
+-- the next sample stands in the cycle, in one of its phases
+module _ (c : tie.After-next-place) where
+  abbrev start : tie.Start
+  start = c .before .before
+
+  next-small : c .next-place .result .position < positions (start .args .b .now)
+  next-small =
+      let e = ap (λ (x : Next). x .position) (c .next-place .ensures) in
+      omega (arith, e, mod-lt (start .args .g .counted + 1) (real (good start)))
+
+  phase-there : c .next-place .result .phase < phases (start .args .b .now)
+  phase-there =
+      let b = start .args .b .now in
+      let n = start .args .g .counted + 1 in
+      let e = ap (λ (x : Next). x .phase) (c .next-place .ensures) in
+      omega (arith, e, phase-exists b (positionOf b n) (good start) (mod-lt n (real (good start))))
+
+next-place-requires : tie.Need-next-place-requires
+next-place-requires c κs = search needs
+
+window-at-requires : tie.Need-window-at-requires
+window-at-requires c κs =
+    let start = c .before .before in
+    (start .pre .0, start .pre .1, next-small c)
+
+add-t7 : tie.Need-add-t7
+add-t7 c = search needs
+
+add-t8 : tie.Need-add-t8
+add-t8 c =
+    let start = c .before .before .before .before .before in
+    omega (arith, start .pre .4, good start .short)
+
+until-in-requires : tie.Need-until-in-requires
+until-in-requires c κs =
+    let s = good (c .before .before .before .before .before) in
+    omega (arith, phase-there (c .before .before .before))
+
+returns : tie.Need-returns
+returns c =
+    let next = c .before .before .before .before in
+    turned-is _ _ _ _ _ _ (next .next-place .result) (next .next-place .ensures) (c .before .before .before .window-at .ensures .0) (c .until-in .ensures)
+
+pub turned-by-spec : {M : Type 1} → statement M
+turned-by-spec =
+    tie.close
+    (tie.spec next-place-requires window-at-requires add-t7 add-t8 until-in-requires returns)

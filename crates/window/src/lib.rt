@@ -1,0 +1,130 @@
+// The window of a position: its two ends, and the whole seconds between them.
+mod ends;
+
+use cycle::point_of;
+use cycle::seconds_of;
+use ends::left_edge;
+use ends::moved;
+use ends::right_edge;
+use ends::until_of;
+use numbers::larger;
+use numbers::less;
+use numbers::smaller;
+use rules::Tolerances;
+ghost use mathlib.Core.Path.{_≡_};
+ghost use mathlib.Core.Bool.{true};
+ghost use Prim.Native.Nat.{_+_, _-_, _*_, _≤_, _<_, min, max};
+ghost use Rattle.numbers.specs.Range.{fold};
+ghost use Rattle.rules.specs.Cycle.{point, positions, seconds, valid};
+ghost use Rattle.rules.specs.Band.{lo, hi, side, verdict};
+ghost use Rattle.window.specs.Moving.{mostGrid, windowOf, leastIn, greatestIn};
+
+// An end of the window: its value, and what that gains at the next place, kept 1500 higher.
+pub struct Edge {
+    pub value: u32,
+    pub rise: u32,
+}
+
+// The ends, number by number, the least and the greatest over the whole seconds inside, and the position at which all is worked out anew.
+pub struct Window {
+    pub left: u32,
+    pub leftrise: u32,
+    pub low: u32,
+    pub right: u32,
+    pub rightrise: u32,
+    pub high: u32,
+    pub until: u32,
+}
+
+struct Inner {
+    low: u32,
+    high: u32,
+}
+
+// The least and the greatest over the whole seconds after second j, up to second k.
+fn inner_over(b: &[u8], j: u32, k: u32) -> Inner
+    requires { ⌜ (valid (now b) ≡ true) × (k ≤ seconds (now b)) ⌝ }
+    ensures { λ r. ⌜ (r .low ≡ fold min mostGrid (λ i. 20 * point (now (b .entry)) (j + 1 + i)) (k - j)) × (r .high ≡ fold max 0 (λ i. 20 * point (now (b .entry)) (j + 1 + i)) (k - j)) ⌝ }
+{
+    let n = less(k, j);
+    let mut low = 30000;
+    let mut high = 0;
+    let mut i = 0;
+    while i < n {
+        let x = 20 * (point_of(b, (j + 1 + i) as usize) as u32);
+        low = smaller(low, x);
+        high = larger(high, x);
+        i += 1;
+    }
+    Inner { low, high }
+}
+
+// The window of position p.
+pub fn window_at(b: &[u8], w: u32, p: u32) -> Window
+    requires { ⌜ (valid (now b) ≡ true) × (w ≤ 40) × (p < positions (now b)) ⌝ }
+    ensures { λ r. ⌜ r ≡ windowOf (now (b .entry)) w p ⌝ }
+    ensures { λ r. ⌜ (leastIn r ≡ lo (now (b .entry)) w p) × (greatestIn r ≡ hi (now (b .entry)) w p) ⌝ }
+{
+    let t = seconds_of(b);
+    let n = 20 * t;
+    let left = left_edge(b, w, p);
+    let right = right_edge(b, w, p, t);
+    let inner = inner_over(b, less(p, w) / 20, smaller(n, p + w) / 20);
+    Window {
+        left: left.value,
+        leftrise: left.rise,
+        right: right.value,
+        rightrise: right.rise,
+        low: inner.low,
+        high: inner.high,
+        until: until_of(w, p, n),
+    }
+}
+
+// The window of position p + 1, from that of position p: only its ends move, as long as nothing is to be worked out anew.
+pub fn shift(b: &[u8], w: u32, p: u32, window: Window) -> Window
+    requires { ⌜ (valid (now b) ≡ true) × (p + 1 < positions (now b)) × (window ≡ windowOf (now b) w p) × (p + 1 < window .until) ⌝ }
+    ensures { λ r. ⌜ r ≡ windowOf (now (b .entry)) w (p + 1) ⌝ }
+{
+    Window {
+        left: moved(window.left, window.leftrise),
+        leftrise: window.leftrise,
+        right: moved(window.right, window.rightrise),
+        rightrise: window.rightrise,
+        low: window.low,
+        high: window.high,
+        until: window.until,
+    }
+}
+
+// Where the speed v lies with the tolerance s: 0 inside, 1 below, 2 above.
+fn side_of(lo: u32, hi: u32, s: u32, v: u32) -> u32
+    ensures { λ r. ⌜ r ≡ side lo hi s v ⌝ }
+{
+    let speed = 20 * (v as u64);
+    let spare = 20 * (s as u64);
+    if speed + spare < lo as u64 {
+        return 1;
+    }
+    if hi as u64 + spare < speed {
+        return 2;
+    }
+    0
+}
+
+// The verdict on the speed v in a window, with the tolerance s: 0 inside, 1 below, 2 above.
+pub fn verdict_in(window: Window, s: u32, v: u32) -> u32
+    ensures { λ r. ⌜ r ≡ side (leastIn window) (greatestIn window) s v ⌝ }
+{
+    let lo = smaller(smaller(window.left, window.right), window.low);
+    let hi = larger(larger(window.left, window.right), window.high);
+    side_of(lo, hi, s, v)
+}
+
+// The verdict on the speed v at position p: 0 inside, 1 below, 2 above.
+pub fn verdict_at(b: &[u8], t: Tolerances, p: u32, v: u32) -> u32
+    requires { ⌜ (valid (now b) ≡ true) × (t .time ≤ 40) × (p < positions (now b)) ⌝ }
+    ensures { λ r. ⌜ r ≡ verdict (now (b .entry)) t p v ⌝ }
+{
+    verdict_in(window_at(b, t.time, p), t.speed, v)
+}
