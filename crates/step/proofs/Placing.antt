@@ -13,7 +13,7 @@ use Rattle.rules.specs.Run.{cycleOf, positionOf, most}
 use Rattle.rules.proofs.Sound.{Sound, phase-first}
 use Rattle.window.specs.declared.Window.{Window}
 use Rattle.window.specs.Moving.{windowOf}
-use Rattle.step.specs.Step.{Going, Next, untilAt, standing, nextOf}
+use Rattle.step.specs.Step.{Going, Next, untilAt, standing, nextOf, countedOne}
 use Rattle.step.proofs.Standing.{position-is, cycle-is, phase-is, until-is, position-small, near-positions, same-phase, same-until, same-cycle, next-position, still-open, next-cycle, first-position, limit-test}
 
 -- where the sample after n counted ones stands, n + 1 with the last of them
@@ -87,7 +87,7 @@ module _ (b : List ℕ) (o : Sound b) (w : ℕ) (g : Going) (stands : g ≡ stan
   pub moved-is : g .counted < most b → (x : Window) → x ≡ windowOf b w (g .position + 1)
       → _≡_ {A = Going}
       (record { offered = g .offered + 1; counted = g .counted + 1; end = none; cycle = g .cycle; position = g .position + 1; phase = g .phase; window = x; until = g .until })
-      (standing b w (g .offered + 1) (g .counted + 1) (cond (ltb (g .counted + 1) (most b)) none limit))
+      (countedOne b w g)
   moved-is l x e =
       let inner = near-positions b o w p small near in
       let next = next-position b o n inner in

@@ -122,6 +122,18 @@ offeredOne g end = record {
 abbrev pub withGoing : Run → Going → Run
 withGoing r g = record { seconds = r .seconds; ends = r .ends; tolerances = r .tolerances; offered = g .offered; counted = g .counted; end = g .end }
 
+-- a sample more is counted: the run stands at the next, and may end by limit
+abbrev pub countedOne : List ℕ → ℕ → Going → Going
+countedOne b w g = standing b w (g .offered + 1) (g .counted + 1) (cond (ltb (g .counted + 1) (most b)) none limit)
+
+-- what is asked where a sample is counted
+pub record Counts (b : List ℕ) (w : ℕ) (g : Going) : Type 0 where
+  pub sound : valid b ≡ true
+  pub time : w ≤ 40
+  pub stands : g ≡ standing b w (g .offered) (g .counted) (g .end)
+  pub few : g .offered < 4_000_000
+  pub room : g .counted < most b
+
 -- a going run with its memory, as a state
 abbrev pub held : Going → List ℤ → List ℕ → State
 held g l m = record { offered = g .offered; counted = g .counted; end = g .end; ledger = l; map = m }

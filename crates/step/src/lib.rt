@@ -26,13 +26,13 @@ ghost use Rattle.rules.specs.Bench.{isSample, isOpen, drawn, distance};
 ghost use Rattle.rules.specs.Cycle.{phaseEnd, seconds, phaseAt, positions, valid};
 ghost use Rattle.rules.specs.Band.{insideOf};
 ghost use Rattle.window.specs.Moving.{leastIn, greatestIn};
-ghost use Rattle.rules.specs.Run.{most};
 ghost use Rattle.map.specs.Map.{opened, markedIf};
 ghost use Rattle.ledger.specs.Row.{at, isOver, sampleAdded};
 ghost use Rattle.rules.specs.declared.End.the-variants.{None as none, Limit as limit};
-ghost use Rattle.step.specs.Step.{standing, nextOf, offeredOne, held, goingOf, step, judge, Kept, withGoing};
+ghost use Rattle.step.specs.Step.{standing, nextOf, offeredOne, countedOne, Counts, held, goingOf, step, judge, Kept, withGoing};
 
-// Where a run stands while samples are taken: cycle, position and phase of the next sample and the window of its position, beside what changes in the run. Up to position `until` only the ends of the window move.
+// Where a run stands while samples are taken: cycle, position and phase of the next sample and the window of its position, beside what changes in the run.
+// Up to position `until` only the ends of the window move.
 pub struct Going {
     pub offered: u32,
     pub counted: u32,
@@ -141,7 +141,7 @@ fn end_after(cycles: usize) -> End
 
 // Where the sample behind a counted one stands, and the run's end with that.
 fn next_place(b: &[u8], w: u32, g: Going) -> Next
-    requires { ⌜ (valid (now b) ≡ true) × (g ≡ standing (now b) w (g .offered) (g .counted) (g .end)) × (g .counted < most (now b)) ⌝ }
+    requires { ⌜ Counts (now b) w g ⌝ }
     ensures { λ r. ⌜ r ≡ nextOf (now (b .entry)) (g .counted + 1) ⌝ }
 {
     let position = g.position;
@@ -164,8 +164,8 @@ fn next_place(b: &[u8], w: u32, g: Going) -> Next
 
 // A sample that counts, behind which phase, cycle or window may be others: all is worked out anew.
 fn turned_by(b: &[u8], w: u32, g: Going) -> Going
-    requires { ⌜ (valid (now b) ≡ true) × (w ≤ 40) × (g ≡ standing (now b) w (g .offered) (g .counted) (g .end)) × (g .offered < 4_000_000) × (g .counted < most (now b)) ⌝ }
-    ensures { λ r. ⌜ r ≡ standing (now (b .entry)) w (g .offered + 1) (g .counted + 1) (cond (ltb (g .counted + 1) (most (now (b .entry)))) none limit) ⌝ }
+    requires { ⌜ Counts (now b) w g ⌝ }
+    ensures { λ r. ⌜ r ≡ countedOne (now (b .entry)) w g ⌝ }
 {
     let next = next_place(b, w, g);
     let end = next.end;
@@ -184,8 +184,8 @@ fn turned_by(b: &[u8], w: u32, g: Going) -> Going
 
 // A sample that counts.
 fn counted_by(b: &[u8], w: u32, g: Going) -> Going
-    requires { ⌜ (valid (now b) ≡ true) × (w ≤ 40) × (g ≡ standing (now b) w (g .offered) (g .counted) (g .end)) × (g .offered < 4_000_000) × (g .counted < most (now b)) ⌝ }
-    ensures { λ r. ⌜ r ≡ standing (now (b .entry)) w (g .offered + 1) (g .counted + 1) (cond (ltb (g .counted + 1) (most (now (b .entry)))) none limit) ⌝ }
+    requires { ⌜ Counts (now b) w g ⌝ }
+    ensures { λ r. ⌜ r ≡ countedOne (now (b .entry)) w g ⌝ }
 {
     let position = g.position;
     if g.until <= position + 1 {

@@ -13,11 +13,10 @@ use numbers::smaller;
 use rules::Tolerances;
 ghost use mathlib.Core.Path.{_≡_};
 ghost use mathlib.Core.Bool.{true};
-ghost use Prim.Native.Nat.{_+_, _-_, _*_, _≤_, _<_, min, max};
-ghost use Rattle.numbers.specs.Range.{fold};
-ghost use Rattle.rules.specs.Cycle.{point, positions, seconds, valid};
+ghost use Prim.Native.Nat.{_+_, _≤_, _<_};
+ghost use Rattle.rules.specs.Cycle.{positions, seconds, valid};
 ghost use Rattle.rules.specs.Band.{lo, hi, side, verdict};
-ghost use Rattle.window.specs.Moving.{mostGrid, windowOf, leastIn, greatestIn};
+ghost use Rattle.window.specs.Moving.{leastAfter, greatestAfter, windowOf, leastIn, greatestIn};
 
 // An end of the window: its value, and what that gains at the next place, kept 1500 higher.
 pub struct Edge {
@@ -44,7 +43,7 @@ struct Inner {
 // The least and the greatest over the whole seconds after second j, up to second k.
 fn inner_over(b: &[u8], j: u32, k: u32) -> Inner
     requires { ⌜ (valid (now b) ≡ true) × (k ≤ seconds (now b)) ⌝ }
-    ensures { λ r. ⌜ (r .low ≡ fold min mostGrid (λ i. 20 * point (now (b .entry)) (j + 1 + i)) (k - j)) × (r .high ≡ fold max 0 (λ i. 20 * point (now (b .entry)) (j + 1 + i)) (k - j)) ⌝ }
+    ensures { λ r. ⌜ (r .low ≡ leastAfter (now (b .entry)) j k) × (r .high ≡ greatestAfter (now (b .entry)) j k) ⌝ }
 {
     let n = less(k, j);
     let mut low = 30000;

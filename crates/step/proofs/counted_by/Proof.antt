@@ -14,39 +14,39 @@ use Rattle.step.proofs.counted_by.Tie as tie
 
 module _ (c : tie.Start) where
   good : Sound (c .args .b .now)
-  good = sound _ (c .pre .0)
+  good = sound _ (c .pre .sound)
 
   small-position : c .args .g .position < 48_000
-  small-position = position-most (c .args .b .now) good (c .args .w) (c .args .g) (c .pre .2)
+  small-position = position-most (c .args .b .now) good (c .args .w) (c .args .g) (c .pre .stands)
 
   at-window : c .args .g .window ≡ windowOf (c .args .b .now) (c .args .w) (c .args .g .position)
   at-window =
-      window-is (c .args .b .now) good (c .args .w) (c .args .g) (c .pre .2)
-      ∙ ap (windowOf (c .args .b .now) (c .args .w)) (sym (position-is (c .args .b .now) good (c .args .w) (c .args .g) (c .pre .2)))
+      window-is (c .args .b .now) good (c .args .w) (c .args .g) (c .pre .stands)
+      ∙ ap (windowOf (c .args .b .now) (c .args .w)) (sym (position-is (c .args .b .now) good (c .args .w) (c .args .g) (c .pre .stands)))
 
   later : c .args .g .position + 1 < c .args .g .until → c .args .g .position + 1 < c .args .g .window .until
   later h =
-      let p = position-is (c .args .b .now) good (c .args .w) (c .args .g) (c .pre .2) in
-      let u = until-is (c .args .b .now) good (c .args .w) (c .args .g) (c .pre .2) in
-      let e = ap (λ (x : Window). x .until) (window-is (c .args .b .now) good (c .args .w) (c .args .g) (c .pre .2)) in
+      let p = position-is (c .args .b .now) good (c .args .w) (c .args .g) (c .pre .stands) in
+      let u = until-is (c .args .b .now) good (c .args .w) (c .args .g) (c .pre .stands) in
+      let e = ap (λ (x : Window). x .until) (window-is (c .args .b .now) good (c .args .w) (c .args .g) (c .pre .stands)) in
       omega arith
 
 add-if1 : tie.Need-add-if1
 add-if1 c = omega (arith, small-position (c .before))
 
 turned-by-requires : tie.Need-turned-by-requires
-turned-by-requires c κs = search needs
+turned-by-requires c κs = c .before .before .before .pre
 
 returns : tie.Need-returns
 returns c = search needs
 
 add-t6 : tie.Need-add-t6
-add-t6 c = search needs
+add-t6 c = omega (arith, c .before .before .before .before .before .pre .few)
 
 add-t8 : tie.Need-add-t8
 add-t8 c =
     let start = c .before .before .before .before .before .before in
-    omega (arith, start .pre .4, good start .short)
+    omega (arith, start .pre .room, good start .short)
 
 add-t10 : tie.Need-add-t10
 add-t10 c = search needs
@@ -55,12 +55,12 @@ shift-requires : tie.Need-shift-requires
 shift-requires c κs =
     let start = c .before .before .before .before .before .before in
     let near : start .args .g .position + 1 < start .args .g .until = omega arith in
-    (start .pre .0, goes-on (start .args .b .now) (good start) (start .args .w) (start .args .g) (start .pre .2) near, at-window start, later start near)
+    (start .pre .sound, goes-on (start .args .b .now) (good start) (start .args .w) (start .args .g) (start .pre .stands) near, at-window start, later start near)
 
 returns-2 : tie.Need-returns-2
 returns-2 c =
     let start = c .before .before .before .before .before .before .before in
-    moved-is (start .args .b .now) (good start) (start .args .w) (start .args .g) (start .pre .2) (omega arith) (start .pre .4) (c .shift .result) (c .shift .ensures)
+    moved-is (start .args .b .now) (good start) (start .args .w) (start .args .g) (start .pre .stands) (omega arith) (start .pre .room) (c .shift .result) (c .shift .ensures)
 
 pub counted-by-spec : {M : Type 1} → statement M
 counted-by-spec =

@@ -115,7 +115,7 @@ returns c =
 counted-by-requires : tie.Need-counted-by-requires
 counted-by-requires c κs =
     let s = entry (c .before) in
-    (kept s .sound, kept s .time, kept s .stands, s .pre .1 .0, kept s .room (s .pre .1 .2))
+    record { sound = kept s .sound; time = kept s .time; stands = kept s .stands; few = s .pre .1 .0; room = kept s .room (s .pre .1 .2) }
 
 same-length-3 : tie.Need-same-length-3
 same-length-3 c = search needs

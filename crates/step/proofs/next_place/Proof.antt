@@ -15,22 +15,22 @@ use Rattle.step.proofs.next_place.Tie as tie
 -- the sound cycle, and where the run stands, at the entry
 module _ (c : tie.Start) where
   good : Sound (c .args .b .now)
-  good = sound _ (c .pre .0)
+  good = sound _ (c .pre .sound)
 
   at-position : c .args .g .position ≡ positionOf (c .args .b .now) (c .args .g .counted)
-  at-position = position-is (c .args .b .now) good (c .args .w) (c .args .g) (c .pre .1)
+  at-position = position-is (c .args .b .now) good (c .args .w) (c .args .g) (c .pre .stands)
 
   at-cycle : c .args .g .cycle ≡ cycleOf (c .args .b .now) (c .args .g .counted)
-  at-cycle = cycle-is (c .args .b .now) good (c .args .w) (c .args .g) (c .pre .1)
+  at-cycle = cycle-is (c .args .b .now) good (c .args .w) (c .args .g) (c .pre .stands)
 
   at-phase : c .args .g .phase ≡ phaseAt (c .args .b .now) (c .args .g .position)
-  at-phase = phase-is (c .args .b .now) good (c .args .w) (c .args .g) (c .pre .1) ∙ ap (phaseAt (c .args .b .now)) (sym at-position)
+  at-phase = phase-is (c .args .b .now) good (c .args .w) (c .args .g) (c .pre .stands) ∙ ap (phaseAt (c .args .b .now)) (sym at-position)
 
   small-position : c .args .g .position < 48_000
-  small-position = position-most (c .args .b .now) good (c .args .w) (c .args .g) (c .pre .1)
+  small-position = position-most (c .args .b .now) good (c .args .w) (c .args .g) (c .pre .stands)
 
   small-cycle : c .args .g .cycle < 64
-  small-cycle = cycle-small (c .args .b .now) good (c .args .w) (c .args .g) (c .pre .1) (c .pre .2)
+  small-cycle = cycle-small (c .args .b .now) good (c .args .w) (c .args .g) (c .pre .stands) (c .pre .room)
 
 add-if1 : tie.Need-add-if1
 add-if1 c = omega (arith, small-position (c .before))
@@ -47,12 +47,12 @@ add-t11 c = omega (arith, small-position (c .before .before .before))
 next-phase-requires : tie.Need-next-phase-requires
 next-phase-requires c κs =
     let start = c .before .before .before in
-    (start .pre .0, omega arith, at-phase start)
+    (start .pre .sound, omega arith, at-phase start)
 
 returns : tie.Need-returns
 returns c =
     let start = c .before .before .before .before in
-    next-within (start .args .b .now) (good start) (start .args .g .counted) _ _ (at-cycle start) (at-position start) _ (omega arith) (start .pre .2) (c .next-phase .ensures)
+    next-within (start .args .b .now) (good start) (start .args .g .counted) _ _ (at-cycle start) (at-position start) _ (omega arith) (start .pre .room) (c .next-phase .ensures)
 
 add-cycle : tie.Need-add-cycle
 add-cycle c = omega (arith, small-cycle (c .before .before .before .before))

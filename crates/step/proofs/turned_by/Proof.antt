@@ -4,7 +4,6 @@ use mathlib.Core.Path.{ap}
 use Prim.Native.Nat.{_+_, _<_}
 use native.Mathlib.Nat.{mod-lt}
 use native.Mathlib.Omega.{arith}
-use borrow.Author.Needs.{needs}
 use Rattle.rules.specs.Cycle.{phases, positions}
 use Rattle.rules.specs.Run.{positionOf}
 use Rattle.rules.proofs.Sound.{Sound, sound, real, phase-exists}
@@ -14,7 +13,7 @@ use Rattle.step.proofs.turned_by.Statement.{statement}
 use Rattle.step.proofs.turned_by.Tie as tie
 
 good : (c : tie.Start) → Sound (c .args .b .now)
-good c = sound _ (c .pre .0)
+good c = sound _ (c .pre .sound)
 
 -- the next sample stands in the cycle, in one of its phases
 module _ (c : tie.After-next-place) where
@@ -34,20 +33,20 @@ module _ (c : tie.After-next-place) where
       omega (arith, e, phase-exists b (positionOf b n) (good start) (mod-lt n (real (good start))))
 
 next-place-requires : tie.Need-next-place-requires
-next-place-requires c κs = search needs
+next-place-requires c κs = c .before .pre
 
 window-at-requires : tie.Need-window-at-requires
 window-at-requires c κs =
     let start = c .before .before in
-    (start .pre .0, start .pre .1, next-small c)
+    (start .pre .sound, start .pre .time, next-small c)
 
 add-t7 : tie.Need-add-t7
-add-t7 c = search needs
+add-t7 c = omega (arith, c .before .before .before .before .pre .few)
 
 add-t8 : tie.Need-add-t8
 add-t8 c =
     let start = c .before .before .before .before .before in
-    omega (arith, start .pre .4, good start .short)
+    omega (arith, start .pre .room, good start .short)
 
 until-in-requires : tie.Need-until-in-requires
 until-in-requires c κs =
