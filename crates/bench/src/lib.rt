@@ -3,6 +3,9 @@ use rules::Tolerances;
 ghost use mathlib.Core.Path.{_≡_};
 ghost use Rattle.bench.specs.Question.{question};
 
+// The greatest speed, as wide as the controller's numbers are.
+const MOST_SPEED: u32 = rules::limits::MOST_SPEED as u32;
+
 // The verdict, 0 inside, 1 below, 2 above, or minus a refusal.
 #[no_mangle]
 pub extern "C" fn paperwhelk_verdict(
@@ -29,7 +32,7 @@ pub extern "C" fn paperwhelk_verdict(
     if 20 * cycle::seconds_of(cycle) <= position {
         return -6;
     }
-    if 1500 < speed {
+    if MOST_SPEED < speed {
         return -5;
     }
     window::verdict_at(cycle, t, position, speed) as i32

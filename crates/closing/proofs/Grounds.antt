@@ -19,7 +19,7 @@ use Rattle.numbers.proofs.Whole.{abs-is, sized-add, sized-between, weaken}
 use Rattle.numbers.proofs.Signed.{sum-fits, sum-read}
 use Rattle.rules.specs.declared.Charge.the-variants.{Wh as wh}
 use Rattle.rules.specs.declared.Amounts.{Amounts}
-use Rattle.rules.specs.Closing.{mostRate, isCharge, areAmounts, weightedFigure, rangeFigure, closingRefusal, rechargeFigure, rechargeRefusal}
+use Rattle.rules.specs.Closing.{mostRate, isCharge, areAmounts, weightedFigure, rangeFigure, closingRefusal, rechargeFigure, rechargeRefusal, mostTransfer, mostWhole, mostCharge}
 use Rattle.rules.proofs.Closes.{closes, some-energy}
 use Rattle.rules.specs.Run.{finishedCycles}
 use Rattle.ledger.specs.Row.{energyIn, distanceIn, energyAll}
@@ -52,10 +52,10 @@ settled-again n x = go (eqb n 0)
 -- the amounts are within their limits, the ground is not refused; n and E, as the machine forms them
 pub record Standing (r : Run) (a : Amounts) (b : List ℕ) (l : List ℤ) (m : List ℕ) : Type 0 where
   pub ground : Ground r b l m
-  pub before : Sized 10_000_000_000_000 (a .before)
-  pub after : Sized 10_000_000_000_000 (a .after)
+  pub before : Sized mostTransfer (a .before)
+  pub after : Sized mostTransfer (a .after)
   pub charge : isCharge (a .charge) ≡ true
-  pub whole-sized : Sized 2_000_000_000_000_000 (a .before +ℤ energyAll l)
+  pub whole-sized : Sized mostWhole (a .before +ℤ energyAll l)
   pub cycles : r .counted / (20 * r .seconds) ≡ finishedCycles b (r .counted)
   pub most : r .counted / (20 * r .seconds) ≤ 64
 
@@ -67,11 +67,11 @@ module _ (r : Run) (a : Amounts) (b : List ℕ) (l : List ℤ) (m : List ℕ) wh
       let x₂ = both _ _ x in
       let x₁ = both _ _ (x₂ .0) in
       let g = ground-passed e′ in
-      let before = sized-between 10_000_000_000_000 (a .before) (x₁ .0) in
+      let before = sized-between mostTransfer (a .before) (x₁ .0) in
       record {
         ground = g;
         before = before;
-        after = sized-between 10_000_000_000_000 (a .after) (x₁ .1);
+        after = sized-between mostTransfer (a .after) (x₁ .1);
         charge = x₂ .1;
         whole-sized = weaken (omega arith) (sized-add before (energy-all-sized l (g .bounded)));
         cycles = ap (λ (t : ℕ). r .counted / (20 * t)) (sym (g .same-seconds));
@@ -131,7 +131,7 @@ module _ {r : Run} {a : Amounts} {b : List ℕ} {l : List ℤ} {m : List ℕ} (s
 -- ---- a closing that refuses nothing
 
 -- a range of at most 2 × 10^15 of energy
-short : (E W : ℕ) → E ≤ 2_000_000_000_000_000 → 5 * E / (36 * W) < 2 ^ 51
+short : (E W : ℕ) → E ≤ mostWhole → 5 * E / (36 * W) < 2 ^ 51
 short E W h =
     omega (arith, div-div-eq-div-mul (5 * E) 36 W, div-le-self (5 * E / 36) W, div-mul-le-self (5 * E) 36)
 
@@ -145,7 +145,7 @@ one-up (pos m) h = le-leb 1 m h
 one-up (negsuc m) h = absurd (omega arith)
 
 module _ (E : ℤ) (n : ℕ) (e d : ℕ → ℤ) where
-  charged : Sized 2_000_000_000_000_000 E → closingRefusal E n e d ≡ 0 → Charged E (rangeFigure E n e d)
+  charged : Sized mostWhole E → closingRefusal E n e d ≡ 0 → Charged E (rangeFigure E n e d)
   charged s z =
       let k = closes E n e d z in
       record {
@@ -165,8 +165,8 @@ module _ (r : Run) (a : Amounts) (b : List ℕ) (l : List ℤ) (m : List ℕ) (z
       let (s, none) = nothing-refused r a b l m z in
       subst (λ (n : ℕ). Charged (whole r a b l m) n) (sym range-is) (charged _ _ _ _ (s .whole-sized) none)
 
-pub charge-most : (A : ℕ) → isCharge (wh A) ≡ true → A ≤ 2_000_000
-charge-most A e = leb-true A 2_000_000 (both (leb 1 A) (leb A 2_000_000) e .1)
+pub charge-most : (A : ℕ) → isCharge (wh A) ≡ true → A ≤ mostCharge
+charge-most A e = leb-true A mostCharge (both (leb 1 A) (leb A mostCharge) e .1)
 
 -- 14 and 12 as answers, or as numbers
 pub recharged-is : (E : ℤ) (n : ℕ) (e d : ℕ → ℤ) (F : ℤ) (A : ℕ) → rechargedBy (rangeFigure E n e d) E F A ≡ chargedBy E n e d F (wh A)

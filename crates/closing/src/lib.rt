@@ -9,10 +9,10 @@ ghost use Rattle.closing.specs.Answers.{refusalOf, weightedAnswer, range
 pub mod checks;
 
 // Weighted consumption, in mWh/km.
-pub fn weighted(run: Run, amounts: Amounts, b: &[u8], ledger: &[i64], map: &[u64]) -> Figure
-    ensures { λ r. ⌜ r ≡ weightedAnswer run amounts (now (b .entry)) (now (ledger .entry)) (now (map .entry)) ⌝ }
+pub fn weighted(run: Run, amounts: Amounts, cycle: &[u8], ledger: &[i64], map: &[u64]) -> Figure
+    ensures { λ r. ⌜ r ≡ weightedAnswer run amounts (now (cycle .entry)) (now (ledger .entry)) (now (map .entry)) ⌝ }
 {
-    let c = checks::closing_of(run, amounts, b, ledger, map);
+    let c = checks::closing_of(run, amounts, cycle, ledger, map);
     if c.refusal != 0 {
         return Figure::Refused(c.refusal);
     }
@@ -20,10 +20,10 @@ pub fn weighted(run: Run, amounts: Amounts, b: &[u8], ledger: &[i64], map: &[u64
 }
 
 // Range, in metres.
-pub fn range(run: Run, amounts: Amounts, b: &[u8], ledger: &[i64], map: &[u64]) -> Figure
-    ensures { λ r. ⌜ r ≡ rangeAnswer run amounts (now (b .entry)) (now (ledger .entry)) (now (map .entry)) ⌝ }
+pub fn range(run: Run, amounts: Amounts, cycle: &[u8], ledger: &[i64], map: &[u64]) -> Figure
+    ensures { λ r. ⌜ r ≡ rangeAnswer run amounts (now (cycle .entry)) (now (ledger .entry)) (now (map .entry)) ⌝ }
 {
-    let c = checks::closing_of(run, amounts, b, ledger, map);
+    let c = checks::closing_of(run, amounts, cycle, ledger, map);
     if c.refusal != 0 {
         return Figure::Refused(c.refusal);
     }
@@ -31,10 +31,10 @@ pub fn range(run: Run, amounts: Amounts, b: &[u8], ledger: &[i64], map: &[u64]) 
 }
 
 // Recharge figure, in mWh/km.
-pub fn recharge(run: Run, amounts: Amounts, b: &[u8], ledger: &[i64], map: &[u64]) -> Figure
-    ensures { λ r. ⌜ r ≡ rechargeAnswer run amounts (now (b .entry)) (now (ledger .entry)) (now (map .entry)) ⌝ }
+pub fn recharge(run: Run, amounts: Amounts, cycle: &[u8], ledger: &[i64], map: &[u64]) -> Figure
+    ensures { λ r. ⌜ r ≡ rechargeAnswer run amounts (now (cycle .entry)) (now (ledger .entry)) (now (map .entry)) ⌝ }
 {
-    let closing = checks::closing_of(run, amounts, b, ledger, map);
+    let closing = checks::closing_of(run, amounts, cycle, ledger, map);
     if closing.refusal != 0 {
         return Figure::Refused(closing.refusal);
     }

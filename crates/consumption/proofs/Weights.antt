@@ -19,6 +19,8 @@ use Rattle.numbers.proofs.Tests.{both, all-more, all-fails, all-at, refuted, pa
 use Rattle.numbers.proofs.Whole.{sum-is, le-up, up-le, le-not, sized-upto}
 use Rattle.rules.specs.Closing.{mostRate, isRate, rateOf, weighing, weight, weightedFigure, rangeFigure, closingRefusal}
 use Rattle.rules.proofs.Weighing.{greatest-rate, weight-pos, weighted-at-least-one}
+use Rattle.rules.specs.Bench.{mostPhases}
+use Rattle.rules.specs.Shown.{mostEnergy, mostDistance}
 use Rattle.wide.specs.declared.Ratio.the-variants.{Over}
 use Rattle.wide.specs.Ratio.{ratio}
 use Rattle.wide.proofs.Answers.{over-quotient}
@@ -89,10 +91,10 @@ positive-one (negsuc m) e = e
 -- ---- one cycle
 
 abbrev pub mostDrawn : ℕ
-mostDrawn = 28_800_000_000_000
+mostDrawn = mostPhases * mostEnergy
 
 abbrev pub mostMoved : ℕ
-mostMoved = 288_000_000
+mostMoved = mostPhases * mostDistance
 
 module _ (l : List ℤ) (b : bounded l ≡ true) (c : ℕ) (h : c < 64) where
   pub energy-positive : leZ (pos 1) (energyIn l c) ≡ true → Positive mostDrawn (energyIn l c)

@@ -1,6 +1,7 @@
 // The figures of n finished cycles, exact.
 use ledger::totals::distance_in;
 use ledger::totals::energy_in;
+use rules::limits::MOST_RATE;
 use wide::Ratio;
 ghost use mathlib.Core.Path.{_≡_};
 ghost use mathlib.Core.Bool.{true, _&&_};
@@ -10,7 +11,8 @@ ghost use lib.Signed.{leZ, ltZ};
 ghost use Rattle.numbers.specs.Range.{sum};
 ghost use Rattle.numbers.specs.Tests.{allBelow};
 ghost use Rattle.numbers.specs.Whole.{up, Sized};
-ghost use Rattle.rules.specs.Closing.{isRate, rateOf, weightedFigure, recharge};
+ghost use Rattle.rules.specs.Closing.{isRate, rateOf, weightedFigure, recharge, mostRate, mostWhole, mostCharge, mostTransfer};
+ghost use Rattle.rules.specs.Bench.{mostCycles};
 ghost use Rattle.ledger.specs.Row.{bounded, energyIn, distanceIn};
 ghost use Rattle.wide.specs.Ratio.{ratio};
 ghost use Rattle.consumption.specs.Figures.{closedOf, Closable, rechargedBy};
@@ -68,7 +70,7 @@ fn all_rated(ledger: &[i64], n: usize) -> bool
         if q < 1 {
             return false;
         }
-        if 10_000_000 < q {
+        if MOST_RATE < q {
             return false;
         }
         c += 1;
@@ -79,7 +81,7 @@ fn all_rated(ledger: &[i64], n: usize) -> bool
 // q_3 + .. + q_n.
 fn sum_from_third(ledger: &[i64], n: usize) -> u64
     requires { ⌜ Closable (now ledger) n ⌝ }
-    ensures { λ r. ⌜ (r ≡ sum (λ c. rateOf (energyIn (now (ledger .entry))) (distanceIn (now (ledger .entry))) (2 + c)) (n - 2)) × (r ≤ 640_000_000) ⌝ }
+    ensures { λ r. ⌜ (r ≡ sum (λ c. rateOf (energyIn (now (ledger .entry))) (distanceIn (now (ledger .entry))) (2 + c)) (n - 2)) × (r ≤ mostCycles * mostRate) ⌝ }
 {
     let mut s: u64 = 0;
     let mut c = 2;
@@ -92,7 +94,7 @@ fn sum_from_third(ledger: &[i64], n: usize) -> u64
 
 // The three products over one divisor, k the number of cycles after the second.
 fn weigh(k: u64, total: u64, e1: u64, e2: u64, q1: u64, q2: u64, s: u64) -> Ratio
-    requires { ⌜ (k ≤ 62) × (total < 2 ^ 51) × (e1 + e2 ≤ total) × (q1 ≤ 10_000_000) × (q2 ≤ 10_000_000) ⌝ }
+    requires { ⌜ (k ≤ 62) × (total < 2 ^ 51) × (e1 + e2 ≤ total) × (q1 ≤ mostRate) × (q2 ≤ mostRate) ⌝ }
     ensures { λ r. ⌜ r ≡ ratio (k * (q1 * e1 + q2 * e2) + (total - e1 - e2) * s) (total * k) ⌝ }
 {
     let m = total * k;
@@ -154,7 +156,7 @@ fn finish(ledger: &[i64], n: usize, total: u64) -> Closed
 
 // The closing of n finished cycles with the whole energy total.
 pub fn close(ledger: &[i64], n: usize, total: i64) -> Closed
-    requires { ⌜ (bounded (now ledger) ≡ true) × (n ≤ 64) × Sized 2_000_000_000_000_000 total ⌝ }
+    requires { ⌜ (bounded (now ledger) ≡ true) × (n ≤ 64) × Sized mostWhole total ⌝ }
     ensures { λ r. ⌜ r ≡ closedOf (now (ledger .entry)) n total ⌝ }
 {
     if n < 3 {
@@ -174,7 +176,7 @@ pub fn close(ledger: &[i64], n: usize, total: i64) -> Closed
 
 // E × A × 1,000,000 by the range, then by `both`, which is E + F: of total = a × range + b, b's part first.
 fn divided(total: u64, both: u64, wh: u64, range: u64) -> Ratio
-    requires { ⌜ (wh ≤ 2_000_000) × (1 ≤ range) × (range < 2 ^ 51) ⌝ }
+    requires { ⌜ (wh ≤ mostCharge) × (1 ≤ range) × (range < 2 ^ 51) ⌝ }
     ensures { λ s. ⌜ s ≡ ratio (total * wh * 1000000 / range) both ⌝ }
 {
     let y = wh * 1_000_000;
@@ -186,8 +188,8 @@ fn divided(total: u64, both: u64, wh: u64, range: u64) -> Ratio
 
 // The recharge figure, of the whole energy total and the transfer energy after the test: 14, 12, or the figure.
 pub fn recharged(range: u64, total: i64, after: i64, wh: u32) -> Figure
-    requires { ⌜ (1 ≤ range) × (range < 2 ^ 51) × (leZ (pos 1) total ≡ true) × Sized 2_000_000_000_000_000 total ⌝ }
-    requires { ⌜ Sized 10_000_000_000_000 after × (wh ≤ 2_000_000) ⌝ }
+    requires { ⌜ (1 ≤ range) × (range < 2 ^ 51) × (leZ (pos 1) total ≡ true) × Sized mostWhole total ⌝ }
+    requires { ⌜ Sized mostTransfer after × (wh ≤ mostCharge) ⌝ }
     ensures { λ r. ⌜ r ≡ rechargedBy range total after wh ⌝ }
 {
     let both = total + after;
@@ -196,7 +198,7 @@ pub fn recharged(range: u64, total: i64, after: i64, wh: u32) -> Figure
     }
     match divided(total as u64, both as u64, wh as u64, range) {
         Ratio::Is(r, _) => {
-            if 10_000_000 < r {
+            if MOST_RATE < r {
                 return Figure::Refused(12);
             }
             Figure::Is(r)

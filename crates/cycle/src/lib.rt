@@ -1,6 +1,11 @@
 // The cycle's bytes, as field 3's value has them: the test of its rules, and its parts.
 use numbers::read16;
 use numbers::wide;
+use rules::limits::LEAST_BYTES;
+use rules::limits::LEAST_SECONDS;
+use rules::limits::MOST_PHASES;
+use rules::limits::MOST_SECONDS;
+use rules::limits::MOST_SPEED;
 ghost use mathlib.Core.Path.{_≡_};
 ghost use mathlib.Core.Bool.{true};
 ghost use Prim.Native.Nat.{_+_, _-_, _*_, _≤_, _<_};
@@ -8,38 +13,43 @@ ghost use lib.ListN.{length};
 ghost use Rattle.numbers.specs.Tests.{allBelow};
 ghost use Rattle.rules.specs.Cycle.{phases, phaseEnd, seconds, point, rises, isSpeed, valid, positions, phaseAt};
 
+// The limits of seconds, as wide as lengths are.
+const SHORTEST: usize = LEAST_SECONDS as usize;
+
+const LONGEST: usize = MOST_SECONDS as usize;
+
 // The second at which phase k ends.
-pub fn end_of(b: &[u8], k: usize) -> u16
-    requires { ⌜ 2 + 2 * k < length (now b) ⌝ }
-    ensures { λ r. ⌜ r ≡ phaseEnd (now (b .entry)) k ⌝ }
+pub fn end_of(cycle: &[u8], k: usize) -> u16
+    requires { ⌜ 2 + 2 * k < length (now cycle) ⌝ }
+    ensures { λ r. ⌜ r ≡ phaseEnd (now (cycle .entry)) k ⌝ }
 {
-    read16(b, 1 + 2 * k)
+    read16(cycle, 1 + 2 * k)
 }
 
 // The speed at second k.
-pub fn point_of(b: &[u8], k: usize) -> u16
-    requires { ⌜ 2 + 2 * phases (now b) + 2 * k < length (now b) ⌝ }
-    ensures { λ r. ⌜ r ≡ point (now (b .entry)) k ⌝ }
+pub fn point_of(cycle: &[u8], k: usize) -> u16
+    requires { ⌜ 2 + 2 * phases (now cycle) + 2 * k < length (now cycle) ⌝ }
+    ensures { λ r. ⌜ r ≡ point (now (cycle .entry)) k ⌝ }
 {
-    read16(b, 1 + 2 * wide(b[0]) + 2 * k)
+    read16(cycle, 1 + 2 * wide(cycle[0]) + 2 * k)
 }
 
 // T.
-pub fn seconds_of(b: &[u8]) -> u32
-    requires { ⌜ (1 ≤ phases (now b)) × (2 * phases (now b) < length (now b)) ⌝ }
-    ensures { λ r. ⌜ r ≡ seconds (now (b .entry)) ⌝ }
+pub fn seconds_of(cycle: &[u8]) -> u32
+    requires { ⌜ (1 ≤ phases (now cycle)) × (2 * phases (now cycle) < length (now cycle)) ⌝ }
+    ensures { λ r. ⌜ r ≡ seconds (now (cycle .entry)) ⌝ }
 {
-    end_of(b, wide(b[0]) - 1) as u32
+    end_of(cycle, wide(cycle[0]) - 1) as u32
 }
 
-fn ends_rise(b: &[u8], p: usize) -> bool
-    requires { ⌜ 2 * p < length (now b) ⌝ }
-    ensures { λ r. ⌜ r ≡ allBelow p (rises (now (b .entry))) ⌝ }
+fn ends_rise(cycle: &[u8], p: usize) -> bool
+    requires { ⌜ 2 * p < length (now cycle) ⌝ }
+    ensures { λ r. ⌜ r ≡ allBelow p (rises (now (cycle .entry))) ⌝ }
 {
     let mut start = 0;
     let mut k = 0;
     while k < p {
-        let end = end_of(b, k);
+        let end = end_of(cycle, k);
         if end <= start {
             return false;
         }
@@ -49,13 +59,13 @@ fn ends_rise(b: &[u8], p: usize) -> bool
     true
 }
 
-fn points_are_speeds(b: &[u8], n: usize) -> bool
-    requires { ⌜ 1 + 2 * phases (now b) + 2 * n ≤ length (now b) ⌝ }
-    ensures { λ r. ⌜ r ≡ allBelow n (isSpeed (now (b .entry))) ⌝ }
+fn points_are_speeds(cycle: &[u8], n: usize) -> bool
+    requires { ⌜ 1 + 2 * phases (now cycle) + 2 * n ≤ length (now cycle) ⌝ }
+    ensures { λ r. ⌜ r ≡ allBelow n (isSpeed (now (cycle .entry))) ⌝ }
 {
     let mut k = 0;
     while k < n {
-        if 1500 < point_of(b, k) {
+        if MOST_SPEED < point_of(cycle, k) {
             return false;
         }
         k += 1;
@@ -64,44 +74,44 @@ fn points_are_speeds(b: &[u8], n: usize) -> bool
 }
 
 // Whether the bytes are a cycle that breaks no rule.
-pub fn is_cycle(b: &[u8]) -> bool
-    ensures { λ r. ⌜ r ≡ valid (now (b .entry)) ⌝ }
+pub fn is_cycle(cycle: &[u8]) -> bool
+    ensures { λ r. ⌜ r ≡ valid (now (cycle .entry)) ⌝ }
 {
-    if b.len() < 9 {
+    if cycle.len() < LEAST_BYTES {
         return false;
     }
-    let p = wide(b[0]);
+    let p = wide(cycle[0]);
     if p < 1 {
         return false;
     }
-    if 4 < p {
+    if MOST_PHASES < p {
         return false;
     }
-    let t = seconds_of(b) as usize;
-    if t < 2 {
+    let t = seconds_of(cycle) as usize;
+    if t < SHORTEST {
         return false;
     }
-    if 2400 < t {
+    if LONGEST < t {
         return false;
     }
-    if b.len() != 1 + 2 * p + 2 * (t + 1) {
+    if cycle.len() != 1 + 2 * p + 2 * (t + 1) {
         return false;
     }
-    if ends_rise(b, p) {
-        points_are_speeds(b, t + 1)
+    if ends_rise(cycle, p) {
+        points_are_speeds(cycle, t + 1)
     } else {
         false
     }
 }
 
 // The phase in which position p lies.
-pub fn phase_of(b: &[u8], p: u32) -> usize
-    requires { ⌜ (valid (now b) ≡ true) × (p < positions (now b)) ⌝ }
-    ensures { λ r. ⌜ r ≡ phaseAt (now (b .entry)) p ⌝ }
+pub fn phase_of(cycle: &[u8], p: u32) -> usize
+    requires { ⌜ (valid (now cycle) ≡ true) × (p < positions (now cycle)) ⌝ }
+    ensures { λ r. ⌜ r ≡ phaseAt (now (cycle .entry)) p ⌝ }
 {
     let mut k = 0;
-    while k < wide(b[0]) {
-        if p < 20 * (end_of(b, k) as u32) {
+    while k < wide(cycle[0]) {
+        if p < 20 * (end_of(cycle, k) as u32) {
             return k;
         }
         k += 1;

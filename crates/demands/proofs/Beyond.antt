@@ -21,6 +21,7 @@ use Rattle.rules.specs.Bench.{isOpen, isSample, drawn, distance}
 use Rattle.rules.specs.Cycle.{phaseAt}
 use Rattle.rules.specs.Run.{cycleOf, positionOf}
 use Rattle.rules.proofs.Sound.{sound, real, four}
+use Rattle.rules.specs.Shown.{ledgerNumbers, mapWords}
 use Rattle.ledger.specs.Row.{outsideAdded, isOver, sampleAdded}
 use Rattle.map.specs.Map.{opened}
 use Rattle.map.proofs.Marks.{drop-markedIf, drop-opened}
@@ -37,8 +38,8 @@ use Rattle.demands.proofs.Driven.{StartCall, SampleCall, BlockCall, sta
 
 -- ledger and map are beyond their 576 numbers and 750 words as they were
 pub record Beyond (l : List ℤ) (m : List ℕ) (l′ : List ℤ) (m′ : List ℕ) : Type 0 where
-  pub in-ledger : drop 576 l′ ≡ drop 576 l
-  pub in-map : drop 750 m′ ≡ drop 750 m
+  pub in-ledger : drop ledgerNumbers l′ ≡ drop ledgerNumbers l
+  pub in-map : drop mapWords m′ ≡ drop mapWords m
 
 pub untouched : {l : List ℤ} {m : List ℕ} → Beyond l m l m
 untouched = record { in-ledger = refl; in-map = refl }
@@ -48,23 +49,23 @@ beyond-then g h = record { in-ledger = h .in-ledger ∙ g .in-ledger; in-map = h
 
 -- ---- one sample, and several
 
-plus-beyond : (l : List ℤ) (i : ℕ) (z : ℤ) → i < 576 → drop 576 (plus l i z) ≡ drop 576 l
-plus-beyond l i z h = drop-set-lt 576 l i _ h
+plus-beyond : (l : List ℤ) (i : ℕ) (z : ℤ) → i < ledgerNumbers → drop ledgerNumbers (plus l i z) ≡ drop ledgerNumbers l
+plus-beyond l i z h = drop-set-lt ledgerNumbers l i _ h
 
 -- three additions in the nine numbers of a cycle
 module _ (c : ℕ) (l : List ℤ) (h : c < 64) where
-  marked-beyond : (out : Bool) → drop 576 (outsideAdded (9 * c) l out) ≡ drop 576 l
+  marked-beyond : (out : Bool) → drop ledgerNumbers (outsideAdded (9 * c) l out) ≡ drop ledgerNumbers l
   marked-beyond true = plus-beyond l (9 * c + 8) (pos 1) (omega arith)
   marked-beyond false = refl
 
-  added-beyond : (k : ℕ) (e d : ℤ) (out : Bool) (allowance : ℕ) → k < 4 → drop 576 (sampleAdded (9 * c) l k e d out allowance) ≡ drop 576 l
+  added-beyond : (k : ℕ) (e d : ℤ) (out : Bool) (allowance : ℕ) → k < 4 → drop ledgerNumbers (sampleAdded (9 * c) l k e d out allowance) ≡ drop ledgerNumbers l
   unfolding sampleAdded
   added-beyond k e d out allowance g = go (isOver (9 * c) l out allowance)
     where
       l₁ : List ℤ
       l₁ = outsideAdded (9 * c) l out
 
-      go : (o : Bool) → drop 576 (cond o l₁ (plus (plus l₁ (9 * c + k) e) (9 * c + (4 + k)) d)) ≡ drop 576 l
+      go : (o : Bool) → drop ledgerNumbers (cond o l₁ (plus (plus l₁ (9 * c + k) e) (9 * c + (4 + k)) d)) ≡ drop ledgerNumbers l
       go true = marked-beyond out
       go false =
           plus-beyond (plus l₁ (9 * c + k) e) (9 * c + (4 + k)) d (omega arith) ∙ plus-beyond l₁ (9 * c + k) e (omega arith) ∙ marked-beyond out
@@ -101,13 +102,13 @@ promised-beyond : {n : ℕ} {r : Run} {a l u : List ℤ} {z m v : List ℕ} {x :
 promised-beyond {n} {a = a} {l} {u} {z} {m} {v} p h = go (eqb n 0) refl (p .in-ledger) (p .in-map)
   where
     go : (t : Bool) → eqb n 0 ≡ t → u ≡ cond t a l → v ≡ cond t z m → Beyond l m u v
-    go true e f g = let w = h (eqb-true n 0 e) in record { in-ledger = ap (drop 576) f ∙ w .in-ledger; in-map = ap (drop 750) g ∙ w .in-map }
-    go false e f g = record { in-ledger = ap (drop 576) f; in-map = ap (drop 750) g }
+    go true e f g = let w = h (eqb-true n 0 e) in record { in-ledger = ap (drop ledgerNumbers) f ∙ w .in-ledger; in-map = ap (drop mapWords) g ∙ w .in-map }
+    go false e f g = record { in-ledger = ap (drop ledgerNumbers) f; in-map = ap (drop mapWords) g }
 
 pub start-beyond : (c : StartCall) → Beyond (now (c .args .1 .1 .0)) (now (c .args .1 .1 .1 .0)) (c .lasts .1 .1 .0) (c .lasts .1 .1 .1 .0)
 start-beyond c =
     promised-beyond (start-kept c (record { cycle = refl; tolerances = refl; ledger = refl; map = refl }))
-    (λ _. record { in-ledger = drop-cleared (pos 0) 576 (now (c .args .1 .1 .0)); in-map = drop-cleared 0 750 (now (c .args .1 .1 .1 .0)) })
+    (λ _. record { in-ledger = drop-cleared (pos 0) ledgerNumbers (now (c .args .1 .1 .0)); in-map = drop-cleared 0 mapWords (now (c .args .1 .1 .1 .0)) })
 
 pub sample-beyond : (c : SampleCall) → Beyond (now (c .args .1 .1 .0)) (now (c .args .1 .1 .1 .0)) (c .lasts .1 .1 .0) (c .lasts .1 .1 .1 .0)
 sample-beyond c =

@@ -12,6 +12,7 @@ use denote.Ref.{now}
 use Rattle.numbers.proofs.Lists.{drop-cleared}
 use Rattle.numbers.proofs.Tests.{not-refused}
 use Rattle.rules.specs.declared.Tolerances.{Tolerances}
+use Rattle.rules.specs.Shown.{ledgerNumbers, mapWords}
 use Rattle.state.proofs.Checked.{ground-passed}
 use Rattle.step.specs.Step.{State, Kept, goingOf, startOf}
 use Rattle.step.proofs.Keeping.{kept-steps}
@@ -37,14 +38,14 @@ use Rattle.demands.proofs.Beyond.{Beyond, untouched, beyond-then, steps
 use Rattle.demands.proofs.LaterCalls.{ReadCall, AllCall}
 
 pub same-beyond : {l l′ u : List ℤ} {m m′ v : List ℕ} → u ≡ l′ → v ≡ m′ → Beyond l m l′ m′ → Beyond l m u v
-same-beyond p q h = record { in-ledger = ap (drop 576) p ∙ h .in-ledger; in-map = ap (drop 750) q ∙ h .in-map }
+same-beyond p q h = record { in-ledger = ap (drop ledgerNumbers) p ∙ h .in-ledger; in-map = ap (drop mapWords) q ∙ h .in-map }
 
 -- ---- until the start
 
 -- the memory is set to zero at the start, and left by all other answers
 pub memory-beyond : (l : List ℤ) (m : List ℕ) (s : OpenStep) → Beyond l m (memoryAfter s (startOf l m .ledger) l) (memoryAfter s (startOf l m .map) m)
 memory-beyond l m (opening.Taken n) = untouched
-memory-beyond l m (opening.Started n r) = record { in-ledger = drop-cleared (pos 0) 576 l; in-map = drop-cleared 0 750 m }
+memory-beyond l m (opening.Started n r) = record { in-ledger = drop-cleared (pos 0) ledgerNumbers l; in-map = drop-cleared 0 mapWords m }
 memory-beyond l m opening.Incomplete = untouched
 memory-beyond l m (opening.Refused n) = untouched
 

@@ -17,7 +17,7 @@ use Rattle.rules.specs.declared.Tolerances.{Tolerances}
 use Rattle.rules.specs.Closing.{weight, weighing, rateOf, wholeEnergy, areAmounts, weightedFigure, closingRefusal, Unrounded}
 use Rattle.rules.specs.Cycle.{phases}
 use Rattle.rules.specs.Run.{sampleOf, phaseEnergy, phaseDistance, finishedCycles, energy, outside, counted, judged, ending, cycles}
-use Rattle.rules.specs.Shown.{figure, lastJudged, marked}
+use Rattle.rules.specs.Shown.{figure, lastJudged, marked, ledgerNumbers, mapWords}
 use Rattle.rules.proofs.Sound.{sound}
 use Rattle.rules.proofs.Figures.{energy-none, distance-none}
 use Rattle.rules.proofs.Closes.{Closes, closes}
@@ -40,6 +40,7 @@ use Rattle.figures.proofs.OfRun as figures
 use Rattle.demands.proofs.Driven.{Driven, driven-reached}
 use Rattle.demands.proofs.LaterCalls.{ShownCall, TotalsCall, WeightedCall, RangeCall, RechargeCall, FiguresCall, ShownOn, TotalsOn, WeightedOn, RangeOn, RechargeOn, FiguresOn, weightedAmounts, rangeAmounts, rechargeAmounts, figuresReading, shown-kept, totals-kept, weighted-kept, range-kept, recharge-kept, figures-kept}
 use Rattle.rules.proofs.NineNumbers.{energy-figure, distance-figure}
+use Rattle.rules.specs.Bench.{mostPositions}
 use Rattle.demands.proofs.LastJudged.{last-cycle-is, last-cycle-most, outsides-are}
 
 -- a figure is given where nothing is refused
@@ -76,7 +77,7 @@ module _ {b : List ℕ} {t : Tolerances} {l₀ : List ℤ} {m₀ : List ℕ} {xs
   state-shows = (shows .offered, shows .counted-is, shows .end-is)
 
   -- "Cycle c owns the nine numbers that start at 9 × c (c from 0): four phase energies, four phase distances, the outside count."
-  pub ledger-shows : (i : ℕ) → i < 576 → at l i ≡ figure b t s n i
+  pub ledger-shows : (i : ℕ) → i < ledgerNumbers → at l i ≡ figure b t s n i
   ledger-shows = shows .ledger-shows
 
   pub phase-energies : (c k : ℕ) → c < 64 → k < 4 → at l (9 * c + k) ≡ phaseEnergy b s c k (counted b t s n)
@@ -95,7 +96,7 @@ module _ {b : List ℕ} {t : Tolerances} {l₀ : List ℤ} {m₀ : List ℕ} {xs
       (phase-energies c k g f ∙ energy-none b s o c k _ none, phase-distances c k g f ∙ ap pos (distance-none b s o c k _ none))
 
   -- "The map shows the cycle last judged: position p is bit p mod 64 of word p div 64, set when outside."
-  pub map-shows : (p : ℕ) → p < 48_000 → isSet m p ≡ marked b t s (judged b t s n) p
+  pub map-shows : (p : ℕ) → p < mostPositions → isSet m p ≡ marked b t s (judged b t s n) p
   map-shows = shows .map-shows
 
   -- "The count of ones in the map equals the outside count of that cycle."
@@ -107,7 +108,7 @@ module _ {b : List ℕ} {t : Tolerances} {l₀ : List ℤ} {m₀ : List ℕ} {xs
   energies-add-up = shows .energies-add-up
 
   -- "what lies beyond is never touched"
-  pub beyond-untouched : (drop 576 l ≡ drop 576 l₀) × (drop 750 m ≡ drop 750 m₀)
+  pub beyond-untouched : (drop ledgerNumbers l ≡ drop ledgerNumbers l₀) × (drop mapWords m ≡ drop mapWords m₀)
   beyond-untouched = (shows .ledger-beyond, shows .map-beyond)
 
   -- ---- the calls that look at it

@@ -18,12 +18,12 @@ use Rattle.numbers.proofs.Tests.{pass, settled-taken}
 use Rattle.rules.specs.declared.End.the-variants.{None as none, Stop as stop}
 use Rattle.rules.specs.declared.Sample.{Sample}
 use Rattle.rules.specs.declared.Tolerances.{Tolerances}
-use Rattle.rules.specs.Bench.{isSample, tolerable}
+use Rattle.rules.specs.Bench.{isSample, tolerable, mostOffered, mostSpeed}
 use Rattle.rules.specs.Cycle.{valid, positions}
 use Rattle.rules.specs.Band.{grid20, inside, side, verdict}
 use Rattle.rules.specs.Tally as tally
 use Rattle.rules.specs.Run.{sampleOf, outside, over, most, stopped, judged}
-use Rattle.rules.specs.Shown.{figure, lastJudged, marked}
+use Rattle.rules.specs.Shown.{figure, lastJudged, marked, ledgerNumbers, mapWords}
 use Rattle.rules.proofs.Tally.{stopped-ending, ending-stopped}
 use Rattle.ledger.specs.Row.{at, outsideIn}
 use Rattle.map.specs.Map.{isSet, onesOf}
@@ -58,31 +58,31 @@ not-refused {n} {r} p z k e =
     false≢true cc
 
 -- a start on memory that is long enough, with a cycle and tolerances that break no rule
-pub start-not-refused : {b : List ℕ} {t : Tolerances} {l : List ℤ} {m : List ℕ} (c : StartCall) → StartOn b t l m c → 576 ≤ length l → 750 ≤ length m
+pub start-not-refused : {b : List ℕ} {t : Tolerances} {l : List ℤ} {m : List ℕ} (c : StartCall) → StartOn b t l m c → ledgerNumbers ≤ length l → mapWords ≤ length m
     → valid b ≡ true → tolerable t ≡ true → (k : ℕ) → c .answer ≡ Refused k → ⊥
 unfolding startRefusal
 start-not-refused {b} {t} {l} {m} c on long-ledger long-map good tolerated =
     not-refused (start-kept c on)
-    (sym (pass 1 (le-leb 576 (length l) long-ledger) (pass 1 (le-leb 750 (length m) long-map) (pass 2 good (pass 3 tolerated refl)))))
+    (sym (pass 1 (le-leb ledgerNumbers (length l) long-ledger) (pass 1 (le-leb mapWords (length m) long-map) (pass 2 good (pass 3 tolerated refl)))))
 
 -- a sample within its limits, and a block of such, in a whole run that has room for them
 module _ {b : List ℕ} {t : Tolerances} {l₀ : List ℤ} {m₀ : List ℕ} {xs : List Sample} {r : Run} {l : List ℤ} {m : List ℕ} (h : Driven b t l₀ m₀ xs r l m) where
   grounded : (others : ℕ) → ground r b l m others ≡ others
   grounded = runs.never-refused b t l₀ m₀ (driven-reached b t l₀ m₀ h)
 
-  pub sample-not-refused : (c : SampleCall) → SampleOn r b l m c → isSample (sampleIn c) ≡ true → r .offered < 4_000_000 → (k : ℕ) → c .answer ≡ Refused k → ⊥
+  pub sample-not-refused : (c : SampleCall) → SampleOn r b l m c → isSample (sampleIn c) ≡ true → r .offered < mostOffered → (k : ℕ) → c .answer ≡ Refused k → ⊥
   unfolding sampleRefusal
   sample-not-refused c on ok room =
       not-refused (sample-kept c on)
-      (grounded _ ∙ sym (pass 7 (le-leb (r .offered + 1) 4_000_000 (omega arith)) (pass 5 ok refl)))
+      (grounded _ ∙ sym (pass 7 (le-leb (r .offered + 1) mostOffered (omega arith)) (pass 5 ok refl)))
 
   pub block-not-refused : (c : BlockCall) → BlockOn r b l m c → (let q = bytesIn c in
-      isBlock (length q) ≡ true → c .args .1 .1 .1 .1 .0 ≡ r .offered → r .offered + samplesIn q ≤ 4_000_000 → areSamples q (samplesIn q) ≡ true
+      isBlock (length q) ≡ true → c .args .1 .1 .1 .1 .0 ≡ r .offered → r .offered + samplesIn q ≤ mostOffered → areSamples q (samplesIn q) ≡ true
       → (k : ℕ) → c .answer ≡ Refused k → ⊥)
   unfolding blockRefusal
   block-not-refused c on whole first room ok =
       not-refused (block-kept c on)
-      (grounded _ ∙ sym (pass 8 whole (pass 6 (eq-eqb _ _ first) (pass 7 (le-leb _ 4_000_000 room) (pass 5 ok refl)))))
+      (grounded _ ∙ sym (pass 8 whole (pass 6 (eq-eqb _ _ first) (pass 7 (le-leb _ mostOffered room) (pass 5 ok refl)))))
 
 -- ---- "one with a constant verdict"
 
@@ -112,9 +112,9 @@ pub record Asks (c : VerdictCall) : Type 0 where
   pub cycle : valid (now (c .args .0)) ≡ true
   pub tolerated : tolerable (record { speed = c .args .1 .0; time = c .args .1 .1 .0; allowance = c .args .1 .1 .1 .0 }) ≡ true
   pub position : c .args .1 .1 .1 .1 .0 < positions (now (c .args .0))
-  pub speed : c .args .1 .1 .1 .1 .1 .0 ≤ 1500
+  pub speed : c .args .1 .1 .1 .1 .1 .0 ≤ mostSpeed
 
-asks : (speed : ℕ) → speed ≤ 1500 → Asks (asked speed)
+asks : (speed : ℕ) → speed ≤ mostSpeed → Asks (asked speed)
 unfolding be allBelow valid tolerable asked
 asks speed h = record { cycle = refl; tolerated = refl; position = lit< tt; speed = h }
 
@@ -143,7 +143,7 @@ marked-outside : {l₀ : List ℤ} {m₀ : List ℕ} {r : Run} {l : List ℤ} {m
 unfolding be fold gather first grid20 inside tally.over marked
 marked-outside h = map-shows h 10 (lit< tt)
 
-pub no-constant-mark : (l₀ : List ℤ) (m₀ : List ℕ) → 576 ≤ length l₀ → 750 ≤ length m₀ → (y : Bool)
+pub no-constant-mark : (l₀ : List ℤ) (m₀ : List ℕ) → ledgerNumbers ≤ length l₀ → mapWords ≤ length m₀ → (y : Bool)
     → ((v : ℕ) (r : Run) (l : List ℤ) (m : List ℕ) → Driven risen noTime l₀ m₀ (eleven v) r l m → isSet m 10 ≡ y) → ⊥
 unfolding be fold allBelow unless valid tolerable isSample
 no-constant-mark l₀ m₀ long-ledger long-map y h =
@@ -195,7 +195,7 @@ module _ {b : List ℕ} {t : Tolerances} {l₀ : List ℤ} {m₀ : List ℕ} {xs
   -- so after a later block the ledger shows its samples behind those before
   pub later-block-shows : (c : BlockCall) → BlockOn r b l m c → {r′ : Run} → c .answer ≡ Taken r′
       → (let ys = xs ++ table (sampleAt (bytesIn c)) (samplesIn (bytesIn c)) in
-      (i : ℕ) → i < 576 → at (c .lasts .1 .1 .0) i ≡ figure b t (sampleOf ys) (length ys) i)
+      (i : ℕ) → i < ledgerNumbers → at (c .lasts .1 .1 .0) i ≡ figure b t (sampleOf ys) (length ys) i)
   later-block-shows c on e = ledger-shows (takes-block h c on e)
 
   -- ---- "and one whose outside count is invented: count and map are both tied to the band"

@@ -13,8 +13,9 @@ use Rattle.numbers.specs.Tests.{every, settled}
 use Rattle.numbers.proofs.Tests.{both, pass, settled-taken}
 use Rattle.rules.specs.declared.Sample.{Sample}
 use Rattle.rules.specs.declared.Tolerances.{Tolerances}
-use Rattle.rules.specs.Bench.{isSample, tolerable}
+use Rattle.rules.specs.Bench.{isSample, tolerable, mostOffered}
 use Rattle.rules.specs.Cycle.{valid}
+use Rattle.rules.specs.Shown.{ledgerNumbers, mapWords}
 use Rattle.state.specs.declared.Run.{Run}
 use Rattle.state.specs.Refusals.{startRefusal, started, sampleRefusal}
 use Rattle.step.specs.Step.{startOf, runOf}
@@ -59,12 +60,12 @@ module _ (b : List ℕ) (t : Tolerances) (l₀ : List ℤ) (m₀ : List ℕ) whe
     pub map : List ℕ
     pub driven : Driven b t l₀ m₀ xs run ledger map
 
-  one-more : {ys : List Sample} (s : SomeRun ys) (x : Sample) → isSample x ≡ true → suc (length ys) ≤ 4_000_000 → SomeRun (ys ++ x ∷ [])
+  one-more : {ys : List Sample} (s : SomeRun ys) (x : Sample) → isSample x ≡ true → suc (length ys) ≤ mostOffered → SomeRun (ys ++ x ∷ [])
   unfolding sampleRefusal
   one-more s x ok room =
       let offered = state-shows (s .driven) .0 in
       let z : sampleRefusal (s .run) b (s .ledger) (s .map) x ≡ 0 =
-      runs.never-refused b t l₀ m₀ (driven-reached b t l₀ m₀ (s .driven)) _ ∙ sym (pass 7 (le-leb (s .run .offered + 1) 4_000_000 (omega arith)) (pass 5 ok refl)) in
+      runs.never-refused b t l₀ m₀ (driven-reached b t l₀ m₀ (s .driven)) _ ∙ sym (pass 7 (le-leb (s .run .offered + 1) mostOffered (omega arith)) (pass 5 ok refl)) in
       record {
         run = _;
         ledger = _;
@@ -72,18 +73,18 @@ module _ (b : List ℕ) (t : Tolerances) (l₀ : List ℤ) (m₀ : List ℕ) whe
         driven = takes (s .driven) (sampleCall (s .run) b (s .ledger) (s .map) x) (record { run-is = refl; cycle-is = refl; ledger-is = refl; map-is = refl }) (settled-taken _ z);
       }
 
-  all-more : {ys : List Sample} (s : SomeRun ys) (xs : List Sample) → every isSample xs ≡ true → length ys + length xs ≤ 4_000_000 → SomeRun (ys ++ xs)
+  all-more : {ys : List Sample} (s : SomeRun ys) (xs : List Sample) → every isSample xs ≡ true → length ys + length xs ≤ mostOffered → SomeRun (ys ++ xs)
   all-more {ys} s [] ok room = subst SomeRun (sym (append-nil ys)) s
   all-more {ys} s (x ∷ xs) ok room =
       let (first, rest) = both (isSample x) (every isSample xs) ok in
       subst SomeRun (append-assoc ys (x ∷ []) xs)
       (all-more (one-more s x first (omega arith)) xs rest (omega (arith, length-append ys (x ∷ []))))
 
-  pub some-run : 576 ≤ length l₀ → 750 ≤ length m₀ → valid b ≡ true → tolerable t ≡ true → (xs : List Sample) → every isSample xs ≡ true → length xs ≤ 4_000_000 → SomeRun xs
+  pub some-run : ledgerNumbers ≤ length l₀ → mapWords ≤ length m₀ → valid b ≡ true → tolerable t ≡ true → (xs : List Sample) → every isSample xs ≡ true → length xs ≤ mostOffered → SomeRun xs
   unfolding startRefusal
   some-run long-ledger long-map good tolerated xs ok room =
       let z : startRefusal b t l₀ m₀ ≡ 0 =
-      sym (pass 1 (le-leb 576 (length l₀) long-ledger) (pass 1 (le-leb 750 (length m₀) long-map) (pass 2 good (pass 3 tolerated refl)))) in
+      sym (pass 1 (le-leb ledgerNumbers (length l₀) long-ledger) (pass 1 (le-leb mapWords (length m₀) long-map) (pass 2 good (pass 3 tolerated refl)))) in
       all-more
       (record {
         run = _;

@@ -11,7 +11,7 @@ use borrow.Author.Tests.{lt-ltb, le-leb}
 use Rattle.numbers.proofs.Tests.{pass}
 use Rattle.rules.specs.declared.Sample.{Sample}
 use Rattle.rules.specs.declared.Tolerances.{Tolerances}
-use Rattle.rules.specs.Bench.{tolerable}
+use Rattle.rules.specs.Bench.{tolerable, mostSpeed}
 use Rattle.rules.specs.Cycle.{valid, positions}
 use Rattle.rules.specs.Band.{inside, below, above, verdict}
 use Rattle.rules.proofs.Band.{verdict-inside, verdict-below, verdict-above, verdict-zero}
@@ -20,10 +20,10 @@ use Rattle.bench.specs.Question.{question}
 use Rattle.step.specs.Step.{State, positionNow, outNow}
 
 -- a question about a cycle, tolerances, position and speed within their limits
-module _ (b : List ℕ) (t : Tolerances) (p v : ℕ) (good : valid b ≡ true) (tolerated : tolerable t ≡ true) (there : p < positions b) (low : v ≤ 1500) where
+module _ (b : List ℕ) (t : Tolerances) (p v : ℕ) (good : valid b ≡ true) (tolerated : tolerable t ≡ true) (there : p < positions b) (low : v ≤ mostSpeed) where
   answered : question b t p v ≡ pos (verdict b t p v)
   unfolding question
-  answered = sym (pass _ good (pass _ tolerated (pass _ (lt-ltb p (positions b) there) (pass _ (le-leb v 1500 low) refl))))
+  answered = sym (pass _ good (pass _ tolerated (pass _ (lt-ltb p (positions b) there) (pass _ (le-leb v mostSpeed low) refl))))
 
   pub answers-inside : T (inside b t p v) → question b t p v ≡ pos 0
   answers-inside h = answered ∙ ap pos (verdict-inside b t p v h)
@@ -36,7 +36,7 @@ module _ (b : List ℕ) (t : Tolerances) (p v : ℕ) (good : valid b ≡ true) (
 
 -- the sample x, next in the run a: the bench controller is answered the verdict, and the judge marks the sample exactly where that is not 0
 module _ (b : List ℕ) (t : Tolerances) (a : State) (x : Sample) where
-  pub verdict-is-the-judges : valid b ≡ true → tolerable t ≡ true → x .speed ≤ 1500
+  pub verdict-is-the-judges : valid b ≡ true → tolerable t ≡ true → x .speed ≤ mostSpeed
       → (question b t (positionNow b t a x) (x .speed) ≡ pos (verdict b t (positionNow b t a x) (x .speed)))
       × (outNow b t a x ≡ not (eqb (verdict b t (positionNow b t a x) (x .speed)) 0))
   verdict-is-the-judges s o l =

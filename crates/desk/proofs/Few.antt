@@ -3,7 +3,7 @@
 use mathlib.Core.Bool.{Bool, true, false, cond, _&&_, false≢true}
 use mathlib.Core.List.{List}
 use mathlib.Core.Path.{_≡_, refl, ap}
-use Prim.Native.Nat.{ℕ, zero, suc, _+_, _%_, _≤_}
+use Prim.Native.Nat.{ℕ, zero, suc, _+_, _*_, _%_, _≤_}
 use native.Mathlib.Omega.{arith}
 use borrow.Author.Tests.{leb-true, eqb-true}
 use lib.Dec.{leb, eqb}
@@ -14,7 +14,7 @@ use Rattle.numbers.proofs.Tests.{both}
 use Rattle.rules.specs.declared.Tolerances.{Tolerances}
 use Rattle.rules.specs.Bench.{mostOffered, mostPassed}
 use Rattle.step.specs.Step.{State}
-use Rattle.blocks.specs.Blocks.{samplesIn, sampleAt, areSamples, isBlock}
+use Rattle.blocks.specs.Blocks.{samplesIn, sampleAt, areSamples, isBlock, mostBlock}
 use Rattle.step.proofs.Keeping.{steps-offered}
 use Rattle.fields.specs.Fields.{valueIn}
 use Rattle.fields.specs.Values.{isNumber, sameNumber, firstIn, samplesOf, energyIn, rechargeIn}
@@ -95,7 +95,7 @@ module _ (place : ℕ) where
 block-samples : (q : List ℕ) → isBlock (length q) ≡ true → 1 ≤ samplesIn q
 unfolding isBlock
 block-samples q e =
-    let joint = both (eqb (length q % 6) 0 && leb 6 (length q)) (leb (length q) 1200) e .0 in
+    let joint = both (eqb (length q % 6) 0 && leb 6 (length q)) (leb (length q) (6 * mostBlock)) e .0 in
     let six = leb-true 6 (length q) (both (eqb (length q % 6) 0) (leb 6 (length q)) joint .1) in
     omega arith
 

@@ -11,6 +11,8 @@ use lib.IntN.{ℤ}
 use lib.ListN.{length, drop}
 use Rattle.numbers.specs.Tests.{unless}
 use Rattle.numbers.proofs.Tests.{pass, settled-taken}
+use Rattle.rules.specs.Shown.{ledgerNumbers, mapWords}
+use Rattle.rules.specs.Cycle.{mostBytes}
 use Rattle.state.specs.declared.Run.{Run}
 use Rattle.state.specs.Refusals.{startRefusal}
 use Rattle.state.proofs.Checked.{start-passed}
@@ -19,7 +21,7 @@ use Rattle.opening.specs.declared.Opening.{Opening}
 use Rattle.opening.specs.declared.OpenStep.{OpenStep}
 use Rattle.opening.specs.declared.OpenStep.the-variants as opening
 use Rattle.opening.specs.Opening.{Begun, Opened, openAt}
-use Rattle.opening.specs.Answers.{Held, mostCycle, hold, cycleIn, begunOf, openingOf, openGround, openOf}
+use Rattle.opening.specs.Answers.{Held, hold, cycleIn, begunOf, openingOf, openGround, openOf}
 use Rattle.opening.proofs.Starting.{Ready, ground-ready, ready-ground}
 use Rattle.reading.specs.Answers.{startedReading}
 use Rattle.records.proofs.OpenField.{Accepts, Starts, starts}
@@ -66,7 +68,7 @@ module _ (o : Opening) (room : List ℕ) (l : List ℤ) (m i : List ℕ) where
     open-starts = (begins .three, ap (λ (x : Opened Held). x .begun) call-is ∙ begins .begun)
 
     -- room, ledger and map are long enough
-    start-long : (mostCycle ≤ length room) × (576 ≤ length l) × (750 ≤ length m)
+    start-long : (mostBytes ≤ length room) × (ledgerNumbers ≤ length l) × (mapWords ≤ length m)
     start-long = let s = start-passed _ _ l m (begins .granted) in (ready .room, s .long-ledger, s .long-map)
 
     -- and there is no 1 or 2
@@ -128,7 +130,7 @@ pub record Waits (x : Laid) : Type 0 where
   pub waits : x .desk .started ≡ false
   pub fields : x .desk .fields ≡ x .desk .opening .fields
   pub few : x .desk .opening .fields ≤ 3
-  pub short : mostCycle ≤ length (x .room) → 576 ≤ length (x .ledger) → 750 ≤ length (x .map) → ⊥
+  pub short : mostBytes ≤ length (x .room) → ledgerNumbers ≤ length (x .ledger) → mapWords ≤ length (x .map) → ⊥
 
 pub waits-steady : (x : Laid) → Waits x → Steady x
 waits-steady x h = record { few = omega (arith, h .fields, h .few); ground = λ e. absurd (false≢true (sym (h .waits) ∙ e)) }

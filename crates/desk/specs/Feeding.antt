@@ -9,6 +9,8 @@ use lib.IntN.{ℤ}
 use lib.ListN.{length, take, drop}
 use Rattle.numbers.specs.Tests.{unless}
 use Rattle.rules.specs.declared.End.the-variants.{None as none}
+use Rattle.rules.specs.Cycle.{mostBytes}
+use Rattle.rules.specs.Bench.{mostOffered, mostPassed}
 use Rattle.state.specs.declared.Run.{Run}
 use Rattle.step.specs.Step.{State, startOf}
 use Rattle.opening.specs.declared.Opening.{Opening}
@@ -18,7 +20,7 @@ use Rattle.opening.specs.declared.OpenStep.{OpenStep}
 use Rattle.opening.specs.declared.OpenStep.the-variants as opening
 use Rattle.reading.specs.Reading.{Read}
 use Rattle.opening.specs.Opening.{Opened}
-use Rattle.opening.specs.Answers.{Held, mostCycle, nothing, openingOf, openGround, openOf, memoryAfter}
+use Rattle.opening.specs.Answers.{Held, nothing, openingOf, openGround, openOf, memoryAfter}
 use Rattle.reading.specs.Answers.{startedReading, readingOf, readGround, readAllOf}
 pub use Rattle.desk.specs.declared.Desk.{Desk}
 pub use Rattle.desk.specs.declared.Outcome.{Outcome}
@@ -145,7 +147,7 @@ readOn x i = unless (stops x (Refused 1)) (leb (x .desk .opening .cycle) (length
 
 -- no record has more fields: four until the start, and each later one raises the samples offered, the blocks passed over or the place in the order
 abbrev pub mostFields : ℕ
-mostFields = 8_000_008
+mostFields = 4 + mostOffered + mostPassed + 4
 
 -- after the fields until the start
 abbrev pub thenRead : Taken → List ℕ → Taken
@@ -157,7 +159,7 @@ feedOf x i = unless (stops x (Refused 1)) (leb (x .desk .fields) mostFields) (th
 
 -- how many bytes the longest field has: tag, length and the longest cycle
 abbrev pub longest : ℕ
-longest = 3 + mostCycle
+longest = 3 + mostBytes
 
 -- ---- before all else
 

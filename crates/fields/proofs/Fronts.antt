@@ -13,6 +13,7 @@ use lib.Seq.{length-take-le, take-append-le, drop-append-le}
 use Rattle.numbers.specs.Bytes.{be}
 use Rattle.numbers.proofs.Bytes.{be-left}
 use Rattle.numbers.proofs.Tests.{both, pass, stop, passed, first-or-rest}
+use Rattle.rules.specs.Cycle.{leastBytes, mostBytes}
 use Rattle.blocks.specs.Blocks.{isBlock}
 use Rattle.blocks.proofs.Bytes.{block-of}
 use Rattle.fields.specs.Fields.{incomplete, impossible, field, isLength, isTag, isValue, valueIn, frontOf}
@@ -22,10 +23,10 @@ use Rattle.fields.specs.Fields.{incomplete, impossible, field, isLength,
 pub record Sizes (tag n : ℕ) : Type 0 where
   pub tags : (1 ≤ tag) × (tag ≤ 7)
   pub least : 4 ≤ n
-  pub most : n ≤ 4811
+  pub most : n ≤ mostBytes
   pub mark : tag ≡ 1 → n ≡ 4
   pub number : tag ≡ 2 → n ≡ 17
-  pub cycle : tag ≡ 3 → (9 ≤ n) × (n ≤ 4811)
+  pub cycle : tag ≡ 3 → (leastBytes ≤ n) × (n ≤ mostBytes)
   pub tolerances : tag ≡ 4 → n ≡ 6
   pub block : tag ≡ 5 → (21 ≤ n) × (isBlock (n - 21) ≡ true)
   pub energy : tag ≡ 6 → n ≡ 9
@@ -70,8 +71,8 @@ sizes tag n h = record {
     number : tag ≡ 2 → n ≡ 17
     number e = eqb-true n 17 (row 2 e)
 
-    cycle : tag ≡ 3 → (9 ≤ n) × (n ≤ 4811)
-    cycle e = let (a, b) = both (leb 9 n) (leb n 4811) (row 3 e) in (leb-true 9 n a, leb-true n 4811 b)
+    cycle : tag ≡ 3 → (leastBytes ≤ n) × (n ≤ mostBytes)
+    cycle e = let (a, b) = both (leb leastBytes n) (leb n mostBytes) (row 3 e) in (leb-true leastBytes n a, leb-true n mostBytes b)
 
     tolerances : tag ≡ 4 → n ≡ 6
     tolerances e = eqb-true n 6 (row 4 e)
@@ -85,7 +86,7 @@ sizes tag n h = record {
     recharge : tag ≡ 7 → n ≡ 4
     recharge e = eqb-true n 4 (row 7 e)
 
-    bounds : (1 ≤ tag) × (tag ≤ 7) × (4 ≤ n) × (n ≤ 4811)
+    bounds : (1 ≤ tag) × (tag ≤ 7) × (4 ≤ n) × (n ≤ mostBytes)
     bounds =
         pick tag 1 (λ e. let s = mark e in (omega arith, omega arith, omega arith, omega arith)) (λ a.
         pick tag 2 (λ e. let s = number e in (omega arith, omega arith, omega arith, omega arith)) (λ b.

@@ -7,6 +7,7 @@ use lib.Dec.{leb, ltb, eqb}
 use lib.ListN.{length, getD, take, drop}
 use Rattle.numbers.specs.Bytes.{be}
 use Rattle.numbers.specs.Tests.{allBelow, unless}
+use Rattle.rules.specs.Cycle.{leastBytes, mostBytes}
 use Rattle.blocks.specs.Blocks.{isBlock}
 pub use Rattle.fields.specs.declared.Front.{Front}
 pub use Rattle.fields.specs.declared.Front.the-variants.{Incomplete as incomplete, Impossible as impossible, Field as field}
@@ -16,7 +17,7 @@ unfoldable pub isLength : ℕ → ℕ → Bool
 isLength tag n =
     cond (eqb tag 1) (eqb n 4)
     (cond (eqb tag 2) (eqb n 17)
-    (cond (eqb tag 3) (leb 9 n && leb n 4811)
+    (cond (eqb tag 3) (leb leastBytes n && leb n mostBytes)
     (cond (eqb tag 4) (eqb n 6)
     (cond (eqb tag 5) (leb 21 n && isBlock (n - 21))
     (cond (eqb tag 6) (eqb n 9)

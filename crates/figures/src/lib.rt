@@ -51,16 +51,16 @@ fn figures_with(
     passed: u32,
     amounts: Amounts,
     run: Run,
-    b: &[u8],
+    cycle: &[u8],
     ledger: &[i64],
     map: &[u64],
 ) -> Figures
-    ensures { λ r. ⌜ r ≡ withSums vehicle passed amounts run (now (b .entry)) (now (ledger .entry)) (now (map .entry)) sums ⌝ }
+    ensures { λ r. ⌜ r ≡ withSums vehicle passed amounts run (now (cycle .entry)) (now (ledger .entry)) (now (map .entry)) sums ⌝ }
 {
     let end = sums.end;
-    let weighted = closing::weighted(run, amounts, b, ledger, map);
-    let range = closing::range(run, amounts, b, ledger, map);
-    let ac = closing::recharge(run, amounts, b, ledger, map);
+    let weighted = closing::weighted(run, amounts, cycle, ledger, map);
+    let range = closing::range(run, amounts, cycle, ledger, map);
+    let ac = closing::recharge(run, amounts, cycle, ledger, map);
     Figures {
         vehicle,
         end,
@@ -76,23 +76,32 @@ fn figures_with(
 }
 
 // The figures of a reading. Its own numbers, its run, ledger, map and cycle are tested before all else, as by `read`.
-pub fn figures_of(reading: Reading, b: &[u8], ledger: &[i64], map: &[u64]) -> Found
-    ensures { λ r. ⌜ r ≡ foundOf reading (now (b .entry)) (now (ledger .entry)) (now (map .entry)) ⌝ }
+pub fn figures_of(reading: Reading, cycle: &[u8], ledger: &[i64], map: &[u64]) -> Found
+    ensures { λ r. ⌜ r ≡ foundOf reading (now (cycle .entry)) (now (ledger .entry)) (now (map .entry)) ⌝ }
 {
-    let refusal = read_refusal(reading, b, ledger, map);
+    let refusal = read_refusal(reading, cycle, ledger, map);
     if refusal != 0 {
         return refused(refusal);
     }
     let vehicle = reading.vehicle;
     let amounts = reading.amounts;
     let run = reading.run;
-    let answer = judge::totals(run, b, ledger, map);
+    let answer = judge::totals(run, cycle, ledger, map);
     // The judge refuses nothing that the tests above let through.
     match answer {
         TotalsAnswer::Refused(n) => refused(n),
         TotalsAnswer::Summed(sums) => Found {
             refusal: 0,
-            figures: figures_with(sums, vehicle, reading.passed, amounts, run, b, ledger, map),
+            figures: figures_with(
+                sums,
+                vehicle,
+                reading.passed,
+                amounts,
+                run,
+                cycle,
+                ledger,
+                map,
+            ),
         },
     }
 }

@@ -9,7 +9,8 @@ use borrow.Author.Tests.{leb-true, leb-false}
 use lib.Dec.{leb}
 use lib.IntN.{ℤ}
 use lib.ListN.{length}
-use Rattle.opening.specs.Answers.{mostCycle}
+use Rattle.rules.specs.Shown.{ledgerNumbers, mapWords}
+use Rattle.rules.specs.Cycle.{mostBytes}
 use Rattle.records.proofs.Calls.{Lent}
 use Rattle.desk.specs.declared.Desk.{Desk}
 use Rattle.desk.specs.declared.Outcome.{Outcome}
@@ -36,18 +37,18 @@ came-waits h (part {rest = rest} {x = x} c new) = feed-waits x (rest ++ new) (ca
 
 -- on any
 came-steady : (room : List ℕ) (l : List ℤ) (m : List ℕ) {w rest : List ℕ} {x : Laid} → Came (laidOf emptyDesk room l m) w x rest More → Steady x
-came-steady room l m {x = x} c = go (leb mostCycle (length room)) refl (leb 576 (length l)) refl (leb 750 (length m)) refl
+came-steady room l m {x = x} c = go (leb mostBytes (length room)) refl (leb ledgerNumbers (length l)) refl (leb mapWords (length m)) refl
   where
-    waits : (mostCycle ≤ length room → 576 ≤ length l → 750 ≤ length m → ⊥) → Steady x
+    waits : (mostBytes ≤ length room → ledgerNumbers ≤ length l → mapWords ≤ length m → ⊥) → Steady x
     waits short = waits-steady x (came-waits (record { waits = refl; fields = refl; few = zero-le; short = short }) c)
 
-    go : (p : Bool) → leb mostCycle (length room) ≡ p → (q : Bool) → leb 576 (length l) ≡ q → (r : Bool) → leb 750 (length m) ≡ r → Steady x
+    go : (p : Bool) → leb mostBytes (length room) ≡ p → (q : Bool) → leb ledgerNumbers (length l) ≡ q → (r : Bool) → leb mapWords (length m) ≡ r → Steady x
     go true e true f true g =
         let lent : Lent = record { room₀ = room; l₀ = l; m₀ = m; long-room = leb-true _ _ e; long-ledger = leb-true _ _ f; long-map = leb-true _ _ g } in
         ground-steady x (stands-ground lent (came-arrived lent c refl .stands))
-    go true e true f false g = waits (λ _ _ h. omega (arith, leb-false 750 (length m) g))
-    go true e false f r g = waits (λ _ h _. omega (arith, leb-false 576 (length l) f))
-    go false e q f r g = waits (λ h _ _. omega (arith, leb-false mostCycle (length room) e))
+    go true e true f false g = waits (λ _ _ h. omega (arith, leb-false mapWords (length m) g))
+    go true e false f r g = waits (λ _ h _. omega (arith, leb-false ledgerNumbers (length l) f))
+    go false e q f r g = waits (λ h _ _. omega (arith, leb-false mostBytes (length room) e))
 
 -- so every turn begins with a desk that needs none
 pub stood-steady : (room₀ : List ℕ) (l₀ : List ℤ) (m₀ : List ℕ) (most : ℕ) (desk : Desk) (held left : ℕ) (b room : List ℕ) (l : List ℤ) (m : List ℕ)

@@ -12,7 +12,7 @@ use Rattle.numbers.proofs.Sums.{sum-pos}
 use Rattle.rules.specs.declared.Sample.{Sample}
 use Rattle.rules.specs.declared.Tolerances.{Tolerances}
 use Rattle.rules.specs.Run.{phaseDistance, cycleEnergy, cycleDistance, energy, over, most, counted, judged}
-use Rattle.rules.specs.Shown.{figure}
+use Rattle.rules.specs.Shown.{figure, ledgerNumbers}
 use Rattle.rules.proofs.Figures.{distance-phases, energy-phases, energy-cycles}
 use Rattle.rules.proofs.NineNumbers.{energy-figure, distance-figure, outside-figure}
 use Rattle.rules.proofs.Sound.{Sound}
@@ -36,7 +36,7 @@ module _ (b : List ℕ) (t : Tolerances) (s : ℕ → Sample) (l₀ : List ℤ) 
       (side (suc a) 8))
       (side (suc a) 4)
 
-  pub number-is : (i : ℕ) → i < 576 → at l i ≡ figure b t s n i
+  pub number-is : (i : ℕ) → i < ledgerNumbers → at l i ≡ figure b t s n i
   number-is i g =
       let q : 9 * (i / 9) + i % 9 ≡ i = omega arith in
       subst (λ (j : ℕ). at l j ≡ figure b t s n j) q (of-nine (i / 9) (i % 9) (omega arith) (omega arith))

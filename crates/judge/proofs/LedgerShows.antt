@@ -20,22 +20,23 @@ use Rattle.rules.specs.Bench.{drawn, distance}
 use Rattle.rules.specs.Run.{cycleOf, positionOf, phaseOf, phaseEnergy, phaseDistance, out, outside, over, most}
 use Rattle.rules.specs.Tally as tally
 use Rattle.rules.proofs.Sound.{Sound, real, four}
+use Rattle.rules.specs.Shown.{ledgerNumbers}
 use Rattle.ledger.specs.Row.{at, outsideAdded, isOver, sampleAdded}
 use Rattle.ledger.proofs.Rows.{length-plus, length-outside, added-over, added-not-over}
 use Rattle.judge.proofs.Entries.{entry-off, entry-add, outside-off, outside-add, pos-cond}
 
 -- a ledger that shows the figures of m counted and j judged samples, and is beyond its 576 numbers as l₀
 pub record LedgerShows (b : List ℕ) (t : Tolerances) (s : ℕ → Sample) (l₀ : List ℤ) (m j : ℕ) (l : List ℤ) : Type 0 where
-  pub long : 576 ≤ length l
+  pub long : ledgerNumbers ≤ length l
   pub energies : (c k : ℕ) → c < 64 → k < 4 → at l (9 * c + k) ≡ phaseEnergy b s c k m
   pub distances : (c k : ℕ) → c < 64 → k < 4 → at l (9 * c + (4 + k)) ≡ pos (phaseDistance b s c k m)
   pub outsides : (c : ℕ) → c < 64 → at l (9 * c + 8) ≡ pos (outside b t s c j)
-  pub beyond : drop 576 l ≡ drop 576 l₀
+  pub beyond : drop ledgerNumbers l ≡ drop ledgerNumbers l₀
 
 -- an addition at a place below 576
-module _ (l : List ℤ) (i : ℕ) (z : ℤ) (h : i < 576) where
-  plus-beyond : drop 576 (plus l i z) ≡ drop 576 l
-  plus-beyond = drop-set-lt 576 l i _ h
+module _ (l : List ℤ) (i : ℕ) (z : ℤ) (h : i < ledgerNumbers) where
+  plus-beyond : drop ledgerNumbers (plus l i z) ≡ drop ledgerNumbers l
+  plus-beyond = drop-set-lt ledgerNumbers l i _ h
 
 -- sample n of an open run: its cycle and phase, and the ledger after it
 module _ (b : List ℕ) (t : Tolerances) (s : ℕ → Sample) (l₀ : List ℤ) (n : ℕ) (l : List ℤ) where
@@ -61,7 +62,7 @@ module _ (b : List ℕ) (t : Tolerances) (s : ℕ → Sample) (l₀ : List ℤ) 
     q<64 : q < 64
     q<64 = div-lt-iff-lt-mul (real sound) .1 small
 
-    beyond₁ : (o : Bool) → drop 576 (outsideAdded (9 * q) l o) ≡ drop 576 l
+    beyond₁ : (o : Bool) → drop ledgerNumbers (outsideAdded (9 * q) l o) ≡ drop ledgerNumbers l
     beyond₁ true = plus-beyond l (9 * q + 8) (pos 1) (omega (arith, q<64))
     beyond₁ false = refl
 

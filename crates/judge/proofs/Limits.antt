@@ -14,6 +14,7 @@ use Rattle.rules.specs.declared.End.the-variants.{None as none, Stop as stop, L
 use Rattle.rules.specs.Cycle.{phases, phaseEnd}
 use Rattle.rules.specs.Tally.{room, counted, stopped, ending}
 use Rattle.rules.proofs.Sound.{Sound, rising}
+use Rattle.rules.specs.Bench.{mostSeconds}
 use Rattle.state.specs.State.{endOrZero, endsOf, isProgress}
 
 pub progress-is : (ends : ℕ → Bool) (most n : ℕ) → isProgress (ending ends most n) most n (counted ends most n) ≡ true
@@ -38,19 +39,19 @@ progress-is ends most n = go (stopped ends most n) (ltb (counted ends most n) mo
 
 -- the ends of a cycle's phases
 pub record Low (b : List ℕ) : Type 0 where
-  pub first : endsOf b .first ≤ 2400
-  pub second : endsOf b .second ≤ 2400
-  pub third : endsOf b .third ≤ 2400
-  pub fourth : endsOf b .fourth ≤ 2400
+  pub first : endsOf b .first ≤ mostSeconds
+  pub second : endsOf b .second ≤ mostSeconds
+  pub third : endsOf b .third ≤ mostSeconds
+  pub fourth : endsOf b .fourth ≤ mostSeconds
 
 module _ (b : List ℕ) (o : Sound b) where
   end-rises : (k j : ℕ) → k ≤ j → j < phases b → phaseEnd b k ≤ phaseEnd b j
   end-rises k j h = le-ind (λ i. i < phases b → phaseEnd b k ≤ phaseEnd b i) (λ l. le-refl (phaseEnd b k)) (λ i g ih l. le-trans (ih (omega arith)) (omega (arith, rising o (suc i) l))) j h
 
-  end-most : (k : ℕ) → endOrZero b k ≤ 2400
+  end-most : (k : ℕ) → endOrZero b k ≤ mostSeconds
   end-most k = go (ltb k (phases b)) refl
     where
-      go : (x : Bool) → ltb k (phases b) ≡ x → cond x (phaseEnd b k) 0 ≤ 2400
+      go : (x : Bool) → ltb k (phases b) ≡ x → cond x (phaseEnd b k) 0 ≤ mostSeconds
       go true e = let l = ltb-true k (phases b) e in omega (arith, end-rises k (phases b - 1) (omega arith) (omega arith), o .short)
       go false e = zero-le
 

@@ -21,18 +21,19 @@ use Rattle.rules.specs.declared.Sample.{Sample}
 use Rattle.rules.specs.declared.Tolerances.{Tolerances}
 use Rattle.rules.specs.Cycle.{positions}
 use Rattle.rules.specs.Run.{cycleOf, positionOf, ofCycle, out, outside}
-use Rattle.rules.specs.Shown.{lastJudged, marked}
+use Rattle.rules.specs.Shown.{lastJudged, marked, mapWords}
 use Rattle.rules.proofs.Bounds.{cycle-most}
 use Rattle.rules.proofs.Sound.{Sound, real}
+use Rattle.rules.specs.Bench.{mostPositions}
 use Rattle.map.specs.Map.{isSet, mark, opened, markedIf, onesOf}
 use Rattle.map.proofs.Marks.{set-mark, ones-mark, set-cleared, ones-cleared, length-opened, length-markedIf, drop-opened, drop-markedIf}
 
 -- a map that shows the cycle last judged of n judged samples, and is beyond its 750 words as m₀
 pub record MapShows (b : List ℕ) (t : Tolerances) (s : ℕ → Sample) (m₀ : List ℕ) (n : ℕ) (m : List ℕ) : Type 0 where
-  pub long : 750 ≤ length m
-  pub marks : (p : ℕ) → p < 48_000 → isSet m p ≡ marked b t s n p
+  pub long : mapWords ≤ length m
+  pub marks : (p : ℕ) → p < mostPositions → isSet m p ≡ marked b t s n p
   pub ones : onesOf m ≡ outside b t s (lastJudged b t s n) n
-  pub beyond : drop 750 m ≡ drop 750 m₀
+  pub beyond : drop mapWords m ≡ drop mapWords m₀
 
 module _ (b : List ℕ) (t : Tolerances) (s : ℕ → Sample) (sound : Sound b) where
   -- position p of cycle c is among the first j samples, and outside
@@ -59,8 +60,8 @@ module _ (b : List ℕ) (t : Tolerances) (s : ℕ → Sample) (sound : Sound b) 
     P<N : P < N
     P<N = mod-lt n (real sound)
 
-    P<48000 : P < 48_000
-    P<48000 = omega (arith, P<N, sound .short)
+    P<mostPositions : P < mostPositions
+    P<mostPositions = omega (arith, P<N, sound .short)
 
     -- sample n is the next of cycle c
     last-is : cycleOf b (suc n - 1) ≡ c
@@ -106,11 +107,11 @@ module _ (b : List ℕ) (t : Tolerances) (s : ℕ → Sample) (sound : Sound b) 
       abbrev m₁ : List ℕ
       m₁ = opened m P
 
-      open-marks : (p : ℕ) → p < 48_000 → isSet m₁ p ≡ among c n p
+      open-marks : (p : ℕ) → p < mostPositions → isSet m₁ p ≡ among c n p
       unfolding opened
       open-marks p l = go (ℕ-discrete P 0)
         where
-          go : Dec (P ≡ 0) → isSet (cond (eqb P 0) (cleared 0 750 m) m) p ≡ among c n p
+          go : Dec (P ≡ 0) → isSet (cond (eqb P 0) (cleared 0 mapWords m) m) p ≡ among c n p
           go (yes e) = rw (eq-eqb P 0 e) (set-cleared m p l ∙ sym (among-none p (omega arith)))
           go (no e) = rw (ne-eqb P 0 e) (h .marks p l ∙ marked-last n c p (last-was e))
 
@@ -118,20 +119,20 @@ module _ (b : List ℕ) (t : Tolerances) (s : ℕ → Sample) (sound : Sound b) 
       unfolding opened
       open-ones = go (ℕ-discrete P 0)
         where
-          go : Dec (P ≡ 0) → onesOf (cond (eqb P 0) (cleared 0 750 m) m) ≡ outside b t s c n
+          go : Dec (P ≡ 0) → onesOf (cond (eqb P 0) (cleared 0 mapWords m) m) ≡ outside b t s c n
           go (yes e) = rw (eq-eqb P 0 e) (ones-cleared m ∙ sym (outside-none e))
           go (no e) = rw (ne-eqb P 0 e) (h .ones ∙ ap (λ (k : ℕ). outside b t s k n) (last-was e))
 
-      long₁ : 750 ≤ length m₁
+      long₁ : mapWords ≤ length m₁
       long₁ = omega (arith, length-opened m P (h .long), h .long)
 
       abbrev m₂ : List ℕ
       m₂ = markedIf m₁ P (out b t s n)
 
       word : P / 64 < length m₁
-      word = omega (arith, long₁, P<48000)
+      word = omega (arith, long₁, P<mostPositions)
 
-      next-marks : (p : ℕ) → p < 48_000 → isSet m₂ p ≡ among c (suc n) p
+      next-marks : (p : ℕ) → p < mostPositions → isSet m₂ p ≡ among c (suc n) p
       unfolding markedIf
       next-marks p l = go (out b t s n) refl (ℕ-discrete p P)
         where
@@ -146,7 +147,7 @@ module _ (b : List ℕ) (t : Tolerances) (s : ℕ → Sample) (sound : Sound b) 
       next-ones = go (out b t s n) ∙ ap (λ (x : Bool). outside b t s c n + cond x (bit (out b t s n)) 0) (sym (eq-eqb c c refl))
         where
           go : (o : Bool) → onesOf (cond o (mark m₁ P) m₁) ≡ outside b t s c n + bit o
-          go true = ones-mark m₁ P P<48000 long₁ (open-marks P P<48000 ∙ among-none P (omega arith)) ∙ ap (λ (k : ℕ). k + 1) open-ones
+          go true = ones-mark m₁ P P<mostPositions long₁ (open-marks P P<mostPositions ∙ among-none P (omega arith)) ∙ ap (λ (k : ℕ). k + 1) open-ones
           go false = open-ones ∙ sym (add-zero _)
 
       -- sample n is judged
@@ -155,5 +156,5 @@ module _ (b : List ℕ) (t : Tolerances) (s : ℕ → Sample) (sound : Sound b) 
         long = omega (arith, length-markedIf m₁ P (out b t s n), long₁);
         marks = λ p l. next-marks p l ∙ sym (marked-last (suc n) c p last-is);
         ones = next-ones ∙ ap (λ (k : ℕ). outside b t s k (suc n)) (sym last-is);
-        beyond = drop-markedIf m₁ P (out b t s n) P<48000 ∙ drop-opened m P ∙ h .beyond;
+        beyond = drop-markedIf m₁ P (out b t s n) P<mostPositions ∙ drop-opened m P ∙ h .beyond;
       }

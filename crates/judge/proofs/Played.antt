@@ -18,7 +18,7 @@ use Rattle.rules.specs.declared.End.the-variants.{None as none, Stop as stop, L
 use Rattle.rules.specs.Bench.{isOpen}
 use Rattle.rules.specs.Cycle.{positions}
 use Rattle.rules.specs.Run.{cycleOf, out, over, most, counted, judged, ending}
-use Rattle.rules.specs.Shown.{marked}
+use Rattle.rules.specs.Shown.{marked, ledgerNumbers, mapWords}
 use Rattle.rules.proofs.Sound.{Sound, real}
 use Rattle.rules.proofs.Tally.{Tally, tallyOf, tally, counting, Turn, stands, stops, goes, turn, nothing-yet}
 use Rattle.map.proofs.Marks.{set-cleared, ones-cleared}
@@ -109,15 +109,15 @@ module _ (b : List ℕ) (t : Tolerances) (s : ℕ → Sample) (l₀ : List ℤ) 
       go (goes w e o e′) = from (open-now e) e′ (judge-goes n (a .ledger) (a .map) w (known e) (seen e) o)
 
   -- on memory that is long enough
-  module _ (long-ledger : 576 ≤ length l₀) (long-map : 750 ≤ length m₀) where
-    ledger-start : LedgerShows b t s l₀ 0 0 (cleared (pos 0) 576 l₀)
+  module _ (long-ledger : ledgerNumbers ≤ length l₀) (long-map : mapWords ≤ length m₀) where
+    ledger-start : LedgerShows b t s l₀ 0 0 (cleared (pos 0) ledgerNumbers l₀)
     unfolding fold gather
     ledger-start = record {
-      long = omega (arith, length-cleared (pos 0) 576 l₀ long-ledger);
-      energies = λ c k h g. getD-cleared (pos 0) 576 l₀ _ (pos 0) (omega arith);
-      distances = λ c k h g. getD-cleared (pos 0) 576 l₀ _ (pos 0) (omega arith);
-      outsides = λ c h. getD-cleared (pos 0) 576 l₀ _ (pos 0) (omega arith);
-      beyond = drop-cleared (pos 0) 576 l₀;
+      long = omega (arith, length-cleared (pos 0) ledgerNumbers l₀ long-ledger);
+      energies = λ c k h g. getD-cleared (pos 0) ledgerNumbers l₀ _ (pos 0) (omega arith);
+      distances = λ c k h g. getD-cleared (pos 0) ledgerNumbers l₀ _ (pos 0) (omega arith);
+      outsides = λ c h. getD-cleared (pos 0) ledgerNumbers l₀ _ (pos 0) (omega arith);
+      beyond = drop-cleared (pos 0) ledgerNumbers l₀;
     }
 
     none-marked : (p : ℕ) → marked b t s 0 p ≡ false
@@ -128,13 +128,13 @@ module _ (b : List ℕ) (t : Tolerances) (s : ℕ → Sample) (l₀ : List ℤ) 
         go true y z e = rw e
         go false y z e = refl
 
-    map-start : MapShows b t s m₀ 0 (cleared 0 750 m₀)
+    map-start : MapShows b t s m₀ 0 (cleared 0 mapWords m₀)
     unfolding fold gather
     map-start = record {
-      long = omega (arith, length-cleared 0 750 m₀ long-map);
+      long = omega (arith, length-cleared 0 mapWords m₀ long-map);
       marks = λ p h. set-cleared m₀ p h ∙ sym (none-marked p);
       ones = ones-cleared m₀;
-      beyond = drop-cleared 0 750 m₀;
+      beyond = drop-cleared 0 mapWords m₀;
     }
 
     -- after n samples from the start

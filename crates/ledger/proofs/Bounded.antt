@@ -13,7 +13,8 @@ use Rattle.numbers.specs.Whole.{between, Sized}
 use Rattle.numbers.proofs.Sums.{sized-sum, between-sum}
 use Rattle.numbers.proofs.Tests.{both, all-at, all-by}
 use Rattle.numbers.proofs.Whole.{weaken, sized-between, sized-upto}
-use Rattle.rules.specs.Shown.{inBounds, mostEnergy, mostDistance, mostOutside}
+use Rattle.rules.specs.Shown.{inBounds, mostEnergy, mostDistance, mostOutside, ledgerNumbers}
+use Rattle.rules.specs.Bench.{mostPhases, mostCycles}
 use Rattle.ledger.specs.Row.{at, bounded, energyIn, distanceIn, energyAll}
 
 -- by its place among the nine
@@ -29,7 +30,7 @@ pub bounds-outside : (i : ℕ) (z : ℤ) → 8 ≤ i % 9 → inBounds i z ≡ be
 unfolding inBounds
 bounds-outside i z h = rw (le-ltb (i % 9) 4 (omega arith), le-ltb (i % 9) 8 h)
 
-in-bounds-sized : (i : ℕ) (z : ℤ) → inBounds i z ≡ true → Sized 7_200_000_000_000 z
+in-bounds-sized : (i : ℕ) (z : ℤ) → inBounds i z ≡ true → Sized mostEnergy z
 unfolding inBounds
 in-bounds-sized i z = go (ltb (i % 9) 4) (ltb (i % 9) 8)
   where
@@ -37,38 +38,38 @@ in-bounds-sized i z = go (ltb (i % 9) 4) (ltb (i % 9) 8)
         → cond x (between (negℤ (pos mostEnergy)) (pos mostEnergy) z)
         (cond y (between (pos 0) (pos mostDistance) z) (between (pos 0) (pos mostOutside) z))
         ≡ true
-        → Sized 7_200_000_000_000 z
+        → Sized mostEnergy z
     go true y e = sized-between mostEnergy z e
     go false true e = weaken (lit≤ tt) (sized-upto mostDistance z e)
     go false false e = weaken (lit≤ tt) (sized-upto mostOutside z e)
 
-pub bounded-by : (l : List ℤ) → 576 ≤ length l → ((i : ℕ) → i < 576 → inBounds i (at l i) ≡ true) → bounded l ≡ true
+pub bounded-by : (l : List ℤ) → ledgerNumbers ≤ length l → ((i : ℕ) → i < ledgerNumbers → inBounds i (at l i) ≡ true) → bounded l ≡ true
 unfolding bounded
-bounded-by l h g = rw (le-leb 576 (length l) h) (all-by 576 (λ i. inBounds i (at l i)) g)
+bounded-by l h g = rw (le-leb ledgerNumbers (length l) h) (all-by ledgerNumbers (λ i. inBounds i (at l i)) g)
 
 module _ (l : List ℤ) (b : bounded l ≡ true) where
-  pub bounded-long : 576 ≤ length l
+  pub bounded-long : ledgerNumbers ≤ length l
   unfolding bounded
-  bounded-long = leb-true 576 (length l) (both (leb 576 (length l)) _ b .0)
+  bounded-long = leb-true ledgerNumbers (length l) (both (leb ledgerNumbers (length l)) _ b .0)
 
-  module _ (i : ℕ) (h : i < 576) where
+  module _ (i : ℕ) (h : i < ledgerNumbers) where
     pub bounded-at : inBounds i (at l i) ≡ true
     unfolding bounded
-    bounded-at = all-at 576 (λ j. inBounds j (at l j)) (both (leb 576 (length l)) _ b .1) i h
+    bounded-at = all-at ledgerNumbers (λ j. inBounds j (at l j)) (both (leb ledgerNumbers (length l)) _ b .1) i h
 
-    pub bounded-sized : Sized 7_200_000_000_000 (at l i)
+    pub bounded-sized : Sized mostEnergy (at l i)
     bounded-sized = in-bounds-sized i (at l i) bounded-at
 
   -- the sums of a cycle
   module _ (c : ℕ) (h : c < 64) where
-    pub distance-natural : between (pos 0) (pos 288_000_000) (distanceIn l c) ≡ true
+    pub distance-natural : between (pos 0) (pos (mostPhases * mostDistance)) (distanceIn l c) ≡ true
     distance-natural =
-        between-sum 72_000_000 (λ k. at l (9 * c + 4 + k)) 4
+        between-sum mostDistance (λ k. at l (9 * c + 4 + k)) 4
         (λ k g. sym (bounds-distance (9 * c + 4 + k) (at l (9 * c + 4 + k)) (omega arith) (omega arith)) ∙ bounded-at (9 * c + 4 + k) (omega arith))
 
-    pub energy-sized : Sized 28_800_000_000_000 (energyIn l c)
-    energy-sized = sized-sum 7_200_000_000_000 (λ k. at l (9 * c + k)) 4 (λ k g. bounded-sized (9 * c + k) (omega arith))
+    pub energy-sized : Sized (mostPhases * mostEnergy) (energyIn l c)
+    energy-sized = sized-sum mostEnergy (λ k. at l (9 * c + k)) 4 (λ k g. bounded-sized (9 * c + k) (omega arith))
 
   -- and of all cycles
-  pub energy-all-sized : Sized 1_843_200_000_000_000 (energyAll l)
-  energy-all-sized = sized-sum 28_800_000_000_000 (energyIn l) 64 energy-sized
+  pub energy-all-sized : Sized (mostCycles * (mostPhases * mostEnergy)) (energyAll l)
+  energy-all-sized = sized-sum (mostPhases * mostEnergy) (energyIn l) mostCycles energy-sized

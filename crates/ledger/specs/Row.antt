@@ -10,7 +10,15 @@ use lib.Signed.{ltZ}
 use Rattle.numbers.specs.Lists.{plus}
 use Rattle.numbers.specs.Range.{sumℤ}
 use Rattle.numbers.specs.Tests.{allBelow}
-use Rattle.rules.specs.Shown.{ledgerNumbers, inBounds}
+use Rattle.rules.specs.Bench.{mostOffered, mostShareEnergy, mostShareDistance}
+use Rattle.rules.specs.Shown.{ledgerNumbers, mostEnergy, inBounds}
+
+-- what one sample adds to a number at most, and what the numbers can come to while samples are taken
+abbrev pub mostStep : ℕ
+mostStep = mostShareEnergy + mostShareDistance + 1
+
+abbrev pub mostHeld : ℕ
+mostHeld = mostEnergy + mostStep * mostOffered
 
 -- number i
 abbrev pub at : List ℤ → ℕ → ℤ

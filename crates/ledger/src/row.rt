@@ -7,7 +7,8 @@ ghost use mir.Syntax.{w64};
 ghost use mir.Val.{SFits};
 ghost use Rattle.numbers.specs.Lists.{plus};
 ghost use Rattle.numbers.specs.Whole.{Sized, Small};
-ghost use Rattle.ledger.specs.Row.{outsideAdded, isOver, sampleAdded};
+ghost use Rattle.rules.specs.Bench.{mostShareEnergy, mostShareDistance};
+ghost use Rattle.ledger.specs.Row.{outsideAdded, isOver, sampleAdded, mostHeld};
 
 // z is added to the number at place k.
 fn add_at(row: &mut [i64], k: usize, z: i64)
@@ -19,7 +20,7 @@ fn add_at(row: &mut [i64], k: usize, z: i64)
 
 // A sample that is outside raises the outside count.
 fn count_outside(row: &mut [i64], outside: bool)
-    requires { ⌜ (length (now row) ≡ 9) × Small 1_000_000_000_000_000 (now row) ⌝ }
+    requires { ⌜ (length (now row) ≡ 9) × Small mostHeld (now row) ⌝ }
     ensures { λ _. ⌜ now (row .exit) ≡ outsideAdded 0 (now (row .entry)) outside ⌝ }
 {
     if outside {
@@ -37,8 +38,8 @@ pub fn add_sample(
     allowance: u32,
 ) -> bool
     requires { ⌜ (length (now row) ≡ 9) × (phase < 4) ⌝ }
-    requires { ⌜ Small 1_000_000_000_000_000 (now row) ⌝ }
-    requires { ⌜ Sized 150_000_000 energy × Sized 1_500 distance ⌝ }
+    requires { ⌜ Small mostHeld (now row) ⌝ }
+    requires { ⌜ Sized mostShareEnergy energy × Sized mostShareDistance distance ⌝ }
     ensures { λ r. ⌜ r ≡ isOver 0 (now (row .entry)) outside allowance ⌝ }
     ensures { λ _. ⌜ now (row .exit) ≡ sampleAdded 0 (now (row .entry)) phase energy distance outside allowance ⌝ }
 {

@@ -1,12 +1,14 @@
 // Sums over the ledger's numbers, where they are in bounds.
+use rules::limits::MOST_CYCLES;
 ghost use mathlib.Core.Path.{_≡_};
 ghost use mathlib.Core.Bool.{true};
 ghost use Prim.Native.Nat.{_+_, _≤_, _<_};
+ghost use Rattle.rules.specs.Shown.{ledgerNumbers};
 ghost use Rattle.ledger.specs.Row.{bounded, fourFrom, energyIn, distanceIn, energyAll, outsideAll};
 
 // The sum of the four numbers from place a.
 fn four_from(ledger: &[i64], a: usize) -> i64
-    requires { ⌜ (bounded (now ledger) ≡ true) × (a + 4 ≤ 576) ⌝ }
+    requires { ⌜ (bounded (now ledger) ≡ true) × (a + 4 ≤ ledgerNumbers) ⌝ }
     ensures { λ r. ⌜ r ≡ fourFrom (now (ledger .entry)) a ⌝ }
 {
     let mut sum: i64 = 0;
@@ -41,7 +43,7 @@ pub fn energy_all(ledger: &[i64]) -> i64
 {
     let mut sum: i64 = 0;
     let mut c: usize = 0;
-    while c < 64 {
+    while c < MOST_CYCLES {
         sum += energy_in(ledger, c);
         c += 1;
     }
@@ -55,7 +57,7 @@ pub fn outside_all(ledger: &[i64]) -> i64
 {
     let mut sum: i64 = 0;
     let mut c: usize = 0;
-    while c < 64 {
+    while c < MOST_CYCLES {
         sum += ledger[9 * c + 8];
         c += 1;
     }

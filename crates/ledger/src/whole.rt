@@ -1,11 +1,16 @@
 // The whole ledger.
+use rules::limits::LEAST_ENERGY;
+use rules::limits::LEDGER_NUMBERS;
+use rules::limits::MOST_DISTANCE;
+use rules::limits::MOST_ENERGY;
+use rules::limits::MOST_OUTSIDE;
 use values::is_between;
 ghost use mathlib.Core.Path.{_≡_};
 ghost use Prim.Native.Nat.{_≤_};
 ghost use lib.ListN.{length};
 ghost use lib.IntN.{pos};
 ghost use Rattle.numbers.specs.Lists.{cleared};
-ghost use Rattle.rules.specs.Shown.{inBounds};
+ghost use Rattle.rules.specs.Shown.{inBounds, ledgerNumbers};
 ghost use Rattle.ledger.specs.Row.{bounded};
 
 // Whether z may stand at place i.
@@ -14,23 +19,23 @@ fn is_in_bounds(i: usize, z: i64) -> bool
 {
     let a = i % 9;
     if a < 4 {
-        return is_between(-7_200_000_000_000, 7_200_000_000_000, z);
+        return is_between(LEAST_ENERGY, MOST_ENERGY, z);
     }
     if a < 8 {
-        return is_between(0, 72_000_000, z);
+        return is_between(0, MOST_DISTANCE, z);
     }
-    is_between(0, 48_000, z)
+    is_between(0, MOST_OUTSIDE, z)
 }
 
 // Whether the ledger is long enough and its 576 numbers are in bounds.
 pub fn is_bounded(ledger: &[i64]) -> bool
     ensures { λ r. ⌜ r ≡ bounded (now (ledger .entry)) ⌝ }
 {
-    if ledger.len() < 576 {
+    if ledger.len() < LEDGER_NUMBERS {
         return false;
     }
     let mut i: usize = 0;
-    while i < 576 {
+    while i < LEDGER_NUMBERS {
         if !is_in_bounds(i, ledger[i]) {
             return false;
         }
@@ -41,11 +46,11 @@ pub fn is_bounded(ledger: &[i64]) -> bool
 
 // The first 576 numbers are zero.
 pub fn clear_ledger(ledger: &mut [i64])
-    requires { ⌜ 576 ≤ length (now ledger) ⌝ }
-    ensures { λ _. ⌜ now (ledger .exit) ≡ cleared (pos 0) 576 (now (ledger .entry)) ⌝ }
+    requires { ⌜ ledgerNumbers ≤ length (now ledger) ⌝ }
+    ensures { λ _. ⌜ now (ledger .exit) ≡ cleared (pos 0) ledgerNumbers (now (ledger .entry)) ⌝ }
 {
     let mut i: usize = 0;
-    while i < 576 {
+    while i < LEDGER_NUMBERS {
         ledger[i] = 0;
         i += 1;
     }

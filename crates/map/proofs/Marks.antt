@@ -22,6 +22,8 @@ use Rattle.numbers.proofs.Range.{fold-same}
 use Rattle.map.specs.Map.{bitOf, isSet, mark, markedIf, opened, onesOf}
 use Rattle.map.proofs.Bit.{bit-or, bit-pow-same, bit-pow-other, ones-or, ones-bit, ones-bits}
 use Rattle.numbers.proofs.Sums.{sum-none, sum-grown, sum-more}
+use Rattle.rules.specs.Bench.{mostPositions}
+use Rattle.rules.specs.Shown.{mapWords}
 
 -- the ones of the first n words
 abbrev pub onesIn : ℕ → List ℕ → ℕ
@@ -69,23 +71,23 @@ bit-unset m p e =
     omega (arith, eqb-false (bitOf (getD m (p / 64) 0) (p % 64)) 1 e, mod-lt (getD m (p / 64) 0 / 2 ^ (p % 64)) (lit< {m = 0} {n = 2} tt))
 
 -- a mark where none was makes one more
-pub ones-mark : (m : List ℕ) (p : ℕ) → p < 48_000 → 750 ≤ length m → isSet m p ≡ false → onesOf (mark m p) ≡ onesOf m + 1
+pub ones-mark : (m : List ℕ) (p : ℕ) → p < mostPositions → mapWords ≤ length m → isSet m p ≡ false → onesOf (mark m p) ≡ onesOf m + 1
 ones-mark m p h g e =
     let w : ℕ = getD m (p / 64) 0 in
     let v : ℕ = bitOr w (2 ^ (p % 64)) in
-    sum-grown (λ k. ones (getD (mark m p) k 0)) (λ k. ones (getD m k 0)) (p / 64) 1 750 (omega arith)
+    sum-grown (λ k. ones (getD (mark m p) k 0)) (λ k. ones (getD m k 0)) (p / 64) 1 mapWords (omega arith)
     (ap ones (getD-set-same m (p / 64) v 0 (omega arith)) ∙ ones-or w (p % 64) (bit-unset m p e))
     (λ k d. ap ones (getD-set-other m (p / 64) k v 0 d))
 
 -- ---- a cleared map
 
-pub set-cleared : (m : List ℕ) (p : ℕ) → p < 48_000 → isSet (cleared 0 750 m) p ≡ false
+pub set-cleared : (m : List ℕ) (p : ℕ) → p < mostPositions → isSet (cleared 0 mapWords m) p ≡ false
 set-cleared m p h =
-    ap (λ (w : ℕ). eqb (bitOf w (p % 64)) 1) (getD-cleared 0 750 m (p / 64) 0 (omega arith))
+    ap (λ (w : ℕ). eqb (bitOf w (p % 64)) 1) (getD-cleared 0 mapWords m (p / 64) 0 (omega arith))
     ∙ ap (λ (x : ℕ). eqb (x % 2) 1) (zero-div (2 ^ (p % 64)))
 
-pub ones-cleared : (m : List ℕ) → onesOf (cleared 0 750 m) ≡ 0
-ones-cleared m = sum-none (λ k. ones (getD (cleared 0 750 m) k 0)) 750 (λ k l. ap ones (getD-cleared 0 750 m k 0 l) ∙ ones-bit 0 (lit< tt))
+pub ones-cleared : (m : List ℕ) → onesOf (cleared 0 mapWords m) ≡ 0
+ones-cleared m = sum-none (λ k. ones (getD (cleared 0 mapWords m) k 0)) mapWords (λ k l. ap ones (getD-cleared 0 mapWords m k 0 l) ∙ ones-bit 0 (lit< tt))
 
 -- ---- how many are set
 
@@ -111,17 +113,17 @@ ones-in-set (suc n) m h =
     ∙ sym (sum-more (λ p. bit (isSet m p)) (n * 64) 64)
     ∙ ap (sum (λ p. bit (isSet m p))) (sym (suc-mul n 64))
 
-pub ones-set : (m : List ℕ) → ((k : ℕ) → getD m k 0 < 2 ^ 64) → onesOf m ≡ sum (λ p. bit (isSet m p)) 48_000
-ones-set m h = ones-in-set 750 m h
+pub ones-set : (m : List ℕ) → ((k : ℕ) → getD m k 0 < 2 ^ 64) → onesOf m ≡ sum (λ p. bit (isSet m p)) mostPositions
+ones-set m h = ones-in-set mapWords m h
 
 -- ---- the map before and after a sample at position p
 
 -- what holds of both outcomes holds of the one that is
-opened-either : (P : List ℕ → Type 0) (m : List ℕ) (p : ℕ) → P (cleared 0 750 m) → P m → P (opened m p)
+opened-either : (P : List ℕ → Type 0) (m : List ℕ) (p : ℕ) → P (cleared 0 mapWords m) → P m → P (opened m p)
 unfolding opened
 opened-either P m p x y = go (eqb p 0)
   where
-    go : (b : Bool) → P (cond b (cleared 0 750 m) m)
+    go : (b : Bool) → P (cond b (cleared 0 mapWords m) m)
     go true = x
     go false = y
 
@@ -134,14 +136,14 @@ unfolding markedIf
 length-markedIf m p true = length-mark m p
 length-markedIf m p false = refl
 
-pub length-opened : (m : List ℕ) (p : ℕ) → 750 ≤ length m → length (opened m p) ≡ length m
-length-opened m p h = opened-either (λ x. length x ≡ length m) m p (length-cleared 0 750 m h) refl
+pub length-opened : (m : List ℕ) (p : ℕ) → mapWords ≤ length m → length (opened m p) ≡ length m
+length-opened m p h = opened-either (λ x. length x ≡ length m) m p (length-cleared 0 mapWords m h) refl
 
 -- so are the words past the first 750
-pub drop-markedIf : (m : List ℕ) (p : ℕ) (out : Bool) → p < 48_000 → drop 750 (markedIf m p out) ≡ drop 750 m
+pub drop-markedIf : (m : List ℕ) (p : ℕ) (out : Bool) → p < mostPositions → drop mapWords (markedIf m p out) ≡ drop mapWords m
 unfolding markedIf
-drop-markedIf m p true h = drop-set-lt 750 m (p / 64) (bitOr (getD m (p / 64) 0) (2 ^ (p % 64))) (omega arith)
+drop-markedIf m p true h = drop-set-lt mapWords m (p / 64) (bitOr (getD m (p / 64) 0) (2 ^ (p % 64))) (omega arith)
 drop-markedIf m p false h = refl
 
-pub drop-opened : (m : List ℕ) (p : ℕ) → drop 750 (opened m p) ≡ drop 750 m
-drop-opened m p = opened-either (λ x. drop 750 x ≡ drop 750 m) m p (drop-cleared 0 750 m) refl
+pub drop-opened : (m : List ℕ) (p : ℕ) → drop mapWords (opened m p) ≡ drop mapWords m
+drop-opened m p = opened-either (λ x. drop mapWords x ≡ drop mapWords m) m p (drop-cleared 0 mapWords m) refl

@@ -11,7 +11,7 @@ use lib.ListN.{length, take, drop}
 use Rattle.numbers.specs.Tests.{unless, settled}
 use Rattle.numbers.proofs.Tests.{pass, stop, both, not-refused, settled-taken, settled-refused}
 use Rattle.rules.specs.declared.Tolerances.{Tolerances}
-use Rattle.rules.specs.Cycle.{valid}
+use Rattle.rules.specs.Cycle.{valid, mostBytes}
 use Rattle.judge.specs.declared.Answer.{Answer}
 use Rattle.judge.specs.declared.Answer.the-variants as answer
 use Rattle.state.specs.declared.Run.{Run}
@@ -27,15 +27,15 @@ use Rattle.opening.specs.declared.Opening.{Opening}
 use Rattle.opening.specs.declared.OpenAnswer.{OpenAnswer}
 use Rattle.opening.specs.declared.OpenStep.the-variants.{Taken, Started, Refused}
 use Rattle.opening.specs.Opening.{Opened, openRefusal, begunAfter, openTaken, openByFront, openAt}
-use Rattle.opening.specs.Answers.{Held, mostCycle, hold, cycleIn, begunOf, isOpening, openGround, written, openAnswer, openField, openOf, memoryAfter}
+use Rattle.opening.specs.Answers.{Held, hold, cycleIn, begunOf, isOpening, openGround, written, openAnswer, openField, openOf, memoryAfter}
 use Rattle.opening.specs.Begin.{refusedAt, numberAnswer, cycleAnswer, startNumber, startAnswer}
 
 -- no number of an opening on its lent room is beyond its limits
 pub record Ready (o : Opening) (lent : List ℕ) : Type 0 where
   pub few : o .fields ≤ 3
-  pub size : o .cycle ≤ mostCycle
+  pub size : o .cycle ≤ mostBytes
   pub number : isNumber (o .vehicle) ≡ true
-  pub room : mostCycle ≤ length lent
+  pub room : mostBytes ≤ length lent
 
 -- that is what the tests before a field say
 pub ground-ready : (o : Opening) (room : List ℕ) → openGround o room ≡ 0 → Ready o room

@@ -7,6 +7,7 @@ use lib.Dec.{leb}
 use lib.IntN.{ℤ}
 use lib.ListN.{length, take, drop, replicate}
 use Rattle.numbers.specs.Tests.{unless, settled}
+use Rattle.rules.specs.Cycle.{mostBytes}
 use Rattle.state.specs.Refusals.{startRefusal}
 use Rattle.fields.specs.Values.{isNumber}
 use Rattle.opening.specs.Opening.{Begun, Opened, openWhole, openAt}
@@ -14,10 +15,6 @@ use Rattle.opening.specs.declared.OpenStep.{OpenStep}
 use Rattle.opening.specs.declared.OpenStep.the-variants as opening
 use Rattle.opening.specs.declared.OpenAnswer.{OpenAnswer}
 use Rattle.opening.specs.declared.Opening.{Opening}
-
--- "room for the largest cycle": 9..4811 bytes
-abbrev pub mostCycle : ℕ
-mostCycle = 4811
 
 -- the cycle in the lent room: its bytes are the first of it
 pub record Held : Type 0 where
@@ -47,11 +44,11 @@ openingOf k = record { fields = k .fields; vehicle = k .vehicle; cycle = k .kept
 
 -- no number of the state is beyond its limits
 unfoldable pub isOpening : Opening → Bool
-isOpening o = leb (o .fields) 3 && leb (o .cycle) mostCycle && isNumber (o .vehicle)
+isOpening o = leb (o .fields) 3 && leb (o .cycle) mostBytes && isNumber (o .vehicle)
 
 -- "shorter room is refused 1 before all else"
 unfoldable pub openGround : Opening → List ℕ → ℕ
-openGround o room = unless 1 (leb mostCycle (length room)) (unless 1 (isOpening o) 0)
+openGround o room = unless 1 (leb mostBytes (length room)) (unless 1 (isOpening o) 0)
 
 -- a field of an opening on its lent room, with ledger and map
 abbrev pub openField : Opening → List ℕ → List ℤ → List ℕ → ℕ → List ℕ → ℕ → Opened Held

@@ -5,6 +5,7 @@ use judge::Answer;
 use judge::start;
 use numbers::read16;
 use rules::Tolerances;
+use rules::limits::MOST_BYTES;
 use state::Run;
 ghost use mathlib.Core.Path.{_≡_};
 ghost use mathlib.Core.Bool.{true};
@@ -78,7 +79,7 @@ fn is_opening(o: Opening) -> bool
     if 3 < o.fields {
         return false;
     }
-    if 4811 < o.cycle {
+    if MOST_BYTES < o.cycle {
         return false;
     }
     let vehicle = o.vehicle;
@@ -89,7 +90,7 @@ fn is_opening(o: Opening) -> bool
 pub fn open_refusal(o: Opening, room: &[u8]) -> u32
     ensures { λ r. ⌜ r ≡ openGround o (now (room .entry)) ⌝ }
 {
-    if room.len() < 4811 {
+    if room.len() < MOST_BYTES {
         return 1;
     }
     if !is_opening(o) {

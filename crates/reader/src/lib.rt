@@ -102,15 +102,15 @@ pub fn reading_of(opening: Opening, run: Run) -> Reading
 pub fn read(
     reading: Reading,
     input: &[u8],
-    b: &[u8],
+    cycle: &[u8],
     ledger: &mut [i64],
     map: &mut [u64],
 ) -> ReadAnswer
-    ensures { λ r. ⌜ r ≡ readAnswer reading (readOf reading (now (b .entry)) (now (ledger .entry)) (now (map .entry)) (now (input .entry))) ⌝ }
-    ensures { λ _. ⌜ now (ledger .exit) ≡ readOf reading (now (b .entry)) (now (ledger .entry)) (now (map .entry)) (now (input .entry)) .tale .run .ledger ⌝ }
-    ensures { λ _. ⌜ now (map .exit) ≡ readOf reading (now (b .entry)) (now (ledger .entry)) (now (map .entry)) (now (input .entry)) .tale .run .map ⌝ }
+    ensures { λ r. ⌜ r ≡ readAnswer reading (readOf reading (now (cycle .entry)) (now (ledger .entry)) (now (map .entry)) (now (input .entry))) ⌝ }
+    ensures { λ _. ⌜ now (ledger .exit) ≡ readOf reading (now (cycle .entry)) (now (ledger .entry)) (now (map .entry)) (now (input .entry)) .tale .run .ledger ⌝ }
+    ensures { λ _. ⌜ now (map .exit) ≡ readOf reading (now (cycle .entry)) (now (ledger .entry)) (now (map .entry)) (now (input .entry)) .tale .run .map ⌝ }
 {
-    let a = reading::read_refusal(reading, b, &ledger[..], &map[..]);
+    let a = reading::read_refusal(reading, cycle, &ledger[..], &map[..]);
     if a != 0 {
         return ReadAnswer {
             step: Step::Refused(a),
@@ -120,8 +120,8 @@ pub fn read(
     let me = reading.vehicle;
     let run = reading.run;
     let t = run.tolerances;
-    let k = reading::along_at(reading, b);
-    let x = reading::one_field(&me[..], b, t, k, &mut *ledger, &mut *map, input);
+    let k = reading::along_at(reading, cycle);
+    let x = reading::one_field(&me[..], cycle, t, k, &mut *ledger, &mut *map, input);
     let on = x.along;
     let step = x.step;
     ReadAnswer {
@@ -134,20 +134,20 @@ pub fn read(
 pub fn read_fields(
     reading: Reading,
     input: &[u8],
-    b: &[u8],
+    cycle: &[u8],
     ledger: &mut [i64],
     map: &mut [u64],
 ) -> AllAnswer
-    requires { ⌜ readGround reading (now b) (now ledger) (now map) ≡ 0 ⌝ }
-    ensures { λ r. ⌜ r ≡ allAnswer reading (readAllOf reading (now (b .entry)) (now (ledger .entry)) (now (map .entry)) (now (input .entry))) ⌝ }
-    ensures { λ _. ⌜ now (ledger .exit) ≡ readAllOf reading (now (b .entry)) (now (ledger .entry)) (now (map .entry)) (now (input .entry)) .tale .run .ledger ⌝ }
-    ensures { λ _. ⌜ now (map .exit) ≡ readAllOf reading (now (b .entry)) (now (ledger .entry)) (now (map .entry)) (now (input .entry)) .tale .run .map ⌝ }
+    requires { ⌜ readGround reading (now cycle) (now ledger) (now map) ≡ 0 ⌝ }
+    ensures { λ r. ⌜ r ≡ allAnswer reading (readAllOf reading (now (cycle .entry)) (now (ledger .entry)) (now (map .entry)) (now (input .entry))) ⌝ }
+    ensures { λ _. ⌜ now (ledger .exit) ≡ readAllOf reading (now (cycle .entry)) (now (ledger .entry)) (now (map .entry)) (now (input .entry)) .tale .run .ledger ⌝ }
+    ensures { λ _. ⌜ now (map .exit) ≡ readAllOf reading (now (cycle .entry)) (now (ledger .entry)) (now (map .entry)) (now (input .entry)) .tale .run .map ⌝ }
 {
     let me = reading.vehicle;
     let run = reading.run;
     let t = run.tolerances;
-    let k = reading::along_at(reading, b);
-    let x = reading::all_fields(&me[..], b, t, k, &mut *ledger, &mut *map, input);
+    let k = reading::along_at(reading, cycle);
+    let x = reading::all_fields(&me[..], cycle, t, k, &mut *ledger, &mut *map, input);
     let on = x.along;
     let last = x.last;
     AllAnswer {
@@ -162,15 +162,15 @@ pub fn read_fields(
 pub fn read_all(
     reading: Reading,
     input: &[u8],
-    b: &[u8],
+    cycle: &[u8],
     ledger: &mut [i64],
     map: &mut [u64],
 ) -> AllAnswer
-    ensures { λ r. ⌜ r ≡ allAnswer reading (readAllOf reading (now (b .entry)) (now (ledger .entry)) (now (map .entry)) (now (input .entry))) ⌝ }
-    ensures { λ _. ⌜ now (ledger .exit) ≡ readAllOf reading (now (b .entry)) (now (ledger .entry)) (now (map .entry)) (now (input .entry)) .tale .run .ledger ⌝ }
-    ensures { λ _. ⌜ now (map .exit) ≡ readAllOf reading (now (b .entry)) (now (ledger .entry)) (now (map .entry)) (now (input .entry)) .tale .run .map ⌝ }
+    ensures { λ r. ⌜ r ≡ allAnswer reading (readAllOf reading (now (cycle .entry)) (now (ledger .entry)) (now (map .entry)) (now (input .entry))) ⌝ }
+    ensures { λ _. ⌜ now (ledger .exit) ≡ readAllOf reading (now (cycle .entry)) (now (ledger .entry)) (now (map .entry)) (now (input .entry)) .tale .run .ledger ⌝ }
+    ensures { λ _. ⌜ now (map .exit) ≡ readAllOf reading (now (cycle .entry)) (now (ledger .entry)) (now (map .entry)) (now (input .entry)) .tale .run .map ⌝ }
 {
-    let a = reading::read_refusal(reading, b, &ledger[..], &map[..]);
+    let a = reading::read_refusal(reading, cycle, &ledger[..], &map[..]);
     if a != 0 {
         return AllAnswer {
             reading,
@@ -179,7 +179,7 @@ pub fn read_all(
             last: Step::Refused(a),
         };
     }
-    read_fields(reading, input, b, &mut *ledger, &mut *map)
+    read_fields(reading, input, cycle, &mut *ledger, &mut *map)
 }
 
 // Whether the input may end where the run has started or not, with so many bytes of an unfinished field left.

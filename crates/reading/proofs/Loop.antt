@@ -10,6 +10,7 @@ use lib.ListN.{length, take, drop, length-drop}
 use lib.Seq.{drop-drop, drop-length}
 use Rattle.numbers.proofs.Lists.{part-rest}
 use Rattle.rules.specs.declared.Tolerances.{Tolerances}
+use Rattle.rules.specs.Bench.{mostOffered}
 use Rattle.step.specs.declared.Going.{Going}
 use Rattle.step.specs.Step.{State, Kept, goingOf}
 use Rattle.blocks.specs.Blocks.{samplesIn, sampleAt}
@@ -50,7 +51,7 @@ module _ (me b : List ℕ) (t : Tolerances) where
   -- ---- what every field keeps
   record Stands (s : State) : Type 0 where
     kept : Kept b t (goingOf b (t .time) s) (s .ledger) (s .map)
-    few : s .offered ≤ 4_000_000
+    few : s .offered ≤ mostOffered
 
   stands-after : (s : State) (passed tag : ℕ) (v : List ℕ) (c : Content) → Says me passed (s .offered) tag v c → Stands s
       → Stands (runAfter offeredOf (takeBlock b t) s v c)

@@ -8,6 +8,7 @@ use lib.IntN.{ℤ}
 use lib.ListN.{length}
 use Rattle.rules.specs.declared.Amounts.{Amounts}
 use Rattle.rules.specs.declared.Tolerances.{Tolerances}
+use Rattle.rules.specs.Bench.{mostOffered, mostPassed}
 use Rattle.step.specs.Step.{State, Kept, held, standing, goingOf, withGoing}
 use Rattle.blocks.specs.Blocks.{samplesIn, areSamples}
 use Rattle.fields.specs.Values.{isNumber, samplesOf}
@@ -68,13 +69,13 @@ module _ (b : List ℕ) (t : Tolerances) (k : Along) (l : List ℤ) (m : List �
 pub record Brought (b : List ℕ) (t : Tolerances) (k : Along) (l : List ℤ) (m : List ℕ) (v : List ℕ) (c : Content) : Type 0 where
   pub kept : Kept b t (k .going) l m
   pub long : c ≡ Own → 21 ≤ length v
-  pub room : c ≡ Own → k .going .offered + samplesIn (samplesOf v) ≤ 4_000_000
+  pub room : c ≡ Own → k .going .offered + samplesIn (samplesOf v) ≤ mostOffered
   pub samples : c ≡ Own → areSamples (samplesOf v) (samplesIn (samplesOf v)) ≡ true
-  pub count : c ≡ Foreign → k .passed + 1 ≤ 4_000_000
+  pub count : c ≡ Foreign → k .passed + 1 ≤ mostPassed
 
 -- what holds of a reading while fields are taken
 pub record Ready (me : List ℕ) (b : List ℕ) (t : Tolerances) (k : Along) (l : List ℤ) (m : List ℕ) : Type 0 where
   pub number : 17 ≤ length me
   pub valid : isNumber me ≡ true
   pub kept : Kept b t (k .going) l m
-  pub few : k .going .offered ≤ 4_000_000
+  pub few : k .going .offered ≤ mostOffered

@@ -8,6 +8,7 @@ use fields::is_number;
 use rules::Amounts;
 use rules::Charge;
 use rules::Tolerances;
+use rules::limits::MOST_PASSED;
 use state::Run;
 use state::ground_refusal;
 use step::Going;
@@ -19,6 +20,7 @@ ghost use mathlib.Core.Bool.{true};
 ghost use Prim.Native.Nat.{_+_, _≤_};
 ghost use lib.ListN.{length};
 ghost use Rattle.rules.specs.Cycle.{valid, seconds};
+ghost use Rattle.rules.specs.Bench.{mostPassed};
 ghost use Rattle.fields.specs.Fields.{isLength};
 ghost use Rattle.reading.specs.Reading.{bytesOf};
 ghost use Rattle.reading.specs.Answers.{isReading, readGround};
@@ -70,7 +72,7 @@ fn is_reading(r: Reading) -> bool
     if 4 < r.place {
         return false;
     }
-    if 4_000_000 < r.passed {
+    if MOST_PASSED < r.passed {
         return false;
     }
     let amounts = r.amounts;
@@ -82,20 +84,20 @@ fn is_reading(r: Reading) -> bool
 }
 
 // 1 or 2, or 0 where a field may be looked at.
-pub fn read_refusal(r: Reading, b: &[u8], ledger: &[i64], map: &[u64]) -> u32
-    ensures { λ x. ⌜ x ≡ readGround r (now (b .entry)) (now (ledger .entry)) (now (map .entry)) ⌝ }
+pub fn read_refusal(r: Reading, cycle: &[u8], ledger: &[i64], map: &[u64]) -> u32
+    ensures { λ x. ⌜ x ≡ readGround r (now (cycle .entry)) (now (ledger .entry)) (now (map .entry)) ⌝ }
 {
     if !is_reading(r) {
         return 1;
     }
     let run = r.run;
-    ground_refusal(run, b, ledger, map)
+    ground_refusal(run, cycle, ledger, map)
 }
 
 // Where the reading stands.
-pub fn along_at(r: Reading, b: &[u8]) -> Along
-    requires { ⌜ (valid (now b) ≡ true) × (seconds (now b) ≡ r .run .seconds) × (r .run .tolerances .time ≤ 40) ⌝ }
-    ensures { λ x. ⌜ x ≡ alongAt r (now (b .entry)) ⌝ }
+pub fn along_at(r: Reading, cycle: &[u8]) -> Along
+    requires { ⌜ (valid (now cycle) ≡ true) × (seconds (now cycle) ≡ r .run .seconds) × (r .run .tolerances .time ≤ 40) ⌝ }
+    ensures { λ x. ⌜ x ≡ alongAt r (now (cycle .entry)) ⌝ }
 {
     let run = r.run;
     let amounts = r.amounts;
@@ -103,7 +105,7 @@ pub fn along_at(r: Reading, b: &[u8]) -> Along
         place: r.place,
         passed: r.passed,
         amounts,
-        going: place(b, run),
+        going: place(cycle, run),
     }
 }
 
@@ -126,7 +128,7 @@ pub fn with_along(r: Reading, k: Along) -> Reading
 
 // "only the passed-over count rises".
 fn with_passed(k: Along) -> Along
-    requires { ⌜ k .passed + 1 ≤ 4_000_000 ⌝ }
+    requires { ⌜ k .passed + 1 ≤ mostPassed ⌝ }
     ensures { λ r. ⌜ r ≡ withPassed k ⌝ }
 {
     let amounts = k.amounts;
@@ -158,7 +160,7 @@ fn with_amounts(k: Along, place: u32, before: i64, after: i64, charge: Charge) -
 
 // A field's content is taken; n is how many bytes the field has.
 fn take_content(
-    b: &[u8],
+    cycle: &[u8],
     t: Tolerances,
     k: Along,
     ledger: &mut [i64],
@@ -167,10 +169,10 @@ fn take_content(
     c: Content,
     n: usize,
 ) -> Stepped
-    requires { ⌜ Brought (now b) t k (now ledger) (now map) (now v) c ⌝ }
-    ensures { λ r. ⌜ r ≡ steppedOf (now (b .entry)) (t .time) (takenAs (now (b .entry)) t k (now (ledger .entry)) (now (map .entry)) (now (v .entry)) c n) ⌝ }
-    ensures { λ _. ⌜ now (ledger .exit) ≡ takenAs (now (b .entry)) t k (now (ledger .entry)) (now (map .entry)) (now (v .entry)) c n .tale .run .ledger ⌝ }
-    ensures { λ _. ⌜ now (map .exit) ≡ takenAs (now (b .entry)) t k (now (ledger .entry)) (now (map .entry)) (now (v .entry)) c n .tale .run .map ⌝ }
+    requires { ⌜ Brought (now cycle) t k (now ledger) (now map) (now v) c ⌝ }
+    ensures { λ r. ⌜ r ≡ steppedOf (now (cycle .entry)) (t .time) (takenAs (now (cycle .entry)) t k (now (ledger .entry)) (now (map .entry)) (now (v .entry)) c n) ⌝ }
+    ensures { λ _. ⌜ now (ledger .exit) ≡ takenAs (now (cycle .entry)) t k (now (ledger .entry)) (now (map .entry)) (now (v .entry)) c n .tale .run .ledger ⌝ }
+    ensures { λ _. ⌜ now (map .exit) ≡ takenAs (now (cycle .entry)) t k (now (ledger .entry)) (now (map .entry)) (now (v .entry)) c n .tale .run .map ⌝ }
 {
     let going = k.going;
     let amounts = k.amounts;
@@ -182,7 +184,7 @@ fn take_content(
                 place: 2,
                 passed: k.passed,
                 amounts,
-                going: take_block(b, t, going, &mut *ledger, &mut *map, &v[21..]),
+                going: take_block(cycle, t, going, &mut *ledger, &mut *map, &v[21..]),
             },
         },
         Content::Foreign => Stepped {
@@ -211,7 +213,7 @@ fn take_content(
 // A whole field of an allowed length.
 fn whole_field(
     me: &[u8],
-    b: &[u8],
+    cycle: &[u8],
     t: Tolerances,
     k: Along,
     ledger: &mut [i64],
@@ -219,30 +221,30 @@ fn whole_field(
     tag: u8,
     v: &[u8],
 ) -> Stepped
-    requires { ⌜ Ready (now me) (now b) t k (now ledger) (now map) × (isLength tag (length (now v)) ≡ true) ⌝ }
-    ensures { λ r. ⌜ r ≡ steppedOf (now (b .entry)) (t .time) (wholeAs (now (b .entry)) t k (now (ledger .entry)) (now (map .entry)) (now (me .entry)) tag (now (v .entry))) ⌝ }
-    ensures { λ _. ⌜ now (ledger .exit) ≡ wholeAs (now (b .entry)) t k (now (ledger .entry)) (now (map .entry)) (now (me .entry)) tag (now (v .entry)) .tale .run .ledger ⌝ }
-    ensures { λ _. ⌜ now (map .exit) ≡ wholeAs (now (b .entry)) t k (now (ledger .entry)) (now (map .entry)) (now (me .entry)) tag (now (v .entry)) .tale .run .map ⌝ }
+    requires { ⌜ Ready (now me) (now cycle) t k (now ledger) (now map) × (isLength tag (length (now v)) ≡ true) ⌝ }
+    ensures { λ r. ⌜ r ≡ steppedOf (now (cycle .entry)) (t .time) (wholeAs (now (cycle .entry)) t k (now (ledger .entry)) (now (map .entry)) (now (me .entry)) tag (now (v .entry))) ⌝ }
+    ensures { λ _. ⌜ now (ledger .exit) ≡ wholeAs (now (cycle .entry)) t k (now (ledger .entry)) (now (map .entry)) (now (me .entry)) tag (now (v .entry)) .tale .run .ledger ⌝ }
+    ensures { λ _. ⌜ now (map .exit) ≡ wholeAs (now (cycle .entry)) t k (now (ledger .entry)) (now (map .entry)) (now (me .entry)) tag (now (v .entry)) .tale .run .map ⌝ }
 {
     let going = k.going;
     let c = content_of(me, k.place, k.passed, going.offered, tag, v);
-    take_content(b, t, k, &mut *ledger, &mut *map, v, c, 3 + v.len())
+    take_content(cycle, t, k, &mut *ledger, &mut *map, v, c, 3 + v.len())
 }
 
 // The field at the front of the input.
 pub fn one_field(
     me: &[u8],
-    b: &[u8],
+    cycle: &[u8],
     t: Tolerances,
     k: Along,
     ledger: &mut [i64],
     map: &mut [u64],
     input: &[u8],
 ) -> Stepped
-    requires { ⌜ Ready (now me) (now b) t k (now ledger) (now map) ⌝ }
-    ensures { λ r. ⌜ r ≡ steppedOf (now (b .entry)) (t .time) (frontAs (now (b .entry)) t k (now (ledger .entry)) (now (map .entry)) (now (me .entry)) (now (input .entry))) ⌝ }
-    ensures { λ _. ⌜ now (ledger .exit) ≡ frontAs (now (b .entry)) t k (now (ledger .entry)) (now (map .entry)) (now (me .entry)) (now (input .entry)) .tale .run .ledger ⌝ }
-    ensures { λ _. ⌜ now (map .exit) ≡ frontAs (now (b .entry)) t k (now (ledger .entry)) (now (map .entry)) (now (me .entry)) (now (input .entry)) .tale .run .map ⌝ }
+    requires { ⌜ Ready (now me) (now cycle) t k (now ledger) (now map) ⌝ }
+    ensures { λ r. ⌜ r ≡ steppedOf (now (cycle .entry)) (t .time) (frontAs (now (cycle .entry)) t k (now (ledger .entry)) (now (map .entry)) (now (me .entry)) (now (input .entry))) ⌝ }
+    ensures { λ _. ⌜ now (ledger .exit) ≡ frontAs (now (cycle .entry)) t k (now (ledger .entry)) (now (map .entry)) (now (me .entry)) (now (input .entry)) .tale .run .ledger ⌝ }
+    ensures { λ _. ⌜ now (map .exit) ≡ frontAs (now (cycle .entry)) t k (now (ledger .entry)) (now (map .entry)) (now (me .entry)) (now (input .entry)) .tale .run .map ⌝ }
 {
     let front = front_of(input);
     match front {
@@ -255,7 +257,16 @@ pub fn one_field(
             along: k,
         },
         Front::Field(tag, n) => {
-            whole_field(me, b, t, k, &mut *ledger, &mut *map, tag, &input[3..3 + n])
+            whole_field(
+                me,
+                cycle,
+                t,
+                k,
+                &mut *ledger,
+                &mut *map,
+                tag,
+                &input[3..3 + n],
+            )
         }
     }
 }
@@ -275,24 +286,24 @@ fn bytes_of(step: Step) -> usize
 // All whole fields of the input.
 pub fn all_fields(
     me: &[u8],
-    b: &[u8],
+    cycle: &[u8],
     t: Tolerances,
     k: Along,
     ledger: &mut [i64],
     map: &mut [u64],
     input: &[u8],
 ) -> Passage
-    requires { ⌜ Ready (now me) (now b) t k (now ledger) (now map) ⌝ }
-    ensures { λ r. ⌜ r ≡ passageOf (now (b .entry)) (t .time) (allAs (now (b .entry)) t k (now (ledger .entry)) (now (map .entry)) (now (me .entry)) (now (input .entry))) ⌝ }
-    ensures { λ _. ⌜ now (ledger .exit) ≡ allAs (now (b .entry)) t k (now (ledger .entry)) (now (map .entry)) (now (me .entry)) (now (input .entry)) .tale .run .ledger ⌝ }
-    ensures { λ _. ⌜ now (map .exit) ≡ allAs (now (b .entry)) t k (now (ledger .entry)) (now (map .entry)) (now (me .entry)) (now (input .entry)) .tale .run .map ⌝ }
+    requires { ⌜ Ready (now me) (now cycle) t k (now ledger) (now map) ⌝ }
+    ensures { λ r. ⌜ r ≡ passageOf (now (cycle .entry)) (t .time) (allAs (now (cycle .entry)) t k (now (ledger .entry)) (now (map .entry)) (now (me .entry)) (now (input .entry))) ⌝ }
+    ensures { λ _. ⌜ now (ledger .exit) ≡ allAs (now (cycle .entry)) t k (now (ledger .entry)) (now (map .entry)) (now (me .entry)) (now (input .entry)) .tale .run .ledger ⌝ }
+    ensures { λ _. ⌜ now (map .exit) ≡ allAs (now (cycle .entry)) t k (now (ledger .entry)) (now (map .entry)) (now (me .entry)) (now (input .entry)) .tale .run .map ⌝ }
 {
     let size = input.len();
     let mut along = k;
     let mut fields = 0;
     let mut used = 0;
     while used < size {
-        let x = one_field(me, b, t, along, &mut *ledger, &mut *map, &input[used..]);
+        let x = one_field(me, cycle, t, along, &mut *ledger, &mut *map, &input[used..]);
         along = x.along;
         let last = x.step;
         let n = bytes_of(last);

@@ -8,12 +8,14 @@ use Prim.Native.Nat.{ℕ, suc, _+_, _≤_}
 use lib.Dec.{eqb}
 use lib.IntN.{ℤ}
 use lib.ListN.{length, take}
+use Rattle.rules.specs.Shown.{ledgerNumbers, mapWords}
+use Rattle.rules.specs.Cycle.{mostBytes}
 use Rattle.state.specs.declared.Run.{Run}
 use Rattle.step.specs.Step.{State, startOf}
 use Rattle.state.specs.Refusals.{startRefusal}
 use Rattle.reading.specs.Reading.{Answered, fieldAt}
 use Rattle.opening.specs.Opening.{Begun, Opened, openAt}
-use Rattle.opening.specs.Answers.{Held, mostCycle, hold, cycleIn, nothing, begunOf, openingOf, openGround, openOf}
+use Rattle.opening.specs.Answers.{Held, hold, cycleIn, nothing, begunOf, openingOf, openGround, openOf}
 use Rattle.opening.specs.declared.Opening.{Opening}
 use Rattle.reading.specs.declared.Reading.{Reading}
 use Rattle.reading.specs.Answers.{startedReading, offeredOf, takeBlock, taleOf, readingOf, readGround, readOf, readAllOf}
@@ -28,9 +30,9 @@ pub record Lent : Type 0 where
   pub room₀ : List ℕ
   pub l₀ : List ℤ
   pub m₀ : List ℕ
-  pub long-room : mostCycle ≤ length room₀
-  pub long-ledger : 576 ≤ length l₀
-  pub long-map : 750 ≤ length m₀
+  pub long-room : mostBytes ≤ length room₀
+  pub long-ledger : ledgerNumbers ≤ length l₀
+  pub long-map : mapWords ≤ length m₀
 
 module _ (lent : Lent) where
   abbrev l₀ : List ℤ

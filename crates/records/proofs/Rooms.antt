@@ -13,7 +13,8 @@ use lib.Seq.{take-append-seam}
 use Rattle.numbers.specs.Tests.{unless}
 use Rattle.numbers.proofs.Tests.{pass}
 use Rattle.rules.specs.declared.Tolerances.{Tolerances}
-use Rattle.rules.specs.Cycle.{valid}
+use Rattle.rules.specs.Cycle.{valid, mostBytes}
+use Rattle.rules.specs.Shown.{ledgerNumbers, mapWords}
 use Rattle.state.specs.declared.Run.{Run}
 use Rattle.state.specs.Refusals.{startRefusal, started}
 use Rattle.fields.specs.declared.Front.{Front}
@@ -22,7 +23,7 @@ use Rattle.fields.specs.Fields.{valueIn, frontOf}
 use Rattle.fields.specs.Values.{isNumber, tolerancesIn}
 use Rattle.fields.proofs.Fronts.{front-whole, sizes, value-length}
 use Rattle.opening.specs.Opening.{Begun, Opened, opens, openRefusal, openByFront, openAt}
-use Rattle.opening.specs.Answers.{Held, mostCycle, written, hold, cycleIn, openingOf}
+use Rattle.opening.specs.Answers.{Held, written, hold, cycleIn, openingOf}
 use Rattle.opening.proofs.Starting.{Ready}
 use Rattle.records.specs.Records.{startRefused}
 use Rattle.opening.specs.declared.OpenStep.the-variants as step
@@ -50,7 +51,7 @@ abbrev pub onRoom : List ℤ → List ℕ → Begun Held → List ℕ → Opened
 onRoom l m = openAt hold cycleIn (λ b t. startRefusal b t l m)
 
 -- with a ledger and a map that are long enough
-module _ (l : List ℤ) (m : List ℕ) (long-ledger : 576 ≤ length l) (long-map : 750 ≤ length m) where
+module _ (l : List ℤ) (m : List ℕ) (long-ledger : ledgerNumbers ≤ length l) (long-map : mapWords ≤ length m) where
   abbrev start : List ℕ → Tolerances → ℕ
   start b t = startRefusal b t l m
 
@@ -112,7 +113,7 @@ module _ (l : List ℤ) (m : List ℕ) (long-ledger : 576 ≤ length l) (long-ma
       let w = front-whole i tag c e in
       let v = valueIn i c in
       let o = allowed hold cycleIn start k tag v a in
-      let long : length v ≤ mostCycle = omega (arith, value-length i c (w .long), sizes tag c (w .allowed) .most) in
+      let long : length v ≤ mostBytes = omega (arith, value-length i c (w .long), sizes tag c (w .allowed) .most) in
       let other : tag ≡ 4 → ⊥ = not-four tag (3 + c) (started (cycleIn (k .kept)) (tolerancesIn v)) (eqb tag 4) refl t in
       record {
         few = omega (arith, o .order, h .few);
@@ -125,7 +126,7 @@ module _ (l : List ℤ) (m : List ℕ) (long-ledger : 576 ≤ length l) (long-ma
       not-four tag c r true e f = absurd (false≢true cc)
       not-four tag c r false e f = eqb-false tag 4 e
 
-      size-most : (v : List ℕ) (b : Bool) → length v ≤ mostCycle → cond b (hold (k .kept) v) (k .kept) .size ≤ mostCycle
+      size-most : (v : List ℕ) (b : Bool) → length v ≤ mostBytes → cond b (hold (k .kept) v) (k .kept) .size ≤ mostBytes
       size-most v true g = g
       size-most v false g = h .size
 
@@ -133,6 +134,6 @@ module _ (l : List ℤ) (m : List ℕ) (long-ledger : 576 ≤ length l) (long-ma
       is-number v true f = f refl
       is-number v false f = h .number
 
-      room-long : (v : List ℕ) (b : Bool) → mostCycle ≤ length (cond b (hold (k .kept) v) (k .kept) .room)
+      room-long : (v : List ℕ) (b : Bool) → mostBytes ≤ length (cond b (hold (k .kept) v) (k .kept) .room)
       room-long v true = omega (arith, h .room, length-written (k .kept .room) v)
       room-long v false = h .room

@@ -93,7 +93,7 @@ fn say(what: &[u8], number: u32) {
 }
 
 // On a ledger of so many numbers and a map of so many words, all zero.
-fn try_read(what: &[u8], r: Reading, input: &[u8], b: &[u8], numbers: usize, words: usize) {
+fn try_read(what: &[u8], r: Reading, input: &[u8], cycle: &[u8], numbers: usize, words: usize) {
     let mut ledger = [0i64; 576];
     let mut map = [0u64; 750];
     if 576 < numbers {
@@ -102,7 +102,7 @@ fn try_read(what: &[u8], r: Reading, input: &[u8], b: &[u8], numbers: usize, wor
     if 750 < words {
         return;
     }
-    let x = read(r, input, b, &mut ledger[..numbers], &mut map[..words]);
+    let x = read(r, input, cycle, &mut ledger[..numbers], &mut map[..words]);
     let step = x.step;
     say(what, number_of(step));
 }

@@ -51,8 +51,8 @@ fn number_of(answer: Answer) -> u32 {
     }
 }
 
-fn try_start(what: &[u8], b: &[u8], speed: u32, ledger: &mut [i64], map: &mut [u64]) {
-    let answer = judge::start(b, tolerances(speed), &mut *ledger, &mut *map);
+fn try_start(what: &[u8], cycle: &[u8], speed: u32, ledger: &mut [i64], map: &mut [u64]) {
+    let answer = judge::start(cycle, tolerances(speed), &mut *ledger, &mut *map);
     say(what, number_of(answer));
 }
 
@@ -94,7 +94,7 @@ pub fn starts() {
 }
 
 // On memory of zeros, but for the first number of the ledger.
-fn try_sample(what: &[u8], run: Run, b: &[u8], speed: u16, number: i64) {
+fn try_sample(what: &[u8], run: Run, cycle: &[u8], speed: u16, number: i64) {
     let mut ledger = [0i64; 576];
     let mut map = [0u64; 750];
     ledger[0] = number;
@@ -103,7 +103,7 @@ fn try_sample(what: &[u8], run: Run, b: &[u8], speed: u16, number: i64) {
         voltage: 6000,
         current: -120,
     };
-    let answer = judge::sample(run, b, &mut ledger[..], &mut map[..], x);
+    let answer = judge::sample(run, cycle, &mut ledger[..], &mut map[..], x);
     say(what, number_of(answer));
 }
 
@@ -111,7 +111,7 @@ fn try_sample(what: &[u8], run: Run, b: &[u8], speed: u16, number: i64) {
 pub fn samples() {
     let run = stopped(4);
     let full = stopped(4_000_000);
-    let b = &CYCLE[..];
+    let cycle = &CYCLE[..];
     let other = &OTHER_CYCLE[..];
     try_sample(
         b"sample, a ledger number out of bounds, another cycle",
@@ -127,21 +127,21 @@ pub fn samples() {
         100,
         0,
     );
-    try_sample(b"sample, 4000000 offered", full, b, 100, 0);
+    try_sample(b"sample, 4000000 offered", full, cycle, 100, 0);
     try_sample(
         b"sample, 4000000 offered, a speed of 1501",
         full,
-        b,
+        cycle,
         1501,
         0,
     );
-    try_sample(b"sample, a speed of 1501", run, b, 1501, 0);
+    try_sample(b"sample, a speed of 1501", run, cycle, 1501, 0);
 }
 
-fn try_block(what: &[u8], run: Run, b: &[u8], first: u32, samples: &[u8]) {
+fn try_block(what: &[u8], run: Run, cycle: &[u8], first: u32, samples: &[u8]) {
     let mut ledger = [0i64; 576];
     let mut map = [0u64; 750];
-    let answer = judge::block(run, b, &mut ledger[..], &mut map[..], first, samples);
+    let answer = judge::block(run, cycle, &mut ledger[..], &mut map[..], first, samples);
     say(what, number_of(answer));
 }
 
@@ -150,7 +150,7 @@ pub fn blocks() {
     let run = stopped(4);
     let full = stopped(4_000_000);
     let beyond = stopped(4_000_001);
-    let b = &CYCLE[..];
+    let cycle = &CYCLE[..];
     let other = &OTHER_CYCLE[..];
     let none = &GOOD[..0];
     let good = &GOOD[..6];
@@ -164,27 +164,27 @@ pub fn blocks() {
         none,
     );
     try_block(b"block, another cycle, 0 bytes", run, other, 4, none);
-    try_block(b"block, 0 bytes", run, b, 4, none);
-    try_block(b"block, 7 bytes", run, b, 4, &GOOD[..7]);
-    try_block(b"block, 201 samples", run, b, 4, &long[..]);
-    try_block(b"block, 0 bytes, first number wrong", run, b, 0, none);
-    try_block(b"block, first number wrong", run, b, 0, good);
+    try_block(b"block, 0 bytes", run, cycle, 4, none);
+    try_block(b"block, 7 bytes", run, cycle, 4, &GOOD[..7]);
+    try_block(b"block, 201 samples", run, cycle, 4, &long[..]);
+    try_block(b"block, 0 bytes, first number wrong", run, cycle, 0, none);
+    try_block(b"block, first number wrong", run, cycle, 0, good);
     try_block(
         b"block, first number wrong, 4000000 offered",
         full,
-        b,
+        cycle,
         0,
         good,
     );
-    try_block(b"block, 4000000 offered", full, b, 4_000_000, good);
+    try_block(b"block, 4000000 offered", full, cycle, 4_000_000, good);
     try_block(
         b"block, 4000000 offered, a speed of 1501",
         full,
-        b,
+        cycle,
         4_000_000,
         fast,
     );
-    try_block(b"block, a speed of 1501", run, b, 4, fast);
+    try_block(b"block, a speed of 1501", run, cycle, 4, fast);
 }
 
 fn try_shown(what: &[u8], run: Run, ledger: &[i64], map: &[u64]) {

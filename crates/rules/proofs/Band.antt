@@ -10,7 +10,7 @@ use borrow.Author.Tests.{leb-true}
 use lib.Dec.{T, eqb, leb, lit≤, nleb→lt}
 use Rattle.numbers.proofs.Extremes.{least-at, greatest-at, least-wider, greatest-wider}
 use Rattle.numbers.proofs.Tests.{both, and-mono, leb-mono}
-use Rattle.rules.specs.Bench.{Tolerances, tolerable}
+use Rattle.rules.specs.Bench.{Tolerances, mostSpeedTolerance, mostTimeTolerance, mostAllowance, tolerable}
 use Rattle.rules.specs.Cycle.{seconds, point, positions}
 use Rattle.rules.specs.Band.{grid20, from, upto, lo, hi, insideOf, belowOf, side, inside, below, above, verdict}
 
@@ -101,15 +101,15 @@ verdict-zero b t p v = side-zero (lo b (t .time) p) (hi b (t .time) p) (t .speed
 
 -- what the test says of them
 pub record Tolerated (t : Tolerances) : Type 0 where
-  pub speed : t .speed ≤ 100
-  pub time : t .time ≤ 40
-  pub allowance : t .allowance ≤ 1200
+  pub speed : t .speed ≤ mostSpeedTolerance
+  pub time : t .time ≤ mostTimeTolerance
+  pub allowance : t .allowance ≤ mostAllowance
 
 pub tolerated : (t : Tolerances) → tolerable t ≡ true → Tolerated t
 unfolding tolerable
 tolerated t e =
-    let e₂ = both (leb (t .speed) 100 && leb (t .time) 40) _ e in
-    let e₁ = both (leb (t .speed) 100) _ (e₂ .0) in
+    let e₂ = both (leb (t .speed) mostSpeedTolerance && leb (t .time) mostTimeTolerance) _ e in
+    let e₁ = both (leb (t .speed) mostSpeedTolerance) _ (e₂ .0) in
     record { speed = leb-true _ _ (e₁ .0); time = leb-true _ _ (e₁ .1); allowance = leb-true _ _ (e₂ .1) }
 
 -- each of the three tolerances is kept or widened

@@ -12,7 +12,7 @@ use borrow.Author.Tests.{leb-true, ltb-true}
 use Rattle.numbers.specs.Tests.{allBelow}
 use Rattle.numbers.specs.Whole.{up}
 use Rattle.numbers.proofs.Tests.{both, all-at, not-refused}
-use Rattle.rules.specs.Closing.{weight, weighing, isRate, rateOf, weightedFigure, rangeFigure, closingRefusal, Unrounded}
+use Rattle.rules.specs.Closing.{weight, weighing, isRate, rateOf, weightedFigure, rangeFigure, closingRefusal, Unrounded, mostRate}
 use Rattle.rules.proofs.Closeness.{never-above, two-below}
 use Rattle.rules.proofs.Weighing.{least-rate, greatest-rate}
 
@@ -32,7 +32,7 @@ module _ (E : ℤ) (n : ℕ) (e d : ℕ → ℤ) where
     pub natural : (c : ℕ) → c < n → pos (up (e c)) ≡ e c
     pub fits : up (e 0) + up (e 1) ≤ up E
     pub moved : (c : ℕ) → c < n → 0 < up (d c)
-    pub rated : (c : ℕ) → c < n → (1 ≤ rateOf e d c) × (rateOf e d c ≤ 10_000_000)
+    pub rated : (c : ℕ) → c < n → (1 ≤ rateOf e d c) × (rateOf e d c ≤ mostRate)
     pub somewhere : 1 ≤ rangeFigure E n e d
 
   pub closes : closingRefusal E n e d ≡ 0 → Closes
@@ -55,7 +55,7 @@ module _ (E : ℤ) (n : ℕ) (e d : ℕ → ℤ) where
         moved = λ c l. above-zero (d c) (all-at n _ t₄ c l);
         rated = λ c l.
             let (lo, hi) = both (leb 1 (rateOf e d c)) _ (all-at n _ t₅ c l) in
-            (leb-true 1 (rateOf e d c) lo, leb-true (rateOf e d c) 10_000_000 hi);
+            (leb-true 1 (rateOf e d c) lo, leb-true (rateOf e d c) mostRate hi);
         somewhere = leb-true 1 _ t₆;
       }
 
@@ -73,8 +73,8 @@ module _ (E : ℤ) (n : ℕ) (e d : ℕ → ℤ) where
       greatest-rate (up E) n (λ c. up (e c)) (rateOf e d) (k .fits) some-energy (k .three) z (λ c l. h c l .1),
     )
 
-    pub weighted-within : (1 ≤ W) × (W ≤ 10_000_000)
-    weighted-within = weighted-between 1 10_000_000 (k .rated)
+    pub weighted-within : (1 ≤ W) × (W ≤ mostRate)
+    weighted-within = weighted-between 1 mostRate (k .rated)
 
     -- "It is never above the same weighting of the unrounded 100 e_c / d_c and less than 2 below it.": with the rates u c over the denominator g
     pub weighted-close : (g : ℕ) (u : ℕ → ℕ) → 0 < g → Unrounded g n (λ c. up (e c)) (λ c. up (d c)) u

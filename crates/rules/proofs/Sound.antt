@@ -15,12 +15,13 @@ use Rattle.numbers.proofs.Tests.{both, refuted, all-at, true-T}
 use Rattle.numbers.proofs.Order.{side}
 use Rattle.numbers.proofs.Firsts.{first-at, first-before, first-least, first-is}
 use Rattle.rules.specs.Cycle.{phases, phaseStart, phaseEnd, seconds, rises, isSpeed, valid, positions, phaseAt}
+use Rattle.rules.specs.Bench.{mostSeconds}
 
 pub record Sound (b : List ℕ) : Type 0 where
   pub some-phase : 1 ≤ phases b
   pub few-phases : phases b ≤ 4
   pub long : 2 ≤ seconds b
-  pub short : seconds b ≤ 2400
+  pub short : seconds b ≤ mostSeconds
   pub whole : length b ≡ 1 + 2 * phases b + 2 * (seconds b + 1)
   pub all-rise : allBelow (phases b) (rises b) ≡ true
   pub all-speeds : allBelow (seconds b + 1) (isSpeed b) ≡ true
@@ -45,7 +46,7 @@ sound b e =
     }
 
 -- where all else holds, the test of the points decides
-pub valid-by-points : (b : List ℕ) → 1 ≤ phases b → phases b ≤ 4 → 2 ≤ seconds b → seconds b ≤ 2400
+pub valid-by-points : (b : List ℕ) → 1 ≤ phases b → phases b ≤ 4 → 2 ≤ seconds b → seconds b ≤ mostSeconds
     → length b ≡ 1 + 2 * phases b + 2 * (seconds b + 1) → allBelow (phases b) (rises b) ≡ true → valid b ≡ allBelow (seconds b + 1) (isSpeed b)
 unfolding valid
 valid-by-points b p₁ p₂ t₁ t₂ n e = simp (le-leb _ _ p₁, le-leb _ _ p₂, le-leb _ _ t₁, le-leb _ _ t₂, eq-eqb _ _ n, e)

@@ -1,7 +1,7 @@
 -- 'Numbers on the bench': the limits, and what a sample brings.
 -- Assumes nothing.
 use mathlib.Core.Bool.{Bool, true, false, _&&_}
-use Prim.Native.Nat.{ℕ}
+use Prim.Native.Nat.{ℕ, _*_}
 use lib.Dec.{leb}
 use lib.IntN.{ℤ, pos, negℤ, _*ℤ_}
 use Rattle.numbers.specs.Whole.{between}
@@ -35,7 +35,14 @@ drawn x = negℤ (pos (x .voltage) *ℤ x .current)
 abbrev pub distance : Sample → ℕ
 distance x = x .speed
 
--- "A cycle has T seconds, 2 <= T <= 2400 .. and 1 to 4 phases"
+-- the most that one share of a run brings: energy either way, and distance
+abbrev pub mostShareEnergy : ℕ
+mostShareEnergy = mostVoltage * mostCurrent
+
+abbrev pub mostShareDistance : ℕ
+mostShareDistance = mostSpeed
+
+-- "A cycle has T seconds, 2 <= T <= 2400 .. and 1 to 4 phases"; "A cycle has 20T positions"
 abbrev pub leastSeconds : ℕ
 leastSeconds = 2
 
@@ -44,6 +51,9 @@ mostSeconds = 2400
 
 abbrev pub mostPhases : ℕ
 mostPhases = 4
+
+abbrev pub mostPositions : ℕ
+mostPositions = 20 * mostSeconds
 
 -- "A run has at most 64 cycles. At most 4,000,000 samples may be offered, and at most 4,000,000 blocks passed over."
 abbrev pub mostCycles : ℕ
@@ -56,8 +66,17 @@ abbrev pub mostPassed : ℕ
 mostPassed = 4_000_000
 
 -- "Tolerances: speed 0..100 (0.1 km/h), time 0..40 positions, allowance 0..1200 samples."
+abbrev pub mostSpeedTolerance : ℕ
+mostSpeedTolerance = 100
+
+abbrev pub mostTimeTolerance : ℕ
+mostTimeTolerance = 40
+
+abbrev pub mostAllowance : ℕ
+mostAllowance = 1200
+
 unfoldable pub tolerable : Tolerances → Bool
-tolerable t = leb (t .speed) 100 && leb (t .time) 40 && leb (t .allowance) 1200
+tolerable t = leb (t .speed) mostSpeedTolerance && leb (t .time) mostTimeTolerance && leb (t .allowance) mostAllowance
 
 -- the run has not ended
 abbrev pub isOpen : End → Bool

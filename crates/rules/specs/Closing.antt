@@ -10,8 +10,9 @@ use lib.Signed.{leZ, ltZ}
 use Rattle.numbers.specs.Range.{sum}
 use Rattle.numbers.specs.Tests.{allBelow, unless}
 use Rattle.numbers.specs.Whole.{up, between}
-use Rattle.rules.specs.Bench.{Sample, Tolerances}
+use Rattle.rules.specs.Bench.{Sample, Tolerances, mostCycles, mostPhases}
 use Rattle.rules.specs.Run.{energy, counted}
+use Rattle.rules.specs.Shown.{mostEnergy}
 pub use Rattle.rules.specs.declared.Charge.{Charge}
 pub use Rattle.rules.specs.declared.Charge.the-variants.{Absent as absent, Wh as wh}
 pub use Rattle.rules.specs.declared.Amounts.{Amounts}
@@ -20,16 +21,23 @@ pub use Rattle.rules.specs.declared.Amounts.{Amounts}
 abbrev pub mostTransfer : ℕ
 mostTransfer = 10_000_000_000_000
 
+abbrev pub mostCharge : ℕ
+mostCharge = 2_000_000
+
 abbrev pub isTransfer : ℤ → Bool
 isTransfer = between (negℤ (pos mostTransfer)) (pos mostTransfer)
 
 abbrev pub isCharge : Charge → Bool
 isCharge absent = true
-isCharge (wh A) = leb 1 A && leb A 2_000_000
+isCharge (wh A) = leb 1 A && leb A mostCharge
 
 -- "E is transfer energy before the test plus the energy of all counted samples"
 abbrev pub wholeEnergy : ℤ → List ℕ → Tolerances → (ℕ → Sample) → ℕ → ℤ
 wholeEnergy before b t s n = before +ℤ energy s (counted b t s n)
+
+-- the most that the whole energy can be, either way, of a ledger that is in bounds
+abbrev pub mostWhole : ℕ
+mostWhole = mostTransfer + mostCycles * (mostPhases * mostEnergy)
 
 -- "q_c = floor(100 e_c / d_c), in mWh/km"
 abbrev pub rate : ℕ → ℕ → ℕ

@@ -37,6 +37,16 @@ rises b k = ltb (phaseStart b k) (phaseEnd b k)
 abbrev pub isSpeed : List ℕ → ℕ → Bool
 isSpeed b k = leb (point b k) mostSpeed
 
+-- how many bytes so many phases and seconds take; the shortest cycle and the longest: "9..4811 bytes"
+abbrev pub bytesFor : ℕ → ℕ → ℕ
+bytesFor k t = 1 + 2 * k + 2 * (t + 1)
+
+abbrev pub leastBytes : ℕ
+leastBytes = bytesFor 1 leastSeconds
+
+abbrev pub mostBytes : ℕ
+mostBytes = bytesFor mostPhases mostSeconds
+
 -- the bytes are a cycle that breaks no rule, and its length matches
 unfoldable pub valid : List ℕ → Bool
 valid b =
@@ -44,7 +54,7 @@ valid b =
     && leb (phases b) mostPhases
     && leb leastSeconds (seconds b)
     && leb (seconds b) mostSeconds
-    && eqb (length b) (1 + 2 * phases b + 2 * (seconds b + 1))
+    && eqb (length b) (bytesFor (phases b) (seconds b))
     && allBelow (phases b) (rises b)
     && allBelow (seconds b + 1) (isSpeed b)
 

@@ -7,30 +7,30 @@ use lib.Dec.{ltb}
 use lib.IntN.{ℤ, pos, negℤ}
 use Rattle.numbers.specs.Range.{table}
 use Rattle.numbers.specs.Whole.{between}
-use Rattle.rules.specs.Bench.{Sample, Tolerances}
+use Rattle.rules.specs.Bench.{Sample, Tolerances, mostShareEnergy, mostShareDistance, mostPositions, mostCycles}
 use Rattle.rules.specs.Cycle.{positions}
 use Rattle.rules.specs.Run.{cycleOf, phaseEnergy, phaseDistance, out, outside, counted, judged}
 
 -- "a ledger of at least 576 signed 64-bit numbers and a map of at least 750 unsigned 64-bit words"
 abbrev pub ledgerNumbers : ℕ
-ledgerNumbers = 576
+ledgerNumbers = 9 * mostCycles
 
 abbrev pub mapWords : ℕ
-mapWords = 750
+mapWords = mostPositions / 64
 
 -- by its place among a cycle's nine: one of "four phase energies, four phase distances, the outside count"
 abbrev pub ofNine : {A : Type 0} → ℕ → (ℕ → A) → (ℕ → A) → A → A
 ofNine a energy distance outside = cond (ltb a 4) (energy a) (cond (ltb a 8) (distance (a - 4)) outside)
 
--- "out of bounds (energy beyond 7.2 × 10^12 either way, distance outside 0..72,000,000, outside count outside 0..48,000)"
+-- "out of bounds (energy beyond 7.2 × 10^12 either way, distance outside 0..72,000,000, outside count outside 0..48,000)": the most that a whole cycle brings
 abbrev pub mostEnergy : ℕ
-mostEnergy = 7_200_000_000_000
+mostEnergy = mostShareEnergy * mostPositions
 
 abbrev pub mostDistance : ℕ
-mostDistance = 72_000_000
+mostDistance = mostShareDistance * mostPositions
 
 abbrev pub mostOutside : ℕ
-mostOutside = 48_000
+mostOutside = mostPositions
 
 -- the number z may stand at place i of the ledger
 unfoldable pub inBounds : ℕ → ℤ → Bool

@@ -1,4 +1,5 @@
 // Document 01: the types that its rules speak of. The definitions are in specs/, their laws in proofs/.
+pub mod limits;
 
 // Speed in 0.1 km/h, voltage in 0.1 V, current in 0.1 A, negative while the battery is drained.
 pub struct Sample {

@@ -14,9 +14,10 @@ use Rattle.numbers.proofs.Tests.{not-refused, both, pass}
 use Rattle.rules.specs.declared.Tolerances.{Tolerances}
 use Rattle.rules.specs.declared.End.{End}
 use Rattle.rules.specs.declared.End.the-variants.{None as none, Stop as stop, Limit as limit}
-use Rattle.rules.specs.Bench.{isOpen, tolerable}
+use Rattle.rules.specs.Bench.{isOpen, tolerable, mostSeconds, mostOffered}
 use Rattle.rules.specs.Cycle.{seconds, valid}
 use Rattle.rules.proofs.Band.{Tolerated, tolerated}
+use Rattle.rules.specs.Shown.{ledgerNumbers, mapWords}
 use Rattle.ledger.specs.Row.{bounded}
 use Rattle.state.specs.State.{Ends, Run, endsOf, sameEnds, mostOf, isProgress, areEnds, isRun, isLent, isStarts, ground}
 use Rattle.state.specs.Refusals.{judgedBy, startRefusal}
@@ -52,13 +53,13 @@ judged-most limit most o c h g = omega (arith, progress-most limit most o c h .1
 
 pub record Limits (r : Run) : Type 0 where
   pub long : 2 ≤ r .seconds
-  pub short : r .seconds ≤ 2400
-  pub first : r .ends .first ≤ 2400
-  pub second : r .ends .second ≤ 2400
-  pub third : r .ends .third ≤ 2400
-  pub fourth : r .ends .fourth ≤ 2400
+  pub short : r .seconds ≤ mostSeconds
+  pub first : r .ends .first ≤ mostSeconds
+  pub second : r .ends .second ≤ mostSeconds
+  pub third : r .ends .third ≤ mostSeconds
+  pub fourth : r .ends .fourth ≤ mostSeconds
   pub tolerated : Tolerated (r .tolerances)
-  pub offered : r .offered ≤ 4_000_000
+  pub offered : r .offered ≤ mostOffered
   pub progress : isProgress (r .end) (mostOf r) (r .offered) (r .counted) ≡ true
 
 pub limits : (r : Run) → isRun r ≡ true → Limits r
@@ -106,8 +107,8 @@ run-by {r} h =
 -- ---- a start
 
 pub record Startable (b : List ℕ) (t : Tolerances) (l : List ℤ) (m : List ℕ) : Type 0 where
-  pub long-ledger : 576 ≤ length l
-  pub long-map : 750 ≤ length m
+  pub long-ledger : ledgerNumbers ≤ length l
+  pub long-map : mapWords ≤ length m
   pub sound : valid b ≡ true
   pub tolerated : Tolerated t
 
@@ -149,7 +150,7 @@ same-by d e h =
 
 pub record Ground (r : Run) (b : List ℕ) (l : List ℤ) (m : List ℕ) : Type 0 where
   pub bounded : bounded l ≡ true
-  pub long : 750 ≤ length m
+  pub long : mapWords ≤ length m
   pub limits : Limits r
   pub is-run : isRun r ≡ true
   pub sound : valid b ≡ true
@@ -180,7 +181,7 @@ ground-passed {r} e =
 
 -- whatever is asked after those tests: its answer, or the same refusal
 module _ (r : Run) (b : List ℕ) (l : List ℤ) (m : List ℕ) where
-  pub ground-by : bounded l ≡ true → 750 ≤ length m → isRun r ≡ true → isStarts r b ≡ true → (others : ℕ) → ground r b l m others ≡ others
+  pub ground-by : bounded l ≡ true → mapWords ≤ length m → isRun r ≡ true → isStarts r b ≡ true → (others : ℕ) → ground r b l m others ≡ others
   unfolding ground isLent unless
   ground-by h g i s others = rw (h, le-leb _ _ g, i, s)
 

@@ -8,6 +8,12 @@ use numbers::wide;
 use rules::End;
 use rules::Sample;
 use rules::Tolerances;
+use rules::limits::LEAST_SECONDS;
+use rules::limits::LEDGER_NUMBERS;
+use rules::limits::MAP_WORDS;
+use rules::limits::MOST_CYCLES;
+use rules::limits::MOST_OFFERED;
+use rules::limits::MOST_SECONDS;
 use values::is_sample;
 use values::is_tolerable;
 ghost use mathlib.Core.Path.{_≡_};
@@ -16,6 +22,11 @@ ghost use Prim.Native.Nat.{_<_};
 ghost use Rattle.rules.specs.Cycle.{seconds, valid};
 ghost use Rattle.state.specs.State.{endOrZero, endsOf, sameEnds, isProgress, areEnds, isRun, isLent, isStarts, ground};
 ghost use Rattle.state.specs.Refusals.{startRefusal, sampleRefusal, lastCycle};
+
+// As many cycles, and as many seconds, as the numbers beside them are wide.
+const CYCLES: u32 = MOST_CYCLES as u32;
+
+const MOST_END: u16 = MOST_SECONDS as u16;
 
 // The seconds at which the phases end; 0 for a phase that does not exist.
 pub struct Ends {
@@ -36,25 +47,25 @@ pub struct Run {
 }
 
 // The end of phase k, and 0 where there is no such phase.
-fn end_or_zero(b: &[u8], k: usize) -> u16
-    requires { ⌜ valid (now b) ≡ true ⌝ }
-    ensures { λ r. ⌜ r ≡ endOrZero (now (b .entry)) k ⌝ }
+fn end_or_zero(cycle: &[u8], k: usize) -> u16
+    requires { ⌜ valid (now cycle) ≡ true ⌝ }
+    ensures { λ r. ⌜ r ≡ endOrZero (now (cycle .entry)) k ⌝ }
 {
-    if k < wide(b[0]) {
-        return end_of(b, k);
+    if k < wide(cycle[0]) {
+        return end_of(cycle, k);
     }
     0
 }
 
-pub fn ends_of(b: &[u8]) -> Ends
-    requires { ⌜ valid (now b) ≡ true ⌝ }
-    ensures { λ r. ⌜ r ≡ endsOf (now (b .entry)) ⌝ }
+pub fn ends_of(cycle: &[u8]) -> Ends
+    requires { ⌜ valid (now cycle) ≡ true ⌝ }
+    ensures { λ r. ⌜ r ≡ endsOf (now (cycle .entry)) ⌝ }
 {
     Ends {
-        first: end_or_zero(b, 0),
-        second: end_or_zero(b, 1),
-        third: end_or_zero(b, 2),
-        fourth: end_or_zero(b, 3),
+        first: end_or_zero(cycle, 0),
+        second: end_or_zero(cycle, 1),
+        third: end_or_zero(cycle, 2),
+        fourth: end_or_zero(cycle, 3),
     }
 }
 
@@ -76,16 +87,16 @@ fn are_same(d: Ends, e: Ends) -> bool
 fn are_ends(e: Ends) -> bool
     ensures { λ r. ⌜ r ≡ areEnds e ⌝ }
 {
-    if 2400 < e.first {
+    if MOST_END < e.first {
         return false;
     }
-    if 2400 < e.second {
+    if MOST_END < e.second {
         return false;
     }
-    if 2400 < e.third {
+    if MOST_END < e.third {
         return false;
     }
-    e.fourth <= 2400
+    e.fourth <= MOST_END
 }
 
 // Whether the samples offered and counted are such as the end says.
@@ -118,10 +129,10 @@ fn is_progress(end: End, most: u32, offered: u32, counted: u32) -> bool
 fn is_run(run: Run) -> bool
     ensures { λ r. ⌜ r ≡ isRun run ⌝ }
 {
-    if run.seconds < 2 {
+    if run.seconds < LEAST_SECONDS {
         return false;
     }
-    if 2400 < run.seconds {
+    if MOST_SECONDS < run.seconds {
         return false;
     }
     let ends = run.ends;
@@ -132,11 +143,11 @@ fn is_run(run: Run) -> bool
     if !is_tolerable(tolerances) {
         return false;
     }
-    if 4_000_000 < run.offered {
+    if MOST_OFFERED < run.offered {
         return false;
     }
     let end = run.end;
-    is_progress(end, 64 * (20 * run.seconds), run.offered, run.counted)
+    is_progress(end, CYCLES * (20 * run.seconds), run.offered, run.counted)
 }
 
 // Whether ledger and map are long enough, and no number of ledger or state is out of bounds.
@@ -146,49 +157,49 @@ fn is_lent(run: Run, ledger: &[i64], map: &[u64]) -> bool
     if !is_bounded(ledger) {
         return false;
     }
-    if map.len() < 750 {
+    if map.len() < MAP_WORDS {
         return false;
     }
     is_run(run)
 }
 
 // Whether the bytes are a cycle, the start's in T and phase ends.
-fn is_starts(run: Run, b: &[u8]) -> bool
-    ensures { λ r. ⌜ r ≡ isStarts run (now (b .entry)) ⌝ }
+fn is_starts(run: Run, cycle: &[u8]) -> bool
+    ensures { λ r. ⌜ r ≡ isStarts run (now (cycle .entry)) ⌝ }
 {
-    if !is_cycle(b) {
+    if !is_cycle(cycle) {
         return false;
     }
-    if seconds_of(b) != run.seconds {
+    if seconds_of(cycle) != run.seconds {
         return false;
     }
     let ends = run.ends;
-    are_same(ends_of(b), ends)
+    are_same(ends_of(cycle), ends)
 }
 
 // 1 or 2, or 0 where a started run's operation may go on.
-pub fn ground_refusal(run: Run, b: &[u8], ledger: &[i64], map: &[u64]) -> u32
-    ensures { λ r. ⌜ r ≡ ground run (now (b .entry)) (now (ledger .entry)) (now (map .entry)) 0 ⌝ }
+pub fn ground_refusal(run: Run, cycle: &[u8], ledger: &[i64], map: &[u64]) -> u32
+    ensures { λ r. ⌜ r ≡ ground run (now (cycle .entry)) (now (ledger .entry)) (now (map .entry)) 0 ⌝ }
 {
     if !is_lent(run, ledger, map) {
         return 1;
     }
-    if !is_starts(run, b) {
+    if !is_starts(run, cycle) {
         return 2;
     }
     0
 }
 
-pub fn start_refusal(b: &[u8], t: Tolerances, ledger: &[i64], map: &[u64]) -> u32
-    ensures { λ r. ⌜ r ≡ startRefusal (now (b .entry)) t (now (ledger .entry)) (now (map .entry)) ⌝ }
+pub fn start_refusal(cycle: &[u8], t: Tolerances, ledger: &[i64], map: &[u64]) -> u32
+    ensures { λ r. ⌜ r ≡ startRefusal (now (cycle .entry)) t (now (ledger .entry)) (now (map .entry)) ⌝ }
 {
-    if ledger.len() < 576 {
+    if ledger.len() < LEDGER_NUMBERS {
         return 1;
     }
-    if map.len() < 750 {
+    if map.len() < MAP_WORDS {
         return 1;
     }
-    if !is_cycle(b) {
+    if !is_cycle(cycle) {
         return 2;
     }
     if !is_tolerable(t) {
@@ -197,14 +208,14 @@ pub fn start_refusal(b: &[u8], t: Tolerances, ledger: &[i64], map: &[u64]) -> u3
     0
 }
 
-pub fn sample_refusal(run: Run, b: &[u8], ledger: &[i64], map: &[u64], x: Sample) -> u32
-    ensures { λ r. ⌜ r ≡ sampleRefusal run (now (b .entry)) (now (ledger .entry)) (now (map .entry)) x ⌝ }
+pub fn sample_refusal(run: Run, cycle: &[u8], ledger: &[i64], map: &[u64], x: Sample) -> u32
+    ensures { λ r. ⌜ r ≡ sampleRefusal run (now (cycle .entry)) (now (ledger .entry)) (now (map .entry)) x ⌝ }
 {
-    let a = ground_refusal(run, b, ledger, map);
+    let a = ground_refusal(run, cycle, ledger, map);
     if a != 0 {
         return a;
     }
-    if 4_000_000 <= run.offered {
+    if MOST_OFFERED <= run.offered {
         return 7;
     }
     if !is_sample(x) {
@@ -214,9 +225,9 @@ pub fn sample_refusal(run: Run, b: &[u8], ledger: &[i64], map: &[u64], x: Sample
 }
 
 // The cycle of the sample last judged.
-pub fn last_cycle(run: Run, b: &[u8]) -> usize
-    requires { ⌜ (valid (now b) ≡ true) × (seconds (now b) ≡ run .seconds) × (isRun run ≡ true) ⌝ }
-    ensures { λ r. ⌜ (r ≡ lastCycle run (now (b .entry))) × (r < 64) ⌝ }
+pub fn last_cycle(run: Run, cycle: &[u8]) -> usize
+    requires { ⌜ (valid (now cycle) ≡ true) × (seconds (now cycle) ≡ run .seconds) × (isRun run ≡ true) ⌝ }
+    ensures { λ r. ⌜ (r ≡ lastCycle run (now (cycle .entry))) × (r < 64) ⌝ }
 {
     let n = 20 * run.seconds;
     let end = run.end;

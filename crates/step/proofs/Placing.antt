@@ -19,25 +19,25 @@ use Rattle.step.proofs.Standing.{position-is, cycle-is, phase-is, until
 -- where the sample after n counted ones stands, n + 1 with the last of them
 module _ (b : List ℕ) (o : Sound b) (n c p : ℕ) (hc : c ≡ cycleOf b n) (hp : p ≡ positionOf b n) where
   pub next-within : (k : ℕ) → p + 1 < positions b → n < most b → k ≡ phaseAt b (p + 1)
-      → _≡_ {A = Next} (record { end = none; cycle = c; position = p + 1; phase = k }) (nextOf b (n + 1))
+      → _≡_ {A = Next} (record { end = none; row = c; position = p + 1; phase = k }) (nextOf b (n + 1))
   next-within k h l e =
       let h′ : positionOf b n + 1 < positions b = omega arith in
       let there = ap (λ (i : ℕ). i + 1) hp ∙ next-position b o n h′ in
       λ i. record {
         end = cond (sym (still-open b o n h′ l) i) none limit;
-        cycle = (hc ∙ same-cycle b o n h′) i;
+        row = (hc ∙ same-cycle b o n h′) i;
         position = there i;
         phase = (e ∙ ap (phaseAt b) there) i;
       }
 
   pub next-first : (e : End) → positions b ≤ p + 1 → e ≡ cond (ltb (c + 1) 64) none limit
-      → _≡_ {A = Next} (record { end = e; cycle = c + 1; position = 0; phase = 0 }) (nextOf b (n + 1))
+      → _≡_ {A = Next} (record { end = e; row = c + 1; position = 0; phase = 0 }) (nextOf b (n + 1))
   next-first e h q =
       let h′ : positions b ≤ positionOf b n + 1 = omega arith in
       let there = first-position b o n h′ in
       λ i. record {
         end = (q ∙ ap (λ (k : ℕ). cond (ltb (k + 1) 64) none limit) hc ∙ ap (λ (x : Bool). cond x none limit) (limit-test b o n h′)) i;
-        cycle = (ap (λ (k : ℕ). k + 1) hc ∙ next-cycle b o n h′) i;
+        row = (ap (λ (k : ℕ). k + 1) hc ∙ next-cycle b o n h′) i;
         position = there i;
         phase = (sym (phase-first b o) ∙ ap (phaseAt b) there) i;
       }
@@ -49,7 +49,7 @@ module _ (b : List ℕ) (w : ℕ) (y : Window) (u : ℕ) where
 
   pub turned-is : (m n : ℕ) (x : Next) → x ≡ nextOf b n → y ≡ windowOf b w (x .position) → u ≡ min (y .until) (20 * phaseEnd b (x .phase))
       → _≡_ {A = Going}
-      (record { offered = m; counted = n; end = x .end; cycle = x .cycle; position = x .position; phase = x .phase; window = y; until = u })
+      (record { offered = m; counted = n; end = x .end; row = x .row; position = x .position; phase = x .phase; window = y; until = u })
       (standing b w m n (cond (ltb n (most b)) none limit))
   turned-is m n x hx hy hu =
       let there = hy ∙ ap (λ (z : Next). windowOf b w (z .position)) hx in
@@ -57,7 +57,7 @@ module _ (b : List ℕ) (w : ℕ) (y : Window) (u : ℕ) where
         offered = m;
         counted = n;
         end = hx i .end;
-        cycle = hx i .cycle;
+        row = hx i .row;
         position = hx i .position;
         phase = hx i .phase;
         window = there i;
@@ -86,7 +86,7 @@ module _ (b : List ℕ) (o : Sound b) (w : ℕ) (g : Going) (stands : g ≡ stan
 
   pub moved-is : g .counted < most b → (x : Window) → x ≡ windowOf b w (g .position + 1)
       → _≡_ {A = Going}
-      (record { offered = g .offered + 1; counted = g .counted + 1; end = none; cycle = g .cycle; position = g .position + 1; phase = g .phase; window = x; until = g .until })
+      (record { offered = g .offered + 1; counted = g .counted + 1; end = none; row = g .row; position = g .position + 1; phase = g .phase; window = x; until = g .until })
       (countedOne b w g)
   moved-is l x e =
       let inner = near-positions b o w p small near in
@@ -96,7 +96,7 @@ module _ (b : List ℕ) (o : Sound b) (w : ℕ) (g : Going) (stands : g ≡ stan
         offered = g .offered + 1;
         counted = n + 1;
         end = cond (sym (still-open b o n inner l) i) none limit;
-        cycle = (cycle-is b o w g stands ∙ same-cycle b o n inner) i;
+        row = (cycle-is b o w g stands ∙ same-cycle b o n inner) i;
         position = there i;
         phase = (phase-is b o w g stands ∙ same-phase b o w p small near ∙ ap (phaseAt b) next) i;
         window = (e ∙ ap (windowOf b w) there) i;

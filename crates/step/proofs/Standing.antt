@@ -13,6 +13,7 @@ use Rattle.numbers.proofs.Order.{digits, ltb-div}
 use Rattle.rules.specs.Cycle.{positions, phaseEnd, phaseAt}
 use Rattle.rules.specs.Run.{cycleOf, positionOf, most}
 use Rattle.rules.proofs.Sound.{Sound, real, four, ends-within, phase-exists, phase-stays}
+use Rattle.rules.specs.Bench.{mostPositions}
 use Rattle.window.specs.declared.Window.{Window}
 use Rattle.window.specs.Moving.{windowOf}
 use Rattle.window.proofs.Moves.{shifts}
@@ -22,8 +23,8 @@ module _ (b : List ℕ) (o : Sound b) (w : ℕ) (g : Going) (stands : g ≡ stan
   pub position-is : g .position ≡ positionOf b (g .counted)
   position-is = ap (λ (y : Going). y .position) stands
 
-  pub cycle-is : g .cycle ≡ cycleOf b (g .counted)
-  cycle-is = ap (λ (y : Going). y .cycle) stands
+  pub cycle-is : g .row ≡ cycleOf b (g .counted)
+  cycle-is = ap (λ (y : Going). y .row) stands
 
   pub phase-is : g .phase ≡ phaseAt b (positionOf b (g .counted))
   phase-is = ap (λ (y : Going). y .phase) stands
@@ -37,13 +38,13 @@ module _ (b : List ℕ) (o : Sound b) (w : ℕ) (g : Going) (stands : g ≡ stan
   pub position-small : g .position < positions b
   position-small = rw position-is (mod-lt (g .counted) (real o))
 
-  pub position-most : g .position < 48_000
+  pub position-most : g .position < mostPositions
   position-most = omega (arith, position-small, o .short)
 
   pub phase-small : g .phase < 4
   phase-small = rw phase-is (four b (positionOf b (g .counted)) o (mod-lt (g .counted) (real o)))
 
-  pub cycle-small : g .counted < most b → g .cycle < 64
+  pub cycle-small : g .counted < most b → g .row < 64
   cycle-small h = rw cycle-is (div-lt-iff-lt-mul {x = g .counted} {y = 64} (real o) .1 h)
 
 -- while only the ends of the window move

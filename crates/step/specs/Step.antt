@@ -14,13 +14,13 @@ use Rattle.rules.specs.declared.Sample.{Sample}
 use Rattle.rules.specs.declared.Tolerances.{Tolerances}
 use Rattle.rules.specs.declared.End.{End}
 use Rattle.rules.specs.declared.End.the-variants.{None as none, Stop as stop, Limit as limit}
-use Rattle.rules.specs.Bench.{isOpen, drawn, distance}
+use Rattle.rules.specs.Bench.{isOpen, drawn, distance, mostOffered}
 use Rattle.rules.specs.Cycle.{valid, phaseEnd, phaseAt}
 use Rattle.rules.specs.Band.{inside}
 use Rattle.rules.specs.Run.{cycleOf, positionOf, most}
 use Rattle.rules.specs.Shown.{ledgerNumbers, mapWords, mostEnergy}
 use Rattle.window.specs.Moving.{windowOf}
-use Rattle.ledger.specs.Row.{at, isOver, sampleAdded}
+use Rattle.ledger.specs.Row.{at, isOver, sampleAdded, mostStep}
 use Rattle.map.specs.Map.{opened, markedIf}
 use Rattle.state.specs.declared.Run.{Run}
 pub use Rattle.step.specs.declared.Going.{Going}
@@ -91,7 +91,7 @@ standing b w offered counted end = record {
   offered = offered;
   counted = counted;
   end = end;
-  cycle = cycleOf b counted;
+  row = cycleOf b counted;
   position = positionOf b counted;
   phase = phaseAt b (positionOf b counted);
   window = windowOf b w (positionOf b counted);
@@ -100,7 +100,7 @@ standing b w offered counted end = record {
 
 -- where sample n stands, and the end of a run that has counted the n before it
 abbrev pub nextOf : List ℕ → ℕ → Next
-nextOf b n = record { end = cond (ltb n (most b)) none limit; cycle = cycleOf b n; position = positionOf b n; phase = phaseAt b (positionOf b n) }
+nextOf b n = record { end = cond (ltb n (most b)) none limit; row = cycleOf b n; position = positionOf b n; phase = phaseAt b (positionOf b n) }
 
 abbrev pub goingOf : List ℕ → ℕ → State → Going
 goingOf b w a = standing b w (a .offered) (a .counted) (a .end)
@@ -111,7 +111,7 @@ offeredOne g end = record {
   offered = g .offered + 1;
   counted = g .counted;
   end = end;
-  cycle = g .cycle;
+  row = g .row;
   position = g .position;
   phase = g .phase;
   window = g .window;
@@ -131,7 +131,7 @@ pub record Counts (b : List ℕ) (w : ℕ) (g : Going) : Type 0 where
   pub sound : valid b ≡ true
   pub time : w ≤ 40
   pub stands : g ≡ standing b w (g .offered) (g .counted) (g .end)
-  pub few : g .offered < 4_000_000
+  pub few : g .offered < mostOffered
   pub room : g .counted < most b
 
 -- a going run with its memory, as a state
@@ -146,4 +146,4 @@ pub record Kept (b : List ℕ) (t : Tolerances) (g : Going) (l : List ℤ) (m : 
   pub room : isOpen (g .end) ≡ true → g .counted < most b
   pub long-ledger : ledgerNumbers ≤ length l
   pub long-map : mapWords ≤ length m
-  pub small : (i : ℕ) → i < ledgerNumbers → Sized (mostEnergy + 200_000_000 * g .offered) (at l i)
+  pub small : (i : ℕ) → i < ledgerNumbers → Sized (mostEnergy + mostStep * g .offered) (at l i)

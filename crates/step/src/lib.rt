@@ -9,6 +9,7 @@ use numbers::smaller;
 use rules::End;
 use rules::Sample;
 use rules::Tolerances;
+use rules::limits::MOST_CYCLES;
 use state::Run;
 use values::drawn_by;
 use window::Window;
@@ -22,22 +23,23 @@ ghost use lib.Dec.{ltb};
 ghost use lib.IntN.{pos};
 ghost use lib.ListN.{length};
 ghost use Rattle.numbers.specs.Whole.{Sized};
-ghost use Rattle.rules.specs.Bench.{isSample, isOpen, drawn, distance};
+ghost use Rattle.rules.specs.Bench.{isSample, isOpen, drawn, distance, mostOffered, mostPositions, mostCycles};
 ghost use Rattle.rules.specs.Cycle.{phaseEnd, seconds, phaseAt, positions, valid};
 ghost use Rattle.rules.specs.Band.{insideOf};
 ghost use Rattle.window.specs.Moving.{leastIn, greatestIn};
 ghost use Rattle.map.specs.Map.{opened, markedIf};
-ghost use Rattle.ledger.specs.Row.{at, isOver, sampleAdded};
+ghost use Rattle.ledger.specs.Row.{at, isOver, sampleAdded, mostHeld};
 ghost use Rattle.rules.specs.declared.End.the-variants.{None as none, Limit as limit};
+ghost use Rattle.rules.specs.Shown.{mapWords, ledgerNumbers};
 ghost use Rattle.step.specs.Step.{standing, nextOf, offeredOne, countedOne, Counts, held, goingOf, step, judge, Kept, withGoing};
 
-// Where a run stands while samples are taken: cycle, position and phase of the next sample and the window of its position, beside what changes in the run.
+// Where a run stands while samples are taken: row, position and phase of the next sample and the window of its position, beside what changes in the run.
 // Up to position `until` only the ends of the window move.
 pub struct Going {
     pub offered: u32,
     pub counted: u32,
     pub end: End,
-    pub cycle: usize,
+    pub row: usize,
     pub position: u32,
     pub phase: usize,
     pub window: Window,
@@ -47,39 +49,39 @@ pub struct Going {
 // Where the next sample stands.
 struct Next {
     end: End,
-    cycle: usize,
+    row: usize,
     position: u32,
     phase: usize,
 }
 
 // Up to which position phase and window stay what they are, but for the window's ends.
-fn until_in(b: &[u8], window: Window, phase: usize) -> u32
-    requires { ⌜ 2 + 2 * phase < length (now b) ⌝ }
-    ensures { λ r. ⌜ r ≡ min (window .until) (20 * phaseEnd (now (b .entry)) phase) ⌝ }
+fn until_in(cycle: &[u8], window: Window, phase: usize) -> u32
+    requires { ⌜ 2 + 2 * phase < length (now cycle) ⌝ }
+    ensures { λ r. ⌜ r ≡ min (window .until) (20 * phaseEnd (now (cycle .entry)) phase) ⌝ }
 {
-    smaller(window.until, 20 * (end_of(b, phase) as u32))
+    smaller(window.until, 20 * (end_of(cycle, phase) as u32))
 }
 
 // Where the run stands.
-pub fn place(b: &[u8], run: Run) -> Going
-    requires { ⌜ (valid (now b) ≡ true) × (seconds (now b) ≡ run .seconds) × (run .tolerances .time ≤ 40) ⌝ }
-    ensures { λ r. ⌜ r ≡ standing (now (b .entry)) (run .tolerances .time) (run .offered) (run .counted) (run .end) ⌝ }
+pub fn place(cycle: &[u8], run: Run) -> Going
+    requires { ⌜ (valid (now cycle) ≡ true) × (seconds (now cycle) ≡ run .seconds) × (run .tolerances .time ≤ 40) ⌝ }
+    ensures { λ r. ⌜ r ≡ standing (now (cycle .entry)) (run .tolerances .time) (run .offered) (run .counted) (run .end) ⌝ }
 {
     let n = 20 * run.seconds;
     let position = run.counted % n;
     let t = run.tolerances;
     let end = run.end;
-    let phase = phase_of(b, position);
-    let window = window_at(b, t.time, position);
+    let phase = phase_of(cycle, position);
+    let window = window_at(cycle, t.time, position);
     Going {
         offered: run.offered,
         counted: run.counted,
         end,
-        cycle: (run.counted / n) as usize,
+        row: (run.counted / n) as usize,
         position,
         phase,
         window,
-        until: until_in(b, window, phase),
+        until: until_in(cycle, window, phase),
     }
 }
 
@@ -101,11 +103,11 @@ pub fn with_going(run: Run, g: Going) -> Run
 }
 
 // The phase of a position, from that of the position before.
-fn next_phase(b: &[u8], phase: usize, position: u32) -> usize
-    requires { ⌜ (valid (now b) ≡ true) × (position + 1 < positions (now b)) × (phase ≡ phaseAt (now b) position) ⌝ }
-    ensures { λ r. ⌜ r ≡ phaseAt (now (b .entry)) (position + 1) ⌝ }
+fn next_phase(cycle: &[u8], phase: usize, position: u32) -> usize
+    requires { ⌜ (valid (now cycle) ≡ true) × (position + 1 < positions (now cycle)) × (phase ≡ phaseAt (now cycle) position) ⌝ }
+    ensures { λ r. ⌜ r ≡ phaseAt (now (cycle .entry)) (position + 1) ⌝ }
 {
-    if position + 1 < 20 * (end_of(b, phase) as u32) {
+    if position + 1 < 20 * (end_of(cycle, phase) as u32) {
         return phase;
     }
     phase + 1
@@ -113,7 +115,7 @@ fn next_phase(b: &[u8], phase: usize, position: u32) -> usize
 
 // A sample more is offered and not counted: with it the run has this end.
 fn offered_by(g: Going, end: End) -> Going
-    requires { ⌜ g .offered < 4_000_000 ⌝ }
+    requires { ⌜ g .offered < mostOffered ⌝ }
     ensures { λ r. ⌜ r ≡ offeredOne g end ⌝ }
 {
     let window = g.window;
@@ -121,7 +123,7 @@ fn offered_by(g: Going, end: End) -> Going
         offered: g.offered + 1,
         counted: g.counted,
         end,
-        cycle: g.cycle,
+        row: g.row,
         position: g.position,
         phase: g.phase,
         window,
@@ -130,76 +132,76 @@ fn offered_by(g: Going, end: End) -> Going
 }
 
 // The end when a cycle is finished: "limit" after 64 of them.
-fn end_after(cycles: usize) -> End
-    ensures { λ r. ⌜ r ≡ cond (ltb cycles 64) none limit ⌝ }
+fn end_after(rows: usize) -> End
+    ensures { λ r. ⌜ r ≡ cond (ltb rows mostCycles) none limit ⌝ }
 {
-    if cycles < 64 {
+    if rows < MOST_CYCLES {
         return End::None;
     }
     End::Limit
 }
 
 // Where the sample behind a counted one stands, and the run's end with that.
-fn next_place(b: &[u8], w: u32, g: Going) -> Next
-    requires { ⌜ Counts (now b) w g ⌝ }
-    ensures { λ r. ⌜ r ≡ nextOf (now (b .entry)) (g .counted + 1) ⌝ }
+fn next_place(cycle: &[u8], w: u32, g: Going) -> Next
+    requires { ⌜ Counts (now cycle) w g ⌝ }
+    ensures { λ r. ⌜ r ≡ nextOf (now (cycle .entry)) (g .counted + 1) ⌝ }
 {
     let position = g.position;
-    if position + 1 < 20 * seconds_of(b) {
+    if position + 1 < 20 * seconds_of(cycle) {
         return Next {
             end: End::None,
-            cycle: g.cycle,
+            row: g.row,
             position: position + 1,
-            phase: next_phase(b, g.phase, position),
+            phase: next_phase(cycle, g.phase, position),
         };
     }
-    let cycle = g.cycle + 1;
+    let row = g.row + 1;
     Next {
-        end: end_after(cycle),
-        cycle,
+        end: end_after(row),
+        row,
         position: 0,
         phase: 0,
     }
 }
 
 // A sample that counts, behind which phase, cycle or window may be others: all is worked out anew.
-fn turned_by(b: &[u8], w: u32, g: Going) -> Going
-    requires { ⌜ Counts (now b) w g ⌝ }
-    ensures { λ r. ⌜ r ≡ countedOne (now (b .entry)) w g ⌝ }
+fn turned_by(cycle: &[u8], w: u32, g: Going) -> Going
+    requires { ⌜ Counts (now cycle) w g ⌝ }
+    ensures { λ r. ⌜ r ≡ countedOne (now (cycle .entry)) w g ⌝ }
 {
-    let next = next_place(b, w, g);
+    let next = next_place(cycle, w, g);
     let end = next.end;
-    let window = window_at(b, w, next.position);
+    let window = window_at(cycle, w, next.position);
     Going {
         offered: g.offered + 1,
         counted: g.counted + 1,
         end,
-        cycle: next.cycle,
+        row: next.row,
         position: next.position,
         phase: next.phase,
         window,
-        until: until_in(b, window, next.phase),
+        until: until_in(cycle, window, next.phase),
     }
 }
 
 // A sample that counts.
-fn counted_by(b: &[u8], w: u32, g: Going) -> Going
-    requires { ⌜ Counts (now b) w g ⌝ }
-    ensures { λ r. ⌜ r ≡ countedOne (now (b .entry)) w g ⌝ }
+fn counted_by(cycle: &[u8], w: u32, g: Going) -> Going
+    requires { ⌜ Counts (now cycle) w g ⌝ }
+    ensures { λ r. ⌜ r ≡ countedOne (now (cycle .entry)) w g ⌝ }
 {
     let position = g.position;
     if g.until <= position + 1 {
-        return turned_by(b, w, g);
+        return turned_by(cycle, w, g);
     }
     let window = g.window;
     Going {
         offered: g.offered + 1,
         counted: g.counted + 1,
         end: End::None,
-        cycle: g.cycle,
+        row: g.row,
         position: position + 1,
         phase: g.phase,
-        window: shift(b, w, position, window),
+        window: shift(cycle, w, position, window),
         until: g.until,
     }
 }
@@ -213,7 +215,7 @@ fn is_outside(window: Window, s: u32, v: u32) -> bool
 
 // The map after a judged sample at position p.
 fn mark_sample(map: &mut [u64], p: usize, outside: bool)
-    requires { ⌜ (p < 48_000) × (750 ≤ length (now map)) ⌝ }
+    requires { ⌜ (p < mostPositions) × (mapWords ≤ length (now map)) ⌝ }
     ensures { λ _. ⌜ now (map .exit) ≡ markedIf (opened (now (map .entry)) p) p outside ⌝ }
 {
     open_map(&mut *map, p);
@@ -223,18 +225,18 @@ fn mark_sample(map: &mut [u64], p: usize, outside: bool)
 // The nine numbers of the open cycle are lent on: whether the sample brings the outside count above the allowance.
 fn add_in_cycle(
     ledger: &mut [i64],
-    cycle: usize,
+    row: usize,
     phase: usize,
     x: Sample,
     outside: bool,
     allowance: u32,
 ) -> bool
-    requires { ⌜ (576 ≤ length (now ledger)) × (cycle < 64) × (phase < 4) × (isSample x ≡ true) ⌝ }
-    requires { ⌜ ((i : ℕ) → i < 576 → Sized 1_000_000_000_000_000 (at (now ledger) i)) ⌝ }
-    ensures { λ r. ⌜ r ≡ isOver (9 * cycle) (now (ledger .entry)) outside allowance ⌝ }
-    ensures { λ _. ⌜ now (ledger .exit) ≡ sampleAdded (9 * cycle) (now (ledger .entry)) phase (drawn x) (pos (distance x)) outside allowance ⌝ }
+    requires { ⌜ (ledgerNumbers ≤ length (now ledger)) × (row < mostCycles) × (phase < 4) × (isSample x ≡ true) ⌝ }
+    requires { ⌜ ((i : ℕ) → i < ledgerNumbers → Sized mostHeld (at (now ledger) i)) ⌝ }
+    ensures { λ r. ⌜ r ≡ isOver (9 * row) (now (ledger .entry)) outside allowance ⌝ }
+    ensures { λ _. ⌜ now (ledger .exit) ≡ sampleAdded (9 * row) (now (ledger .entry)) phase (drawn x) (pos (distance x)) outside allowance ⌝ }
 {
-    let from = 9 * cycle;
+    let from = 9 * row;
     let upto = from + 9;
     let energy = drawn_by(x);
     add_sample(
@@ -249,48 +251,48 @@ fn add_in_cycle(
 
 // A sample of an open run.
 fn judge_one(
-    b: &[u8],
+    cycle: &[u8],
     t: Tolerances,
     g: Going,
     ledger: &mut [i64],
     map: &mut [u64],
     x: Sample,
 ) -> Going
-    requires { ⌜ Kept (now b) t g (now ledger) (now map) ⌝ }
-    requires { ⌜ (g .offered < 4_000_000) × (isSample x ≡ true) × (isOpen (g .end) ≡ true) ⌝ }
-    ensures { λ r. ⌜ r ≡ goingOf (now (b .entry)) (t .time) (judge (now (b .entry)) t (held g (now (ledger .entry)) (now (map .entry))) x) ⌝ }
-    ensures { λ _. ⌜ now (ledger .exit) ≡ judge (now (b .entry)) t (held g (now (ledger .entry)) (now (map .entry))) x .ledger ⌝ }
-    ensures { λ _. ⌜ now (map .exit) ≡ judge (now (b .entry)) t (held g (now (ledger .entry)) (now (map .entry))) x .map ⌝ }
+    requires { ⌜ Kept (now cycle) t g (now ledger) (now map) ⌝ }
+    requires { ⌜ (g .offered < mostOffered) × (isSample x ≡ true) × (isOpen (g .end) ≡ true) ⌝ }
+    ensures { λ r. ⌜ r ≡ goingOf (now (cycle .entry)) (t .time) (judge (now (cycle .entry)) t (held g (now (ledger .entry)) (now (map .entry))) x) ⌝ }
+    ensures { λ _. ⌜ now (ledger .exit) ≡ judge (now (cycle .entry)) t (held g (now (ledger .entry)) (now (map .entry))) x .ledger ⌝ }
+    ensures { λ _. ⌜ now (map .exit) ≡ judge (now (cycle .entry)) t (held g (now (ledger .entry)) (now (map .entry))) x .map ⌝ }
 {
     let position = g.position;
     let window = g.window;
     let outside = is_outside(window, t.speed, x.speed as u32);
     mark_sample(&mut *map, position as usize, outside);
-    let over = add_in_cycle(&mut *ledger, g.cycle, g.phase, x, outside, t.allowance);
+    let over = add_in_cycle(&mut *ledger, g.row, g.phase, x, outside, t.allowance);
     if over {
         return offered_by(g, End::Stop);
     }
-    counted_by(b, t.time, g)
+    counted_by(cycle, t.time, g)
 }
 
 // One accepted sample: judged while the run is open.
 pub fn take_one(
-    b: &[u8],
+    cycle: &[u8],
     t: Tolerances,
     g: Going,
     ledger: &mut [i64],
     map: &mut [u64],
     x: Sample,
 ) -> Going
-    requires { ⌜ Kept (now b) t g (now ledger) (now map) ⌝ }
-    requires { ⌜ (g .offered < 4_000_000) × (isSample x ≡ true) ⌝ }
-    ensures { λ r. ⌜ r ≡ goingOf (now (b .entry)) (t .time) (step (now (b .entry)) t (held g (now (ledger .entry)) (now (map .entry))) x) ⌝ }
-    ensures { λ _. ⌜ now (ledger .exit) ≡ step (now (b .entry)) t (held g (now (ledger .entry)) (now (map .entry))) x .ledger ⌝ }
-    ensures { λ _. ⌜ now (map .exit) ≡ step (now (b .entry)) t (held g (now (ledger .entry)) (now (map .entry))) x .map ⌝ }
+    requires { ⌜ Kept (now cycle) t g (now ledger) (now map) ⌝ }
+    requires { ⌜ (g .offered < mostOffered) × (isSample x ≡ true) ⌝ }
+    ensures { λ r. ⌜ r ≡ goingOf (now (cycle .entry)) (t .time) (step (now (cycle .entry)) t (held g (now (ledger .entry)) (now (map .entry))) x) ⌝ }
+    ensures { λ _. ⌜ now (ledger .exit) ≡ step (now (cycle .entry)) t (held g (now (ledger .entry)) (now (map .entry))) x .ledger ⌝ }
+    ensures { λ _. ⌜ now (map .exit) ≡ step (now (cycle .entry)) t (held g (now (ledger .entry)) (now (map .entry))) x .map ⌝ }
 {
     let end = g.end;
     match end {
-        End::None => judge_one(b, t, g, &mut *ledger, &mut *map, x),
+        End::None => judge_one(cycle, t, g, &mut *ledger, &mut *map, x),
         End::Stop => offered_by(g, end),
         End::Limit => offered_by(g, end),
     }

@@ -3,6 +3,16 @@ use rules::Amounts;
 use rules::Charge;
 use rules::Sample;
 use rules::Tolerances;
+use rules::limits::LEAST_CURRENT;
+use rules::limits::LEAST_TRANSFER;
+use rules::limits::MOST_ALLOWANCE;
+use rules::limits::MOST_CHARGE;
+use rules::limits::MOST_CURRENT;
+use rules::limits::MOST_SPEED;
+use rules::limits::MOST_SPEED_TOLERANCE;
+use rules::limits::MOST_TIME_TOLERANCE;
+use rules::limits::MOST_TRANSFER;
+use rules::limits::MOST_VOLTAGE;
 ghost use mathlib.Core.Path.{_≡_};
 ghost use Rattle.numbers.specs.Whole.{between};
 ghost use Rattle.rules.specs.Bench.{isSample, tolerable, drawn};
@@ -21,13 +31,13 @@ pub fn is_between(lo: i64, hi: i64, z: i64) -> bool
 pub fn is_sample(x: Sample) -> bool
     ensures { λ r. ⌜ r ≡ isSample x ⌝ }
 {
-    if 1500 < x.speed {
+    if MOST_SPEED < x.speed {
         return false;
     }
-    if 15_000 < x.voltage {
+    if MOST_VOLTAGE < x.voltage {
         return false;
     }
-    is_between(-10_000, 10_000, x.current as i64)
+    is_between(LEAST_CURRENT, MOST_CURRENT, x.current as i64)
 }
 
 // Drawn energy, in units of 0.5 mJ.
@@ -41,20 +51,20 @@ pub fn drawn_by(x: Sample) -> i64
 pub fn is_tolerable(t: Tolerances) -> bool
     ensures { λ r. ⌜ r ≡ tolerable t ⌝ }
 {
-    if 100 < t.speed {
+    if MOST_SPEED_TOLERANCE < t.speed {
         return false;
     }
-    if 40 < t.time {
+    if MOST_TIME_TOLERANCE < t.time {
         return false;
     }
-    t.allowance <= 1200
+    t.allowance <= MOST_ALLOWANCE
 }
 
 // Whether a transfer energy is within its limits.
 pub fn is_transfer(energy: i64) -> bool
     ensures { λ r. ⌜ r ≡ isTransfer energy ⌝ }
 {
-    is_between(-10_000_000_000_000, 10_000_000_000_000, energy)
+    is_between(LEAST_TRANSFER, MOST_TRANSFER, energy)
 }
 
 pub fn is_charge(charge: Charge) -> bool
@@ -66,7 +76,7 @@ pub fn is_charge(charge: Charge) -> bool
             if wh < 1 {
                 return false;
             }
-            wh <= 2_000_000
+            wh <= MOST_CHARGE
         }
     }
 }

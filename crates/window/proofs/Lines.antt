@@ -12,6 +12,7 @@ use Rattle.numbers.proofs.Tests.{all-at}
 use Rattle.rules.specs.Cycle.{seconds, point, positions, isSpeed}
 use Rattle.rules.specs.Band.{grid20}
 use Rattle.rules.proofs.Sound.{Sound}
+use Rattle.rules.specs.Bench.{mostSpeed}
 
 -- a weighted sum as its second weight grows by d
 line-rises : (l r d x y : ℕ) → x ≤ y → (l + d) * x + r * y ≤ l * x + (r + d) * y
@@ -56,11 +57,11 @@ module _ (b : List ℕ) (k x y : ℕ) (a : 20 * k ≤ x) (h : x ≤ y) (e : y �
   falls-within p = rw (at-x, at-y) (line-falls _ _ (y - x) _ _ p)
 
 -- a point of a cycle is a speed
-pub point-most : (b : List ℕ) → Sound b → (k : ℕ) → k ≤ seconds b → point b k ≤ 1500
+pub point-most : (b : List ℕ) → Sound b → (k : ℕ) → k ≤ seconds b → point b k ≤ mostSpeed
 point-most b o k h = leb-true _ _ (all-at (seconds b + 1) (isSpeed b) (o .all-speeds) k (omega arith))
 
 -- one place further: the next point's share grows by one, the last one's falls by one
-pub grid-next : (b : List ℕ) (g : ℕ) → point b (g / 20) ≤ 1500 → grid20 b (g + 1) ≡ grid20 b g + (point b (g / 20 + 1) + 1500 - point b (g / 20)) - 1500
+pub grid-next : (b : List ℕ) (g : ℕ) → point b (g / 20) ≤ mostSpeed → grid20 b (g + 1) ≡ grid20 b g + (point b (g / 20 + 1) + mostSpeed - point b (g / 20)) - mostSpeed
 grid-next b g h =
     let k = g / 20 in
     let p = grid-within b k g (20 - g % 20 - 1 + 1) (g % 20) (omega arith) (omega arith) in

@@ -41,16 +41,16 @@ struct Inner {
 }
 
 // The least and the greatest over the whole seconds after second j, up to second k.
-fn inner_over(b: &[u8], j: u32, k: u32) -> Inner
-    requires { ⌜ (valid (now b) ≡ true) × (k ≤ seconds (now b)) ⌝ }
-    ensures { λ r. ⌜ (r .low ≡ leastAfter (now (b .entry)) j k) × (r .high ≡ greatestAfter (now (b .entry)) j k) ⌝ }
+fn inner_over(cycle: &[u8], j: u32, k: u32) -> Inner
+    requires { ⌜ (valid (now cycle) ≡ true) × (k ≤ seconds (now cycle)) ⌝ }
+    ensures { λ r. ⌜ (r .low ≡ leastAfter (now (cycle .entry)) j k) × (r .high ≡ greatestAfter (now (cycle .entry)) j k) ⌝ }
 {
     let n = less(k, j);
     let mut low = 30000;
     let mut high = 0;
     let mut i = 0;
     while i < n {
-        let x = 20 * (point_of(b, (j + 1 + i) as usize) as u32);
+        let x = 20 * (point_of(cycle, (j + 1 + i) as usize) as u32);
         low = smaller(low, x);
         high = larger(high, x);
         i += 1;
@@ -59,16 +59,16 @@ fn inner_over(b: &[u8], j: u32, k: u32) -> Inner
 }
 
 // The window of position p.
-pub fn window_at(b: &[u8], w: u32, p: u32) -> Window
-    requires { ⌜ (valid (now b) ≡ true) × (w ≤ 40) × (p < positions (now b)) ⌝ }
-    ensures { λ r. ⌜ r ≡ windowOf (now (b .entry)) w p ⌝ }
-    ensures { λ r. ⌜ (leastIn r ≡ lo (now (b .entry)) w p) × (greatestIn r ≡ hi (now (b .entry)) w p) ⌝ }
+pub fn window_at(cycle: &[u8], w: u32, p: u32) -> Window
+    requires { ⌜ (valid (now cycle) ≡ true) × (w ≤ 40) × (p < positions (now cycle)) ⌝ }
+    ensures { λ r. ⌜ r ≡ windowOf (now (cycle .entry)) w p ⌝ }
+    ensures { λ r. ⌜ (leastIn r ≡ lo (now (cycle .entry)) w p) × (greatestIn r ≡ hi (now (cycle .entry)) w p) ⌝ }
 {
-    let t = seconds_of(b);
+    let t = seconds_of(cycle);
     let n = 20 * t;
-    let left = left_edge(b, w, p);
-    let right = right_edge(b, w, p, t);
-    let inner = inner_over(b, less(p, w) / 20, smaller(n, p + w) / 20);
+    let left = left_edge(cycle, w, p);
+    let right = right_edge(cycle, w, p, t);
+    let inner = inner_over(cycle, less(p, w) / 20, smaller(n, p + w) / 20);
     Window {
         left: left.value,
         leftrise: left.rise,
@@ -81,9 +81,9 @@ pub fn window_at(b: &[u8], w: u32, p: u32) -> Window
 }
 
 // The window of position p + 1, from that of position p: only its ends move, as long as nothing is to be worked out anew.
-pub fn shift(b: &[u8], w: u32, p: u32, window: Window) -> Window
-    requires { ⌜ (valid (now b) ≡ true) × (p + 1 < positions (now b)) × (window ≡ windowOf (now b) w p) × (p + 1 < window .until) ⌝ }
-    ensures { λ r. ⌜ r ≡ windowOf (now (b .entry)) w (p + 1) ⌝ }
+pub fn shift(cycle: &[u8], w: u32, p: u32, window: Window) -> Window
+    requires { ⌜ (valid (now cycle) ≡ true) × (p + 1 < positions (now cycle)) × (window ≡ windowOf (now cycle) w p) × (p + 1 < window .until) ⌝ }
+    ensures { λ r. ⌜ r ≡ windowOf (now (cycle .entry)) w (p + 1) ⌝ }
 {
     Window {
         left: moved(window.left, window.leftrise),
@@ -121,9 +121,9 @@ pub fn verdict_in(window: Window, s: u32, v: u32) -> u32
 }
 
 // The verdict on the speed v at position p: 0 inside, 1 below, 2 above.
-pub fn verdict_at(b: &[u8], t: Tolerances, p: u32, v: u32) -> u32
-    requires { ⌜ (valid (now b) ≡ true) × (t .time ≤ 40) × (p < positions (now b)) ⌝ }
-    ensures { λ r. ⌜ r ≡ verdict (now (b .entry)) t p v ⌝ }
+pub fn verdict_at(cycle: &[u8], t: Tolerances, p: u32, v: u32) -> u32
+    requires { ⌜ (valid (now cycle) ≡ true) × (t .time ≤ 40) × (p < positions (now cycle)) ⌝ }
+    ensures { λ r. ⌜ r ≡ verdict (now (cycle .entry)) t p v ⌝ }
 {
-    verdict_in(window_at(b, t.time, p), t.speed, v)
+    verdict_in(window_at(cycle, t.time, p), t.speed, v)
 }

@@ -26,7 +26,7 @@ module _ (c : tie.Else1) where
   start = c .before .before .before .before .before
 
   abbrev E : ℤ
-  E = whole (start .args .run) (start .args .amounts) (start .args .b .now) (start .args .ledger .now) (start .args .map .now)
+  E = whole (start .args .run) (start .args .amounts) (start .args .cycle .now) (start .args .ledger .now) (start .args .map .now)
 
   abbrev found : Closed
   found = c .before .before .closing-of .result
@@ -35,15 +35,15 @@ module _ (c : tie.Else1) where
   abbrev by : Charge → Figure
   by =
       let l = start .args .ledger .now in
-      chargedBy E (finishedCycles (start .args .b .now) (start .args .run .counted)) (energyIn l) (distanceIn l) (start .args .amounts .after)
+      chargedBy E (finishedCycles (start .args .cycle .now) (start .args .run .counted)) (energyIn l) (distanceIn l) (start .args .amounts .after)
 
-  is-closing : found ≡ closingOf (start .args .run) (start .args .amounts) (start .args .b .now) (start .args .ledger .now) (start .args .map .now)
+  is-closing : found ≡ closingOf (start .args .run) (start .args .amounts) (start .args .cycle .now) (start .args .ledger .now) (start .args .map .now)
   is-closing = c .before .before .closing-of .ensures
 
-  taken : refusalOf (start .args .run) (start .args .amounts) (start .args .b .now) (start .args .ledger .now) (start .args .map .now) ≡ 0
+  taken : refusalOf (start .args .run) (start .args .amounts) (start .args .cycle .now) (start .args .ledger .now) (start .args .map .now) ≡ 0
   taken = sym (ap (λ (x : Closed). x .refusal) is-closing) ∙ c .if1 .left
 
-  facts : Standing (start .args .run) (start .args .amounts) (start .args .b .now) (start .args .ledger .now) (start .args .map .now)
+  facts : Standing (start .args .run) (start .args .amounts) (start .args .cycle .now) (start .args .ledger .now) (start .args .map .now)
   facts = nothing-refused _ _ _ _ _ taken .0
 
   charged : Charged E (found .range)

@@ -14,7 +14,7 @@ use Rattle.numbers.specs.Tests.{allBelow, unless}
 use Rattle.numbers.proofs.Tests.{both, pass, stop, tests}
 use Rattle.numbers.proofs.Whole.{sized-add, le-not}
 use Rattle.numbers.proofs.Signed.{sfits, read}
-use Rattle.rules.specs.Closing.{isRate, rateOf, closingRefusal}
+use Rattle.rules.specs.Closing.{isRate, rateOf, closingRefusal, mostWhole}
 use Rattle.ledger.specs.Row.{energyIn, distanceIn}
 use Rattle.ledger.proofs.Bounded.{energy-sized}
 use Rattle.consumption.specs.Figures.{Closable, closedOf}
@@ -162,7 +162,7 @@ module _ (c : tie.Else4) where
   energy-fits = fits (c .before .before)
 
   -- the whole energy is a natural number
-  natural : Positive 2_000_000_000_000_000 (begin .args .total)
+  natural : Positive mostWhole (begin .args .total)
   natural = positive _ _ (begin .pre .2) (some (begin .args .ledger .now) (begin .args .n) closable (begin .args .total) energy-fits)
 
   total-cast : Cast (machine (begin .args .total)) (begin .args .total)

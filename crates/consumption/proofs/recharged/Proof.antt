@@ -2,7 +2,7 @@
 -- Assumes nothing.
 use mathlib.Core.Bool.{Bool, true, false, not}
 use mathlib.Core.Path.{_≡_, ap, ap₂, sym, _∙_}
-use Prim.Native.Nat.{ℕ, _*_, _/_}
+use Prim.Native.Nat.{ℕ, _+_, _*_, _/_}
 use native.Mathlib.Omega.{arith}
 use borrow.Author.Needs.{needs}
 use lib.IntN.{ℤ, pos, _+ℤ_}
@@ -15,7 +15,7 @@ use Rattle.numbers.proofs.Whole.{le-up, le-not, abs-is, sized-add}
 use Rattle.numbers.proofs.Signed.{read, sum-fits, sum-read}
 use Rattle.wide.specs.Ratio.{ratio}
 use Rattle.wide.proofs.Answers.{is-quotient, over-quotient}
-use Rattle.rules.specs.Closing.{recharge}
+use Rattle.rules.specs.Closing.{recharge, mostWhole, mostTransfer}
 use Rattle.rules.proofs.Recharge.{twice}
 use Rattle.consumption.specs.declared.Figure.the-variants.{Is}
 use Rattle.consumption.specs.Figures.{rechargedBy}
@@ -30,7 +30,7 @@ module _ (s : tie.Start) where
   abbrev EF : ℤ
   EF = s .args .total +ℤ s .args .after
 
-  sum-sized : Sized 2_010_000_000_000_000 EF
+  sum-sized : Sized (mostWhole + mostTransfer) EF
   sum-sized = sized-add (s .pre .0 .3) (s .pre .1 .0)
 
   abbrev machine : ℤ

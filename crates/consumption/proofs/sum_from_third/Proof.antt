@@ -2,13 +2,14 @@
 -- Assumes nothing.
 use mathlib.Core.List.{List}
 use mathlib.Core.Path.{_≡_, refl, sym, ap, _∙_}
-use Prim.Native.Nat.{ℕ, _+_, _-_, _≤_}
+use Prim.Native.Nat.{ℕ, _+_, _-_, _*_, _≤_}
 use native.Mathlib.Omega.{arith}
 use lib.IntN.{ℤ}
 use Rattle.numbers.specs.Range.{fold, sum}
 use Rattle.numbers.proofs.Range.{fold-more}
 use Rattle.numbers.proofs.Sums.{sum-most}
-use Rattle.rules.specs.Closing.{rateOf}
+use Rattle.rules.specs.Closing.{rateOf, mostRate}
+use Rattle.rules.specs.Bench.{mostCycles}
 use Rattle.ledger.specs.Row.{energyIn, distanceIn}
 use Rattle.consumption.specs.Figures.{Closable}
 use Rattle.consumption.proofs.Weights.{cycle-at, rate-at}
@@ -29,9 +30,9 @@ more l c r h e =
     ∙ ap (sum (third l)) next
 
 -- no sum of them is large
-most : (l : List ℤ) (n : ℕ) → Closable l n → (c : ℕ) → 2 ≤ c → c ≤ n → sum (third l) (c - 2) ≤ 620_000_000
+most : (l : List ℤ) (n : ℕ) → Closable l n → (c : ℕ) → 2 ≤ c → c ≤ n → sum (third l) (c - 2) ≤ (mostCycles - 2) * mostRate
 most l n g c h le =
-    omega (arith, g .most, sum-most 10_000_000 (third l) (c - 2) (λ k b. rate-at l n g (2 + k) (omega arith) .1))
+    omega (arith, g .most, sum-most mostRate (third l) (c - 2) (λ k b. rate-at l n g (2 + k) (omega arith) .1))
 
 abbrev Inv-loop : tie.InvT-loop
 Inv-loop ledger n s₀ c₀ s c = (2 ≤ c) × (c ≤ n) × (s ≡ sum (third ledger) (c - 2))

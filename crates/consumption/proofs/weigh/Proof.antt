@@ -4,6 +4,7 @@ use mathlib.Core.Path.{ap, _∙_}
 use Prim.Native.Nat.{ℕ, _*_, _^_}
 use native.Mathlib.Omega.{arith}
 use borrow.Author.Needs.{needs}
+use Rattle.rules.specs.Closing.{mostRate}
 use Rattle.wide.specs.Ratio.{ratio}
 use Rattle.wide.proofs.Answers.{more-is}
 use Rattle.consumption.proofs.Weights.{product-fits}
@@ -14,13 +15,13 @@ mul-m : tie.Need-mul-m
 mul-m c = product-fits (2 ^ 51) 62 (omega arith) (omega arith) tt
 
 mul-muldiv : tie.Need-mul-muldiv
-mul-muldiv c = product-fits 62 10_000_000 (omega arith) (omega arith) tt
+mul-muldiv c = product-fits 62 mostRate (omega arith) (omega arith) tt
 
 muldiv-requires : tie.Need-muldiv-requires
 muldiv-requires c κs = search needs
 
 mul-more : tie.Need-mul-more
-mul-more c = product-fits 62 10_000_000 (omega arith) (omega arith) tt
+mul-more c = product-fits 62 mostRate (omega arith) (omega arith) tt
 
 more-requires : tie.Need-more-requires
 more-requires c κs = search needs

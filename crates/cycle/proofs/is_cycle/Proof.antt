@@ -66,7 +66,7 @@ points-are-speeds-requires c κs = search needs
 
 returns-7 : tie.Need-returns-7
 returns-7 c =
-    let b = c .before .before .before .before .before .before .before .before .before .before .before .before .before .args .b .now in
+    let b = c .before .before .before .before .before .before .before .before .before .before .before .before .before .args .cycle .now in
     let e : allBelow (phases b) (rises b) ≡ true = cc in
     rw (c .points-are-speeds .ensures, c .before .before .before .before .before .before .seconds-of .ensures)
     (sym (valid-by-points b (omega arith) (omega arith) (omega arith) (omega arith) (omega arith) e))

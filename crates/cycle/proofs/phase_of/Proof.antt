@@ -37,7 +37,7 @@ returns : tie.Need-returns Inv-loop μ-loop
 returns c =
     let at = c .before .before .before .before .before in
     let start = at .before .before in
-    omega (arith, phase-least (start .args .b .now) (start .args .p) (at .loop .k) (omega arith))
+    omega (arith, phase-least (start .args .cycle .now) (start .args .p) (at .loop .k) (omega arith))
 
 add-k : tie.Need-add-k Inv-loop μ-loop
 add-k c = search needs
@@ -49,7 +49,7 @@ loop-again : tie.Need-loop-again Inv-loop μ-loop
 loop-again c =
     let at = c .before .before .before .before .before in
     let start = at .before .before in
-    let b = start .args .b .now in
+    let b = start .args .cycle .now in
     let p = start .args .p in
     let later : phaseAt b p ≡ at .loop .k → ⊥ = λ e. let h = phase-before b p (at .loop .k) (omega arith) e in omega arith in
     omega (arith, later)
@@ -57,7 +57,7 @@ loop-again c =
 returns-2 : tie.Need-returns-2 Inv-loop μ-loop
 returns-2 c =
     let start = c .before .before .before .before .before in
-    omega (arith, phase-exists (start .args .b .now) (start .args .p) (sound _ (start .pre .0)) (start .pre .1))
+    omega (arith, phase-exists (start .args .cycle .now) (start .args .p) (sound _ (start .pre .0)) (start .pre .1))
 
 pub phase-of-spec : {M : Type 1} → statement M
 phase-of-spec =

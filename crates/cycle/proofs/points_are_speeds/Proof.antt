@@ -23,7 +23,7 @@ point-of-requires c κs = search needs
 
 returns : tie.Need-returns Inv-loop μ-loop
 returns c =
-    let b = c .before .before .before .before .before .args .b .now in
+    let b = c .before .before .before .before .before .args .cycle .now in
     sym (all-fails _ (c .before .before .before .loop .k) (isSpeed b) (c .before .before .loop-test .taken) (omega tests))
 
 add-k : tie.Need-add-k Inv-loop μ-loop

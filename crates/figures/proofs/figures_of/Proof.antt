@@ -11,7 +11,7 @@ use Rattle.figures.proofs.figures_of.Tie as tie
 abbrev entry : tie.After-totals → tie.Start
 entry c = c .before .before .before .before .before .before .before .before
 
-passed : (c : tie.After-totals) → (let a = entry c .args in readGround (a .reading) (a .b .now) (a .ledger .now) (a .map .now) ≡ 0)
+passed : (c : tie.After-totals) → (let a = entry c .args in readGround (a .reading) (a .cycle .now) (a .ledger .now) (a .map .now) ≡ 0)
 passed c =
     let else = c .before .before .before .before in
     sym (else .before .read-refusal .ensures) ∙ else .if1 .left
@@ -27,7 +27,7 @@ returns c =
     let tested = c .before .before in
     let a = tested .before .before .before .args in
     c .refused .ensures
-    ∙ tests-refuse (a .reading) (a .b .now) (a .ledger .now) (a .map .now) _ (tested .read-refusal .ensures) (c .before .if1 .taken)
+    ∙ tests-refuse (a .reading) (a .cycle .now) (a .ledger .now) (a .map .now) _ (tested .read-refusal .ensures) (c .before .if1 .taken)
 
 totals-requires : tie.Need-totals-requires
 totals-requires c κs = search needs
@@ -50,7 +50,7 @@ returns-2 c =
     let known = c .before .before in
     let summed = known .before .before in
     let a = entry summed .args in
-    absurd (sums-not-refused (a .reading) (a .b .now) (a .ledger .now) (a .map .now) (passed summed) (sym (summed .totals .ensures) ∙ known .answer .given .1))
+    absurd (sums-not-refused (a .reading) (a .cycle .now) (a .ledger .now) (a .map .now) (passed summed) (sym (summed .totals .ensures) ∙ known .answer .given .1))
 
 returns-3 : tie.Need-returns-3
 returns-3 c =
@@ -58,7 +58,7 @@ returns-3 c =
     let summed = known .before .before in
     let a = entry summed .args in
     (λ i. record { refusal = 0; figures = c .figures-with .ensures i })
-    ∙ sums-taken (a .reading) (a .b .now) (a .ledger .now) (a .map .now) (passed summed) _ (sym (summed .totals .ensures) ∙ known .answer2 .given .1)
+    ∙ sums-taken (a .reading) (a .cycle .now) (a .ledger .now) (a .map .now) (passed summed) _ (sym (summed .totals .ensures) ∙ known .answer2 .given .1)
 
 pub figures-of-spec : {M : Type 1} → statement M
 figures-of-spec =

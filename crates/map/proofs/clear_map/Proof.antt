@@ -3,14 +3,15 @@
 use Prim.Native.Nat.{_-_}
 use native.Mathlib.Omega.{arith}
 use Rattle.numbers.proofs.Lists.{Clearing, clear-none, clearing-length, clearing-more, clearing-all}
+use Rattle.rules.specs.Shown.{mapWords}
 use Rattle.map.proofs.clear_map.Statement.{statement}
 use Rattle.map.proofs.clear_map.Tie as tie
 
 abbrev Inv-loop : tie.InvT-loop
-Inv-loop m₀ k₀ m k = Clearing 0 750 m₀ m k
+Inv-loop m₀ k₀ m k = Clearing 0 mapWords m₀ m k
 
 abbrev μ-loop : tie.MeasureT-loop
-μ-loop m₀ k₀ m k = 750 - k
+μ-loop m₀ k₀ m k = mapWords - k
 
 loop-holds : tie.Need-loop-holds Inv-loop μ-loop
 loop-holds c = record { most = omega arith; is = clear-none 0 _ }

@@ -7,15 +7,16 @@ use lib.Count.{ones, ones-le}
 use lib.ListN.{getD}
 use Rattle.numbers.specs.Range.{fold}
 use Rattle.numbers.proofs.Range.{fold-more}
+use Rattle.rules.specs.Shown.{mapWords}
 use Rattle.map.proofs.Marks.{onesIn}
 use Rattle.map.proofs.count_marks.Statement.{statement}
 use Rattle.map.proofs.count_marks.Tie as tie
 
 abbrev Inv-loop : tie.InvT-loop
-Inv-loop map n₀ k₀ n k = (k ≤ 750) × (n ≤ 64 * k) × (n ≡ onesIn k map)
+Inv-loop map n₀ k₀ n k = (k ≤ mapWords) × (n ≤ 64 * k) × (n ≡ onesIn k map)
 
 abbrev μ-loop : tie.MeasureT-loop
-μ-loop map n₀ k₀ n k = 750 - k
+μ-loop map n₀ k₀ n k = mapWords - k
 
 loop-holds : tie.Need-loop-holds Inv-loop μ-loop
 unfolding fold
@@ -53,7 +54,7 @@ loop-again c =
 
 returns : tie.Need-returns Inv-loop μ-loop
 returns c =
-    let done : c .before .loop .k ≡ 750 = omega arith in
+    let done : c .before .loop .k ≡ mapWords = omega arith in
     (c .before .loop .inv .2 ∙ ap (λ (n : ℕ). onesIn n (c .before .before .args .map .now)) done, omega arith)
 
 pub count-marks-spec : {M : Type 1} → statement M

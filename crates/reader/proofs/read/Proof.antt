@@ -12,7 +12,7 @@ use Rattle.reader.proofs.read.Tie as tie
 abbrev entry : tie.Else1 → tie.Start
 entry c = c .before .before .before .before .before .before .before
 
-passed : (c : tie.Else1) → (let a = entry c .args in readGround (a .reading) (a .b .now) (a .ledger .now) (a .map .now) ≡ 0)
+passed : (c : tie.Else1) → (let a = entry c .args in readGround (a .reading) (a .cycle .now) (a .ledger .now) (a .map .now) ≡ 0)
 passed c = sym (c .before .read-refusal .ensures) ∙ c .if1 .left
 
 -- the vehicle has 17 characters
@@ -32,13 +32,13 @@ returns : tie.Need-returns
 returns c =
     let f = c .before in
     let a = f .before .before .before .before .before .before .args in
-    read-refuses (a .reading) (a .b .now) (a .ledger .now) (a .map .now) (a .input .now) _ (f .read-refusal .ensures) (c .if1 .taken)
+    read-refuses (a .reading) (a .cycle .now) (a .ledger .now) (a .map .now) (a .input .now) _ (f .read-refusal .ensures) (c .if1 .taken)
 
 along-at-requires : tie.Need-along-at-requires
 along-at-requires c κs =
     let e = c .before .before .before in
     let a = entry e .args in
-    along-asked (a .reading) (a .b .now) (a .ledger .now) (a .map .now) (passed e)
+    along-asked (a .reading) (a .cycle .now) (a .ledger .now) (a .map .now) (passed e)
 
 slice-aggregate-one-field : tie.Need-slice-aggregate-one-field
 slice-aggregate-one-field c = sym (seventeen (entry (c .before .before .before .before .before)))
@@ -48,7 +48,7 @@ one-field-requires c κs =
     let k = c .before .before .before in
     let e = k .before .before .before .before in
     let a = entry e .args in
-    ready-at (a .reading) (a .b .now) (a .ledger .now) (a .map .now) (passed e) (seventeen (entry e)) _ (k .along-at .ensures)
+    ready-at (a .reading) (a .cycle .now) (a .ledger .now) (a .map .now) (passed e) (seventeen (entry e)) _ (k .along-at .ensures)
 
 with-along-requires : tie.Need-with-along-requires
 with-along-requires c κs = search needs
@@ -65,7 +65,7 @@ returns-2 c =
     let k = x .before .before .before .before in
     let e = k .before .before .before .before in
     let a = entry e .args in
-    read-taken (a .reading) (a .b .now) (a .ledger .now) (a .map .now) (passed e) (a .input .now) _ (k .along-at .ensures) _ _ (x .one-field .ensures) (c .with-along .ensures)
+    read-taken (a .reading) (a .cycle .now) (a .ledger .now) (a .map .now) (passed e) (a .input .now) _ (k .along-at .ensures) _ _ (x .one-field .ensures) (c .with-along .ensures)
 
 pub read-spec : {M : Type 1} → statement M
 read-spec =

@@ -18,7 +18,7 @@ along-at-requires : tie.Need-along-at-requires
 along-at-requires c κs =
     let s = entry c in
     let a = s .args in
-    along-asked (a .reading) (a .b .now) (a .ledger .now) (a .map .now) (s .pre)
+    along-asked (a .reading) (a .cycle .now) (a .ledger .now) (a .map .now) (s .pre)
 
 slice-aggregate-all-fields : tie.Need-slice-aggregate-all-fields
 slice-aggregate-all-fields c = sym (seventeen (entry (c .before .before)))
@@ -28,7 +28,7 @@ all-fields-requires c κs =
     let k = c .before .before .before in
     let s = entry (k .before) in
     let a = s .args in
-    ready-at (a .reading) (a .b .now) (a .ledger .now) (a .map .now) (s .pre) (seventeen s) _ (k .along-at .ensures)
+    ready-at (a .reading) (a .cycle .now) (a .ledger .now) (a .map .now) (s .pre) (seventeen s) _ (k .along-at .ensures)
 
 with-along-requires : tie.Need-with-along-requires
 with-along-requires c κs = search needs
@@ -45,7 +45,7 @@ returns c =
     let k = x .before .before .before .before in
     let s = entry (k .before) in
     let a = s .args in
-    all-taken (a .reading) (a .b .now) (a .ledger .now) (a .map .now) (s .pre) (a .input .now) _ (k .along-at .ensures) _ _ (x .all-fields .ensures) (c .with-along .ensures)
+    all-taken (a .reading) (a .cycle .now) (a .ledger .now) (a .map .now) (s .pre) (a .input .now) _ (k .along-at .ensures) _ _ (x .all-fields .ensures) (c .with-along .ensures)
 
 pub read-fields-spec : {M : Type 1} → statement M
 read-fields-spec =

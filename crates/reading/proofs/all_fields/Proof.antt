@@ -36,7 +36,7 @@ sized c =
     let f = c .before in
     let at = place f in
     let a = entry f .args in
-    turn-size (a .me .now) (a .b .now) (a .t) (at .loop .along) (at .loop .ledger) (at .loop .map) (a .input .now) (at .loop .used) _ _ _ (answer f .one-field .ensures)
+    turn-size (a .me .now) (a .cycle .now) (a .t) (at .loop .along) (at .loop .ledger) (at .loop .map) (a .input .now) (at .loop .used) _ _ _ (answer f .one-field .ensures)
     _ (f .bytes-of .ensures) (c .if1 .left) (at .loop .inv .0 .0)
 
 loop-holds : tie.Need-loop-holds Inv-loop μ-loop
@@ -71,10 +71,10 @@ returns c =
     let at = place f in
     let a = entry f .args in
     let h = answer f .one-field .ensures in
-    passage (a .me .now) (a .b .now) (a .t) _ _ _ _ (at .loop .fields) (at .loop .used) _
-    (turn-ready (a .me .now) (a .b .now) (a .t) (at .loop .along) (at .loop .ledger) (at .loop .map) (a .input .now) (at .loop .used) _ _ _ h _ (f .bytes-of .ensures) (at .loop .inv .1))
+    passage (a .me .now) (a .cycle .now) (a .t) _ _ _ _ (at .loop .fields) (at .loop .used) _
+    (turn-ready (a .me .now) (a .cycle .now) (a .t) (at .loop .along) (at .loop .ledger) (at .loop .map) (a .input .now) (at .loop .used) _ _ _ h _ (f .bytes-of .ensures) (at .loop .inv .1))
     (at .loop .inv .2
-    ∙ turn-end (a .me .now) (a .b .now) (a .t) (at .loop .along) (at .loop .ledger) (at .loop .map) (a .input .now) (at .loop .used) _ _ _ h _ (f .bytes-of .ensures) (c .if1 .taken) (at .loop .fields))
+    ∙ turn-end (a .me .now) (a .cycle .now) (a .t) (at .loop .along) (at .loop .ledger) (at .loop .map) (a .input .now) (at .loop .used) _ _ _ h _ (f .bytes-of .ensures) (c .if1 .taken) (at .loop .fields))
 
 add-fields : tie.Need-add-fields Inv-loop μ-loop
 add-fields c = let at = place (c .before) in omega (arith, sized c, at .loop .inv .0 .1, entry (c .before) .good .1 .1 .1 .1 .1 .1 .0 .0)
@@ -93,9 +93,9 @@ loop-again c =
     let h = answer f .one-field .ensures in
     let (low, high) = sized c in (
       (high, omega (arith, at .loop .inv .0 .1), search needs, search needs),
-      turn-ready (a .me .now) (a .b .now) (a .t) (at .loop .along) (at .loop .ledger) (at .loop .map) (a .input .now) (at .loop .used) _ _ _ h _ (f .bytes-of .ensures) (at .loop .inv .1),
+      turn-ready (a .me .now) (a .cycle .now) (a .t) (at .loop .along) (at .loop .ledger) (at .loop .map) (a .input .now) (at .loop .used) _ _ _ h _ (f .bytes-of .ensures) (at .loop .inv .1),
       at .loop .inv .2
-          ∙ turn (a .me .now) (a .b .now) (a .t) (at .loop .along) (at .loop .ledger) (at .loop .map) (a .input .now) (at .loop .used) _ _ _ h _ (f .bytes-of .ensures) (c .if1 .left) (at .loop .fields),
+          ∙ turn (a .me .now) (a .cycle .now) (a .t) (at .loop .along) (at .loop .ledger) (at .loop .map) (a .input .now) (at .loop .used) _ _ _ h _ (f .bytes-of .ensures) (c .if1 .left) (at .loop .fields),
     )
 
 same-length-3 : tie.Need-same-length-3 Inv-loop μ-loop
@@ -109,8 +109,8 @@ returns-2 c =
     let at = c .before in
     let a = at .before .before .before .before .before .args in
     let none : at .loop .used ≡ length (a .input .now) = omega arith in
-    passage (a .me .now) (a .b .now) (a .t) _ _ _ _ (at .loop .fields) (at .loop .used) _ (at .loop .inv .1)
-    (at .loop .inv .2 ∙ nothing-left (a .me .now) (a .b .now) (a .t) (at .loop .along) (at .loop .ledger) (at .loop .map) (a .input .now) (at .loop .used) none (at .loop .fields))
+    passage (a .me .now) (a .cycle .now) (a .t) _ _ _ _ (at .loop .fields) (at .loop .used) _ (at .loop .inv .1)
+    (at .loop .inv .2 ∙ nothing-left (a .me .now) (a .cycle .now) (a .t) (at .loop .along) (at .loop .ledger) (at .loop .map) (a .input .now) (at .loop .used) none (at .loop .fields))
 
 pub all-fields-spec : {M : Type 1} → statement M
 all-fields-spec =

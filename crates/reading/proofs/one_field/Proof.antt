@@ -54,15 +54,15 @@ returns : tie.Need-returns
 returns c =
     let s = c .before .before .before .before .before .before .before in
     let a = s .args in
-    front-taken (a .b .now) (a .t) (a .k) (a .ledger .now) (a .map .now) (a .me .now) (a .input .now) (sym (c .enum-told .given .1) ∙ c .before .before .front-of .ensures)
-    (unmoved (a .b .now) (a .t) (a .k) (a .ledger .now) (a .map .now) (s .pre .kept) step.Incomplete)
+    front-taken (a .cycle .now) (a .t) (a .k) (a .ledger .now) (a .map .now) (a .me .now) (a .input .now) (sym (c .enum-told .given .1) ∙ c .before .before .front-of .ensures)
+    (unmoved (a .cycle .now) (a .t) (a .k) (a .ledger .now) (a .map .now) (s .pre .kept) step.Incomplete)
 
 returns-2 : tie.Need-returns-2
 returns-2 c =
     let s = c .before .before .before .before .before .before .before in
     let a = s .args in
-    front-taken (a .b .now) (a .t) (a .k) (a .ledger .now) (a .map .now) (a .me .now) (a .input .now) (sym (c .enum-told2 .given .1) ∙ c .before .before .front-of .ensures)
-    (unmoved (a .b .now) (a .t) (a .k) (a .ledger .now) (a .map .now) (s .pre .kept) (step.Refused 8))
+    front-taken (a .cycle .now) (a .t) (a .k) (a .ledger .now) (a .map .now) (a .me .now) (a .input .now) (sym (c .enum-told2 .given .1) ∙ c .before .before .front-of .ensures)
+    (unmoved (a .cycle .now) (a .t) (a .k) (a .ledger .now) (a .map .now) (s .pre .kept) (step.Refused 8))
 
 same-length : tie.Need-same-length
 same-length c = search needs
@@ -75,8 +75,8 @@ returns-3 c =
     let taken = c .before .before .before in
     let known = taken .before .before .before .before .before in
     let a = entry known .args in
-    front-taken (a .b .now) (a .t) (a .k) (a .ledger .now) (a .map .now) (a .me .now) (a .input .now) (sym (at-front known))
-    (whole-taken (a .b .now) (a .t) (a .k) (a .ledger .now) (a .map .now) (a .me .now) (a .input .now) _ _ (at-front known) (taken .whole-field .ensures))
+    front-taken (a .cycle .now) (a .t) (a .k) (a .ledger .now) (a .map .now) (a .me .now) (a .input .now) (sym (at-front known))
+    (whole-taken (a .cycle .now) (a .t) (a .k) (a .ledger .now) (a .map .now) (a .me .now) (a .input .now) _ _ (at-front known) (taken .whole-field .ensures))
 
 pub one-field-spec : {M : Type 1} → statement M
 one-field-spec =

@@ -8,6 +8,7 @@ use lib.ListN.{length}
 use mir.Syntax.{w64}
 use mir.Val.{SFits}
 use Rattle.numbers.proofs.Lists.{part-rest}
+use Rattle.rules.specs.Bench.{mostOffered}
 use Rattle.blocks.specs.Blocks.{samplesIn, areSamples}
 use Rattle.contents.specs.declared.Content.the-variants.{Foreign, Before, After, Recharge, Refused}
 use Rattle.reading.proofs.Taking.{by-content, own-taken, left-by, as-held}
@@ -48,7 +49,7 @@ take-block-requires c κs =
     let e = part-rest 21 (s .args .v .now) in (
       s .pre .kept,
       (
-        subst⁻¹ (λ (q : List ℕ). s .args .k .going .offered + samplesIn q ≤ 4_000_000) e (s .pre .room own),
+        subst⁻¹ (λ (q : List ℕ). s .args .k .going .offered + samplesIn q ≤ mostOffered) e (s .pre .room own),
         ap (λ (q : List ℕ). areSamples q (samplesIn q)) e ∙ s .pre .samples own,
       ),
     )
@@ -91,8 +92,8 @@ returns c =
     let taken = c .before .before .before in
     let told = taken .before .before .before .before in
     let a = entry (told .before .before) .args in
-    by-content (a .b .now) (a .t) (a .k) (a .ledger .now) (a .map .now) (a .v .now) (a .n) (told .enum-told .given .1)
-    (own-taken (a .b .now) (a .t) (a .k) (a .ledger .now) (a .map .now) (a .v .now) (a .n) _ (part-rest 21 (a .v .now)) _ _ _
+    by-content (a .cycle .now) (a .t) (a .k) (a .ledger .now) (a .map .now) (a .v .now) (a .n) (told .enum-told .given .1)
+    (own-taken (a .cycle .now) (a .t) (a .k) (a .ledger .now) (a .map .now) (a .v .now) (a .n) _ (part-rest 21 (a .v .now)) _ _ _
     (taken .take-block .ensures .0) (taken .take-block .ensures .1 .0) (taken .take-block .ensures .1 .1))
 
 returns-2 : tie.Need-returns-2
@@ -100,7 +101,7 @@ returns-2 c =
     let told = c .before in
     let s = entry (told .before .before) in
     let a = s .args in
-    left-by (a .b .now) (a .t) (a .k) (a .ledger .now) (a .map .now) (a .v .now) (a .n) (s .pre .kept) Foreign (told .enum-told2 .given .1) refl (c .with-passed .ensures)
+    left-by (a .cycle .now) (a .t) (a .k) (a .ledger .now) (a .map .now) (a .v .now) (a .n) (s .pre .kept) Foreign (told .enum-told2 .given .1) refl (c .with-passed .ensures)
 
 returns-3 : tie.Need-returns-3
 returns-3 c =
@@ -109,7 +110,7 @@ returns-3 c =
     let a = s .args in
     let e = known .c .given in
     let fits : SFits w64 (e .0 .0) = search needs in
-    left-by (a .b .now) (a .t) (a .k) (a .ledger .now) (a .map .now) (a .v .now) (a .n) (s .pre .kept) (Before (e .0 .0)) (e .1) refl (as-held (a .k) fits (after-fits s) (c .with-amounts .ensures))
+    left-by (a .cycle .now) (a .t) (a .k) (a .ledger .now) (a .map .now) (a .v .now) (a .n) (s .pre .kept) (Before (e .0 .0)) (e .1) refl (as-held (a .k) fits (after-fits s) (c .with-amounts .ensures))
 
 returns-4 : tie.Need-returns-4
 returns-4 c =
@@ -118,7 +119,7 @@ returns-4 c =
     let a = s .args in
     let e = known .c2 .given in
     let fits : SFits w64 (e .0 .0) = search needs in
-    left-by (a .b .now) (a .t) (a .k) (a .ledger .now) (a .map .now) (a .v .now) (a .n) (s .pre .kept) (After (e .0 .0)) (e .1) refl (as-held (a .k) (before-fits s) fits (c .with-amounts2 .ensures))
+    left-by (a .cycle .now) (a .t) (a .k) (a .ledger .now) (a .map .now) (a .v .now) (a .n) (s .pre .kept) (After (e .0 .0)) (e .1) refl (as-held (a .k) (before-fits s) fits (c .with-amounts2 .ensures))
 
 returns-5 : tie.Need-returns-5
 returns-5 c =
@@ -126,7 +127,7 @@ returns-5 c =
     let s = entry (known .before .before) in
     let a = s .args in
     let e = known .c3 .given in
-    left-by (a .b .now) (a .t) (a .k) (a .ledger .now) (a .map .now) (a .v .now) (a .n) (s .pre .kept) (Recharge (e .0 .0)) (e .1) refl (as-held (a .k) (before-fits s) (after-fits s) (c .with-amounts3 .ensures))
+    left-by (a .cycle .now) (a .t) (a .k) (a .ledger .now) (a .map .now) (a .v .now) (a .n) (s .pre .kept) (Recharge (e .0 .0)) (e .1) refl (as-held (a .k) (before-fits s) (after-fits s) (c .with-amounts3 .ensures))
 
 returns-6 : tie.Need-returns-6
 returns-6 c =
@@ -134,7 +135,7 @@ returns-6 c =
     let s = entry (known .before .before) in
     let a = s .args in
     let e = known .c4 .given in
-    left-by (a .b .now) (a .t) (a .k) (a .ledger .now) (a .map .now) (a .v .now) (a .n) (s .pre .kept) (Refused (e .0 .0)) (e .1) refl refl
+    left-by (a .cycle .now) (a .t) (a .k) (a .ledger .now) (a .map .now) (a .v .now) (a .n) (s .pre .kept) (Refused (e .0 .0)) (e .1) refl refl
 
 pub take-content-spec : {M : Type 1} → statement M
 take-content-spec =

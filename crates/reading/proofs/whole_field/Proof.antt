@@ -17,7 +17,7 @@ take-content-requires c κs =
     let is = c .before .before in
     let s = is .before .before .before .before .before .before in
     let a = s .args in
-    brought-by (a .b .now) (a .t) (a .k) (a .ledger .now) (a .map .now) (a .me .now) (s .pre .0) (a .tag) (a .v .now) _ (s .pre .1) (is .content-of .ensures)
+    brought-by (a .cycle .now) (a .t) (a .k) (a .ledger .now) (a .map .now) (a .me .now) (s .pre .0) (a .tag) (a .v .now) _ (s .pre .1) (is .content-of .ensures)
 
 same-length : tie.Need-same-length
 same-length c = search needs
@@ -30,7 +30,7 @@ returns c =
     let taken = c .before .before .before in
     let is = taken .before .before .before in
     let a = is .before .before .before .before .before .before .args in
-    by-content (a .b .now) (a .t) (a .k) (a .ledger .now) (a .map .now) (a .v .now) _ (sym (is .content-of .ensures)) (taken .take-content .ensures)
+    by-content (a .cycle .now) (a .t) (a .k) (a .ledger .now) (a .map .now) (a .v .now) _ (sym (is .content-of .ensures)) (taken .take-content .ensures)
 
 pub whole-field-spec : {M : Type 1} → statement M
 whole-field-spec =

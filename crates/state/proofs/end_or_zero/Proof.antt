@@ -21,12 +21,12 @@ end-of-requires c κs = omega (arith, sound _ (c .before .before .before .before
 returns : tie.Need-returns
 returns c =
     let a = c .before .before .before .before .before .args in
-    c .end-of .ensures ∙ rw (lt-ltb (a .k) (phases (a .b .now)) (omega arith))
+    c .end-of .ensures ∙ rw (lt-ltb (a .k) (phases (a .cycle .now)) (omega arith))
 
 returns-2 : tie.Need-returns-2
 returns-2 c =
     let a = c .before .before .before .before .args in
-    rw (le-ltb (a .k) (phases (a .b .now)) (omega arith))
+    rw (le-ltb (a .k) (phases (a .cycle .now)) (omega arith))
 
 pub end-or-zero-spec : {M : Type 1} → statement M
 end-or-zero-spec = tie.close (tie.spec shared-slice-read-wide wide-requires end-of-requires returns returns-2)

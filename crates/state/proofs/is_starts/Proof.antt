@@ -11,7 +11,7 @@ use Rattle.state.specs.State.{isStarts}
 use Rattle.state.proofs.is_starts.Statement.{statement}
 use Rattle.state.proofs.is_starts.Tie as tie
 
-is-valid : (c : tie.Else1) → valid (c .before .before .before .args .b .now) ≡ true
+is-valid : (c : tie.Else1) → valid (c .before .before .before .args .cycle .now) ≡ true
 is-valid c = sym (c .before .is-cycle .ensures) ∙ not-false _ (c .if1 .left)
 
 is-cycle-requires : tie.Need-is-cycle-requires

@@ -20,7 +20,7 @@ module _ (s : tie.Start) where
 
   -- the cycle of sample x, where it is the one last judged of a run that has ended so
   abbrev Last : ℕ → Type 0
-  Last x = (x / N ≡ lastCycle (s .args .run) (s .args .b .now)) × (x / N < 64)
+  Last x = (x / N ≡ lastCycle (s .args .run) (s .args .cycle .now)) × (x / N < 64)
 
   last : (e : End) (x : ℕ) → s .args .run .end ≡ e → x ≡ judgedBy e (s .args .run .counted) - 1 → Last x
   last e x t h =

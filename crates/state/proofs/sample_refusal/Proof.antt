@@ -11,7 +11,7 @@ use Rattle.state.proofs.sample_refusal.Statement.{statement}
 use Rattle.state.proofs.sample_refusal.Tie as tie
 
 -- the ground is not refused
-taken : (c : tie.Else1) → (let a = c .before .before .before .before .args in ground (a .run) (a .b .now) (a .ledger .now) (a .map .now) 0 ≡ 0)
+taken : (c : tie.Else1) → (let a = c .before .before .before .before .args in ground (a .run) (a .cycle .now) (a .ledger .now) (a .map .now) 0 ≡ 0)
 taken c = sym (c .before .ground-refusal .ensures) ∙ c .if1 .left
 
 ground-refusal-requires : tie.Need-ground-refusal-requires

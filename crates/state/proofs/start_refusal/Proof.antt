@@ -12,7 +12,7 @@ use Rattle.state.proofs.start_refusal.Statement.{statement}
 use Rattle.state.proofs.start_refusal.Tie as tie
 
 -- what the tests that passed say
-is-valid : (c : tie.Else3) → valid (c .before .before .before .before .before .before .args .b .now) ≡ true
+is-valid : (c : tie.Else3) → valid (c .before .before .before .before .before .before .args .cycle .now) ≡ true
 is-valid c = sym (c .before .is-cycle .ensures) ∙ not-false _ (c .if3 .left)
 
 is-tolerated : (c : tie.Else4) → tolerable (c .before .before .before .before .before .before .before .before .args .t) ≡ true

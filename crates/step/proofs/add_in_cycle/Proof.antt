@@ -14,13 +14,14 @@ use Rattle.numbers.proofs.Whole.{of-nat}
 use Rattle.numbers.proofs.Signed.{read, sfits}
 use Rattle.rules.specs.Bench.{drawn}
 use Rattle.rules.proofs.Bounds.{Within, within, drawn-sized}
-use Rattle.ledger.specs.Row.{sampleAdded}
+use Rattle.rules.specs.Shown.{ledgerNumbers}
+use Rattle.ledger.specs.Row.{sampleAdded, mostHeld}
 use Rattle.ledger.proofs.Rows.{part-small, part-length, over-part, put-added}
 use Rattle.step.proofs.add_in_cycle.Statement.{statement}
 use Rattle.step.proofs.add_in_cycle.Tie as tie
 
 abbrev place : tie.Start → ℕ
-place a = 9 * a .args .cycle
+place a = 9 * a .args .row
 
 abbrev nine : tie.Start → ℕ
 nine a = place a + 9 - place a
@@ -69,7 +70,7 @@ add-sample-requires c κs =
     let l = a .args .ledger .now in (
       (part-length (place a) (nine a) l (omega arith) (long a), a .pre .0 .2),
       (
-        (λ j. part-small 1_000_000_000_000_000 576 (place a) (nine a) l (a .pre .1) (omega (arith, a .pre .0 .1)) j),
+        (λ j. part-small mostHeld ledgerNumbers (place a) (nine a) l (a .pre .1) (omega (arith, a .pre .0 .1)) j),
         (rw (energy-is a _ (c .before .before .drawn-by .ensures)) (drawn-sized (limits a)), rw (distance-is a) (of-nat (limits a .speed))),
       ),
     )

@@ -5,6 +5,7 @@ use Prim.Native.Nat.{_+_, _<_}
 use native.Mathlib.Omega.{arith}
 use borrow.Author.Needs.{needs}
 use Rattle.rules.proofs.Sound.{Sound, sound}
+use Rattle.rules.specs.Bench.{mostPositions}
 use Rattle.window.specs.declared.Window.{Window}
 use Rattle.window.specs.Moving.{windowOf}
 use Rattle.step.proofs.Standing.{position-is, window-is, until-is, position-most}
@@ -13,22 +14,22 @@ use Rattle.step.proofs.counted_by.Statement.{statement}
 use Rattle.step.proofs.counted_by.Tie as tie
 
 module _ (c : tie.Start) where
-  good : Sound (c .args .b .now)
+  good : Sound (c .args .cycle .now)
   good = sound _ (c .pre .sound)
 
-  small-position : c .args .g .position < 48_000
-  small-position = position-most (c .args .b .now) good (c .args .w) (c .args .g) (c .pre .stands)
+  small-position : c .args .g .position < mostPositions
+  small-position = position-most (c .args .cycle .now) good (c .args .w) (c .args .g) (c .pre .stands)
 
-  at-window : c .args .g .window ≡ windowOf (c .args .b .now) (c .args .w) (c .args .g .position)
+  at-window : c .args .g .window ≡ windowOf (c .args .cycle .now) (c .args .w) (c .args .g .position)
   at-window =
-      window-is (c .args .b .now) good (c .args .w) (c .args .g) (c .pre .stands)
-      ∙ ap (windowOf (c .args .b .now) (c .args .w)) (sym (position-is (c .args .b .now) good (c .args .w) (c .args .g) (c .pre .stands)))
+      window-is (c .args .cycle .now) good (c .args .w) (c .args .g) (c .pre .stands)
+      ∙ ap (windowOf (c .args .cycle .now) (c .args .w)) (sym (position-is (c .args .cycle .now) good (c .args .w) (c .args .g) (c .pre .stands)))
 
   later : c .args .g .position + 1 < c .args .g .until → c .args .g .position + 1 < c .args .g .window .until
   later h =
-      let p = position-is (c .args .b .now) good (c .args .w) (c .args .g) (c .pre .stands) in
-      let u = until-is (c .args .b .now) good (c .args .w) (c .args .g) (c .pre .stands) in
-      let e = ap (λ (x : Window). x .until) (window-is (c .args .b .now) good (c .args .w) (c .args .g) (c .pre .stands)) in
+      let p = position-is (c .args .cycle .now) good (c .args .w) (c .args .g) (c .pre .stands) in
+      let u = until-is (c .args .cycle .now) good (c .args .w) (c .args .g) (c .pre .stands) in
+      let e = ap (λ (x : Window). x .until) (window-is (c .args .cycle .now) good (c .args .w) (c .args .g) (c .pre .stands)) in
       omega arith
 
 add-if1 : tie.Need-add-if1
@@ -55,12 +56,12 @@ shift-requires : tie.Need-shift-requires
 shift-requires c κs =
     let start = c .before .before .before .before .before .before in
     let near : start .args .g .position + 1 < start .args .g .until = omega arith in
-    (start .pre .sound, goes-on (start .args .b .now) (good start) (start .args .w) (start .args .g) (start .pre .stands) near, at-window start, later start near)
+    (start .pre .sound, goes-on (start .args .cycle .now) (good start) (start .args .w) (start .args .g) (start .pre .stands) near, at-window start, later start near)
 
 returns-2 : tie.Need-returns-2
 returns-2 c =
     let start = c .before .before .before .before .before .before .before in
-    moved-is (start .args .b .now) (good start) (start .args .w) (start .args .g) (start .pre .stands) (omega arith) (start .pre .room) (c .shift .result) (c .shift .ensures)
+    moved-is (start .args .cycle .now) (good start) (start .args .w) (start .args .g) (start .pre .stands) (omega arith) (start .pre .room) (c .shift .result) (c .shift .ensures)
 
 pub counted-by-spec : {M : Type 1} → statement M
 counted-by-spec =

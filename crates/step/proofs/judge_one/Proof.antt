@@ -20,7 +20,7 @@ use Rattle.step.proofs.judge_one.Tie as tie
 
 -- the cycle, the lent memory at the entry, and what holds of them
 abbrev b : tie.Start → List ℕ
-b s = s .args .b .now
+b s = s .args .cycle .now
 
 abbrev l : tie.Start → List ℤ
 l s = s .args .ledger .now
@@ -47,17 +47,17 @@ out-known c =
     let s = entry c in
     c .before .before .before .before .before .before .before .is-outside .ensures ∙ out-in (b s) (s .args .t) (s .args .g) (l s) (m s) (kept s) (s .args .x)
 
-over-known : (c : tie.After-ledger) → c .before .add-in-cycle .result ≡ isOver (9 * entry c .args .g .cycle) (l (entry c)) (out (entry c)) (entry c .args .t .allowance)
+over-known : (c : tie.After-ledger) → c .before .add-in-cycle .result ≡ isOver (9 * entry c .args .g .row) (l (entry c)) (out (entry c)) (entry c .args .t .allowance)
 over-known c =
     let s = entry c in
-    c .before .add-in-cycle .ensures .0 ∙ ap (λ (o : Bool). isOver (9 * s .args .g .cycle) (l s) o (s .args .t .allowance)) (out-known c)
+    c .before .add-in-cycle .ensures .0 ∙ ap (λ (o : Bool). isOver (9 * s .args .g .row) (l s) o (s .args .t .allowance)) (out-known c)
 
 ledger-known : (c : tie.After-ledger)
     → c .before .add-in-cycle .last .0 ≡ judge (b (entry c)) (entry c .args .t) (held (entry c .args .g) (l (entry c)) (m (entry c))) (entry c .args .x) .ledger
 ledger-known c =
     let s = entry c in
     c .before .add-in-cycle .ensures .1
-    ∙ ap (λ (o : Bool). sampleAdded (9 * s .args .g .cycle) (l s) (s .args .g .phase) (drawn (s .args .x)) (pos (distance (s .args .x))) o (s .args .t .allowance)) (out-known c)
+    ∙ ap (λ (o : Bool). sampleAdded (9 * s .args .g .row) (l s) (s .args .g .phase) (drawn (s .args .x)) (pos (distance (s .args .x))) o (s .args .t .allowance)) (out-known c)
     ∙ ledger-is (b s) (s .args .t) (s .args .g) (l s) (m s) (kept s) (s .args .x)
 
 map-known : (c : tie.After-ledger)

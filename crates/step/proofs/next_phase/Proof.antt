@@ -27,8 +27,8 @@ module _ (b : List ℕ) (o : Sound b) (k p : ℕ) (is : k ≡ phaseAt b p) (h : 
   there = omega (arith, phase-exists b p o (omega arith))
 
 -- the phase is one of the cycle's, at the entry
-phase-there : (c : tie.Start) → c .args .phase < phases (c .args .b .now)
-phase-there c = there (c .args .b .now) (sound _ (c .pre .0)) (c .args .phase) (c .args .position) (c .pre .2) (c .pre .1)
+phase-there : (c : tie.Start) → c .args .phase < phases (c .args .cycle .now)
+phase-there c = there (c .args .cycle .now) (sound _ (c .pre .0)) (c .args .phase) (c .args .position) (c .pre .2) (c .pre .1)
 
 add-if1 : tie.Need-add-if1
 add-if1 c = let s = sound _ (c .before .pre .0) in omega arith
@@ -45,7 +45,7 @@ mul-if1 c = search needs
 returns : tie.Need-returns
 returns c =
     let start = c .before .before .before in
-    stays (start .args .b .now) (sound _ (start .pre .0)) (start .args .phase) (start .args .position) (start .pre .2) (start .pre .1) (omega arith)
+    stays (start .args .cycle .now) (sound _ (start .pre .0)) (start .args .phase) (start .args .position) (start .pre .2) (start .pre .1) (omega arith)
 
 add-result : tie.Need-add-result
 add-result c = let s = sound _ (c .before .before .before .pre .0) in omega (arith, phase-there (c .before .before .before))
@@ -53,7 +53,7 @@ add-result c = let s = sound _ (c .before .before .before .pre .0) in omega (ari
 returns-2 : tie.Need-returns-2
 returns-2 c =
     let start = c .before .before .before in
-    next (start .args .b .now) (sound _ (start .pre .0)) (start .args .phase) (start .args .position) (start .pre .2) (start .pre .1) (omega arith)
+    next (start .args .cycle .now) (sound _ (start .pre .0)) (start .args .phase) (start .args .position) (start .pre .2) (start .pre .1) (omega arith)
 
 pub next-phase-spec : {M : Type 1} → statement M
 next-phase-spec =

@@ -7,6 +7,7 @@ use borrow.Author.Needs.{needs}
 use Rattle.rules.specs.Cycle.{phaseAt}
 use Rattle.rules.specs.Run.{cycleOf, positionOf}
 use Rattle.rules.proofs.Sound.{Sound, sound}
+use Rattle.rules.specs.Bench.{mostPositions}
 use Rattle.step.proofs.Standing.{position-is, cycle-is, phase-is, position-most, cycle-small}
 use Rattle.step.proofs.Placing.{next-within, next-first}
 use Rattle.step.proofs.next_place.Statement.{statement}
@@ -14,23 +15,23 @@ use Rattle.step.proofs.next_place.Tie as tie
 
 -- the sound cycle, and where the run stands, at the entry
 module _ (c : tie.Start) where
-  good : Sound (c .args .b .now)
+  good : Sound (c .args .cycle .now)
   good = sound _ (c .pre .sound)
 
-  at-position : c .args .g .position ≡ positionOf (c .args .b .now) (c .args .g .counted)
-  at-position = position-is (c .args .b .now) good (c .args .w) (c .args .g) (c .pre .stands)
+  at-position : c .args .g .position ≡ positionOf (c .args .cycle .now) (c .args .g .counted)
+  at-position = position-is (c .args .cycle .now) good (c .args .w) (c .args .g) (c .pre .stands)
 
-  at-cycle : c .args .g .cycle ≡ cycleOf (c .args .b .now) (c .args .g .counted)
-  at-cycle = cycle-is (c .args .b .now) good (c .args .w) (c .args .g) (c .pre .stands)
+  at-cycle : c .args .g .row ≡ cycleOf (c .args .cycle .now) (c .args .g .counted)
+  at-cycle = cycle-is (c .args .cycle .now) good (c .args .w) (c .args .g) (c .pre .stands)
 
-  at-phase : c .args .g .phase ≡ phaseAt (c .args .b .now) (c .args .g .position)
-  at-phase = phase-is (c .args .b .now) good (c .args .w) (c .args .g) (c .pre .stands) ∙ ap (phaseAt (c .args .b .now)) (sym at-position)
+  at-phase : c .args .g .phase ≡ phaseAt (c .args .cycle .now) (c .args .g .position)
+  at-phase = phase-is (c .args .cycle .now) good (c .args .w) (c .args .g) (c .pre .stands) ∙ ap (phaseAt (c .args .cycle .now)) (sym at-position)
 
-  small-position : c .args .g .position < 48_000
-  small-position = position-most (c .args .b .now) good (c .args .w) (c .args .g) (c .pre .stands)
+  small-position : c .args .g .position < mostPositions
+  small-position = position-most (c .args .cycle .now) good (c .args .w) (c .args .g) (c .pre .stands)
 
-  small-cycle : c .args .g .cycle < 64
-  small-cycle = cycle-small (c .args .b .now) good (c .args .w) (c .args .g) (c .pre .stands) (c .pre .room)
+  small-cycle : c .args .g .row < 64
+  small-cycle = cycle-small (c .args .cycle .now) good (c .args .w) (c .args .g) (c .pre .stands) (c .pre .room)
 
 add-if1 : tie.Need-add-if1
 add-if1 c = omega (arith, small-position (c .before))
@@ -52,10 +53,10 @@ next-phase-requires c κs =
 returns : tie.Need-returns
 returns c =
     let start = c .before .before .before .before in
-    next-within (start .args .b .now) (good start) (start .args .g .counted) _ _ (at-cycle start) (at-position start) _ (omega arith) (start .pre .room) (c .next-phase .ensures)
+    next-within (start .args .cycle .now) (good start) (start .args .g .counted) _ _ (at-cycle start) (at-position start) _ (omega arith) (start .pre .room) (c .next-phase .ensures)
 
-add-cycle : tie.Need-add-cycle
-add-cycle c = omega (arith, small-cycle (c .before .before .before .before))
+add-row : tie.Need-add-row
+add-row c = omega (arith, small-cycle (c .before .before .before .before))
 
 end-after-requires : tie.Need-end-after-requires
 end-after-requires c κs = search needs
@@ -63,7 +64,7 @@ end-after-requires c κs = search needs
 returns-2 : tie.Need-returns-2
 returns-2 c =
     let start = c .before .before .before .before .before in
-    next-first (start .args .b .now) (good start) (start .args .g .counted) _ _ (at-cycle start) (at-position start) _ (omega arith) (c .end-after .ensures)
+    next-first (start .args .cycle .now) (good start) (start .args .g .counted) _ _ (at-cycle start) (at-position start) _ (omega arith) (c .end-after .ensures)
 
 pub next-place-spec : {M : Type 1} → statement M
 next-place-spec =
@@ -75,6 +76,6 @@ next-place-spec =
     add-t11
     next-phase-requires
     returns
-    add-cycle
+    add-row
     end-after-requires
     returns-2)

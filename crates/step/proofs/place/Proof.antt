@@ -12,14 +12,14 @@ use Rattle.step.proofs.Placing.{until-made}
 use Rattle.step.proofs.place.Statement.{statement}
 use Rattle.step.proofs.place.Tie as tie
 
-good : (c : tie.Start) → Sound (c .args .b .now)
+good : (c : tie.Start) → Sound (c .args .cycle .now)
 good c = sound _ (c .pre .0)
 
 -- the number of positions, as the code has it
-same : (c : tie.Start) → positions (c .args .b .now) ≡ 20 * c .args .run .seconds
+same : (c : tie.Start) → positions (c .args .cycle .now) ≡ 20 * c .args .run .seconds
 same c = ap (λ (n : ℕ). 20 * n) (c .pre .1)
 
-small : (c : tie.Start) → c .args .run .counted % (20 * c .args .run .seconds) < positions (c .args .b .now)
+small : (c : tie.Start) → c .args .run .counted % (20 * c .args .run .seconds) < positions (c .args .cycle .now)
 small c = rw (← same c) (mod-lt (c .args .run .counted) (real (good c)))
 
 mul-n : tie.Need-mul-n
@@ -58,7 +58,7 @@ until-in-requires c κs =
 returns : tie.Need-returns
 returns c =
     let start = c .before .before .before .before .before .before .before .before in
-    let b = start .args .b .now in
+    let b = start .args .cycle .now in
     let run = start .args .run in
     let w = run .tolerances .time in
     let n = sym (same start) in
@@ -68,7 +68,7 @@ returns c =
       offered = run .offered;
       counted = run .counted;
       end = run .end;
-      cycle = ap (λ (k : ℕ). run .counted / k) n i;
+      row = ap (λ (k : ℕ). run .counted / k) n i;
       position = ap (λ (k : ℕ). run .counted % k) n i;
       phase = (phase ∙ ap (λ (k : ℕ). phaseAt b (run .counted % k)) n) i;
       window = (window ∙ ap (λ (k : ℕ). windowOf b w (run .counted % k)) n) i;

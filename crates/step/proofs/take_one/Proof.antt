@@ -14,14 +14,14 @@ abbrev before : tie.Start → State
 before s = held (s .args .g) (s .args .ledger .now) (s .args .map .now)
 
 abbrev after : tie.Start → State
-after s = step (s .args .b .now) (s .args .t) (before s) (s .args .x)
+after s = step (s .args .cycle .now) (s .args .t) (before s) (s .args .x)
 
 -- where it stands after a sample that is passed by, and its memory
 by : (s : tie.Start) (r : Going) → isOpen (s .args .g .end) ≡ false → r ≡ offeredOne (s .args .g) (s .args .g .end)
-    → Leaves (s .args .b .now) (s .args .t .time) (after s) r (s .args .ledger .now) (s .args .map .now)
+    → Leaves (s .args .cycle .now) (s .args .t .time) (after s) r (s .args .ledger .now) (s .args .map .now)
 by s r e q =
-    leaves-same (s .args .b .now) (s .args .t .time) (sym (step-ended (s .args .b .now) (s .args .t) (before s) (s .args .x) e))
-    (q ∙ passed-is (s .args .b .now) (s .args .t) (s .args .g) (s .args .ledger .now) (s .args .map .now) (s .pre .0), (refl, refl))
+    leaves-same (s .args .cycle .now) (s .args .t .time) (sym (step-ended (s .args .cycle .now) (s .args .t) (before s) (s .args .x) e))
+    (q ∙ passed-is (s .args .cycle .now) (s .args .t) (s .args .g) (s .args .ledger .now) (s .args .map .now) (s .pre .0), (refl, refl))
 
 enum-told : tie.Need-enum-told
 enum-told c = search needs
@@ -53,8 +53,8 @@ returns : tie.Need-returns
 returns c =
     let j = c .before .before .before in
     let s = j .before .before .before .before .before .before .before in
-    leaves-same (s .args .b .now) (s .args .t .time)
-    (sym (step-open (s .args .b .now) (s .args .t) (before s) (s .args .x) (ap isOpen (j .before .before .before .enum-told .given .1))))
+    leaves-same (s .args .cycle .now) (s .args .t .time)
+    (sym (step-open (s .args .cycle .now) (s .args .t) (before s) (s .args .x) (ap isOpen (j .before .before .before .enum-told .given .1))))
     (j .judge-one .ensures)
 
 returns-2 : tie.Need-returns-2

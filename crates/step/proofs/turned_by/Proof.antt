@@ -12,7 +12,7 @@ use Rattle.step.proofs.Placing.{turned-is}
 use Rattle.step.proofs.turned_by.Statement.{statement}
 use Rattle.step.proofs.turned_by.Tie as tie
 
-good : (c : tie.Start) → Sound (c .args .b .now)
+good : (c : tie.Start) → Sound (c .args .cycle .now)
 good c = sound _ (c .pre .sound)
 
 -- the next sample stands in the cycle, in one of its phases
@@ -20,14 +20,14 @@ module _ (c : tie.After-next-place) where
   abbrev start : tie.Start
   start = c .before .before
 
-  next-small : c .next-place .result .position < positions (start .args .b .now)
+  next-small : c .next-place .result .position < positions (start .args .cycle .now)
   next-small =
       let e = ap (λ (x : Next). x .position) (c .next-place .ensures) in
       omega (arith, e, mod-lt (start .args .g .counted + 1) (real (good start)))
 
-  phase-there : c .next-place .result .phase < phases (start .args .b .now)
+  phase-there : c .next-place .result .phase < phases (start .args .cycle .now)
   phase-there =
-      let b = start .args .b .now in
+      let b = start .args .cycle .now in
       let n = start .args .g .counted + 1 in
       let e = ap (λ (x : Next). x .phase) (c .next-place .ensures) in
       omega (arith, e, phase-exists b (positionOf b n) (good start) (mod-lt n (real (good start))))

@@ -11,10 +11,10 @@ use Rattle.closing.proofs.checks.closing_of.Statement.{statement}
 use Rattle.closing.proofs.checks.closing_of.Tie as tie
 
 -- the ground is not refused
-taken : (c : tie.Else1) → (let a = c .before .before .before .before .args in grounds (a .run) (a .a) (a .b .now) (a .ledger .now) (a .map .now) 0 ≡ 0)
+taken : (c : tie.Else1) → (let a = c .before .before .before .before .args in grounds (a .run) (a .a) (a .cycle .now) (a .ledger .now) (a .map .now) 0 ≡ 0)
 taken c = sym (c .before .grounds-refusal .ensures) ∙ c .if1 .left
 
-facts : (c : tie.Else1) → (let a = c .before .before .before .before .args in Standing (a .run) (a .a) (a .b .now) (a .ledger .now) (a .map .now))
+facts : (c : tie.Else1) → (let a = c .before .before .before .before .args in Standing (a .run) (a .a) (a .cycle .now) (a .ledger .now) (a .map .now))
 facts c = standing _ _ _ _ _ (taken c)
 
 grounds-refusal-requires : tie.Need-grounds-refusal-requires

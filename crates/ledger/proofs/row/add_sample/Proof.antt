@@ -16,19 +16,20 @@ use Rattle.numbers.specs.Lists.{plus}
 use Rattle.numbers.specs.Whole.{Sized, Small}
 use Rattle.numbers.proofs.Whole.{sized-add, small-plus}
 use Rattle.numbers.proofs.Signed.{sfits, read}
-use Rattle.ledger.specs.Row.{at, outsideAdded, isOver, sampleAdded}
+use Rattle.rules.specs.Bench.{mostShareEnergy, mostShareDistance}
+use Rattle.ledger.specs.Row.{at, outsideAdded, isOver, sampleAdded, mostHeld}
 use Rattle.ledger.proofs.Rows.{small-outside, added-over, added-not-over}
 use Rattle.ledger.proofs.row.add_sample.Statement.{statement}
 use Rattle.ledger.proofs.row.add_sample.Tie as tie
 
 -- the rows as the three calls leave them, of a row l: no number is too large, and the last row is what `sampleAdded` says
 module _ (l : List ℤ) (out : Bool) {l₁ : List ℤ} (p : l₁ ≡ outsideAdded 0 l out) where
-  small-one : Small 1_000_000_000_000_000 l → Small 1_000_000_000_000_001 l₁
-  small-one s = subst (Small 1_000_000_000_000_001) (sym p) (small-outside 0 l out s)
+  small-one : Small mostHeld l → Small (mostHeld + 1) l₁
+  small-one s = subst (Small (mostHeld + 1)) (sym p) (small-outside 0 l out s)
 
   module _ (k : ℕ) (e : ℤ) {l₂ : List ℤ} (q : l₂ ≡ plus l₁ k e) where
-    small-two : Small 1_000_000_000_000_000 l → Sized 150_000_000 e → Small 1_000_000_150_000_001 l₂
-    small-two s he = subst (Small 1_000_000_150_000_001) (sym q) (small-plus l₁ k (small-one s) he)
+    small-two : Small mostHeld l → Sized mostShareEnergy e → Small (mostHeld + 1 + mostShareEnergy) l₂
+    small-two s he = subst (Small (mostHeld + 1 + mostShareEnergy)) (sym q) (small-plus l₁ k (small-one s) he)
 
     rest-is : (d : ℤ) (al : ℕ) {l₃ : List ℤ} → l₃ ≡ plus l₂ (4 + k) d → isOver 0 l out al ≡ false → l₃ ≡ sampleAdded 0 l k e d out al
     rest-is d al r o =
@@ -45,10 +46,10 @@ module _ (a : tie.Start) where
   abbrev distance : ℤ
   distance = toZ w64 (ofZ w64 (a .args .distance))
 
-  energy-sized : Sized 150_000_000 energy
+  energy-sized : Sized mostShareEnergy energy
   energy-sized = rw (read (a .fits .energy)) (a .pre .1 .1 .0)
 
-  distance-sized : Sized 1_500 distance
+  distance-sized : Sized mostShareDistance distance
   distance-sized = rw (read (a .fits .distance)) (a .pre .1 .1 .1)
 
 count-outside-requires : tie.Need-count-outside-requires

@@ -4,14 +4,15 @@ use Prim.Native.Nat.{_-_}
 use native.Mathlib.Omega.{arith}
 use lib.IntN.{pos}
 use Rattle.numbers.proofs.Lists.{Clearing, clear-none, clearing-length, clearing-more, clearing-all}
+use Rattle.rules.specs.Shown.{ledgerNumbers}
 use Rattle.ledger.proofs.whole.clear_ledger.Statement.{statement}
 use Rattle.ledger.proofs.whole.clear_ledger.Tie as tie
 
 abbrev Inv-loop : tie.InvT-loop
-Inv-loop l₀ i₀ l i = Clearing (pos 0) 576 l₀ l i
+Inv-loop l₀ i₀ l i = Clearing (pos 0) ledgerNumbers l₀ l i
 
 abbrev μ-loop : tie.MeasureT-loop
-μ-loop l₀ i₀ l i = 576 - i
+μ-loop l₀ i₀ l i = ledgerNumbers - i
 
 loop-holds : tie.Need-loop-holds Inv-loop μ-loop
 loop-holds c = record { most = omega arith; is = clear-none (pos 0) _ }

@@ -10,7 +10,7 @@ use lib.ListN.{length}
 use lib.IntN.{ℤ}
 use Rattle.numbers.proofs.Tests.{refuted, all-at, Passing, passing-none, passing-more, passing-all}
 use Rattle.numbers.proofs.Signed.{read}
-use Rattle.rules.specs.Shown.{inBounds}
+use Rattle.rules.specs.Shown.{inBounds, ledgerNumbers}
 use Rattle.ledger.specs.Row.{at}
 use Rattle.ledger.proofs.Bounded.{bounded-long, bounded-at, bounded-by}
 use Rattle.ledger.proofs.whole.is_bounded.Statement.{statement}
@@ -20,10 +20,10 @@ abbrev fine : List ℤ → ℕ → Bool
 fine l i = inBounds i (at l i)
 
 abbrev Inv-loop : tie.InvT-loop
-Inv-loop ledger i₀ i = Passing 576 (fine ledger) i × (576 ≤ length ledger)
+Inv-loop ledger i₀ i = Passing ledgerNumbers (fine ledger) i × (ledgerNumbers ≤ length ledger)
 
 abbrev μ-loop : tie.MeasureT-loop
-μ-loop ledger i₀ i = 576 - i
+μ-loop ledger i₀ i = ledgerNumbers - i
 
 returns : tie.Need-returns Inv-loop μ-loop
 returns c = sym (refuted _ (λ e. omega (arith, bounded-long _ e)))
@@ -65,7 +65,7 @@ loop-again c =
 returns-3 : tie.Need-returns-3 Inv-loop μ-loop
 returns-3 c =
     let at-i = c .before .loop in
-    sym (bounded-by _ (at-i .inv .1) (all-at 576 _ (sym (passing-all (at-i .inv .0) (omega arith)))))
+    sym (bounded-by _ (at-i .inv .1) (all-at ledgerNumbers _ (sym (passing-all (at-i .inv .0) (omega arith)))))
 
 pub is-bounded-spec : {M : Type 1} → statement M
 is-bounded-spec =
