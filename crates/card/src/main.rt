@@ -7,6 +7,10 @@ use edges::tell;
 use intake::skip;
 use intake::take_record;
 use numbers::read32;
+use rules::limits::LEDGER_NUMBERS;
+use rules::limits::MAP_WORDS;
+use rules::limits::MOST_BYTES;
+use sheet::MOST_SHEET;
 
 // How many bytes the next record has; more than any where there is none.
 fn next_length() -> u64 {
@@ -74,10 +78,10 @@ fn all_records(
 
 fn main() {
     let mut buffer = [0u8; 4864];
-    let mut room = [0u8; 4811];
-    let mut ledger = [0i64; 576];
-    let mut map = [0u64; 750];
-    let mut lines = [0u8; 512];
+    let mut room = [0u8; MOST_BYTES];
+    let mut ledger = [0i64; LEDGER_NUMBERS];
+    let mut map = [0u64; MAP_WORDS];
+    let mut lines = [0u8; MOST_SHEET];
     all_records(
         &mut buffer[..],
         &mut room[..],

@@ -4,7 +4,7 @@ use mathlib.Core.Bool.{Bool, true, false, cond}
 use mathlib.Core.List.{List}
 use mathlib.Core.Path.{_≡_, refl, sym, ap, _∙_, subst}
 use Prim.Native.Nat.{ℕ, _*_, _/_, _^_, _≤_, _<_}
-use native.Mathlib.Nat.{div-div-eq-div-mul, div-le-self, div-le-of-le-mul, div-mul-le-self}
+use native.Mathlib.Nat.{div-div-eq-div-mul, div-le-self, div-mul-le-self}
 use native.Mathlib.Omega.{arith}
 use borrow.Author.Tests.{le-leb, leb-true}
 use lib.Dec.{leb, eqb}
@@ -21,12 +21,12 @@ use Rattle.rules.specs.declared.Charge.the-variants.{Wh as wh}
 use Rattle.rules.specs.declared.Amounts.{Amounts}
 use Rattle.rules.specs.Closing.{mostRate, isCharge, areAmounts, weightedFigure, rangeFigure, closingRefusal, rechargeFigure, rechargeRefusal, mostTransfer, mostWhole, mostCharge}
 use Rattle.rules.proofs.Closes.{closes, some-energy}
-use Rattle.rules.specs.Run.{finishedCycles}
 use Rattle.ledger.specs.Row.{energyIn, distanceIn, energyAll}
 use Rattle.ledger.proofs.Bounded.{energy-all-sized}
 use Rattle.state.specs.declared.Run.{Run}
 use Rattle.state.specs.State.{ground}
-use Rattle.state.proofs.Checked.{Ground, ground-passed, ground-zero, ground-on, ground-off, progress-most}
+use Rattle.state.specs.Refusals.{cyclesBy}
+use Rattle.state.proofs.Checked.{Ground, ground-passed, ground-zero, ground-on, ground-off}
 use Rattle.consumption.specs.declared.Figure.{Figure}
 use Rattle.consumption.specs.declared.Figure.the-variants.{Is, Refused}
 use Rattle.consumption.specs.Figures.{chargedBy, closedOf, rechargedBy}
@@ -49,15 +49,13 @@ settled-again n x = go (eqb n 0)
 
 -- ---- the ground
 
--- the amounts are within their limits, the ground is not refused; n and E, as the machine forms them
+-- the amounts are within their limits, the ground is not refused; and E, as the machine forms it
 pub record Standing (r : Run) (a : Amounts) (b : List ℕ) (l : List ℤ) (m : List ℕ) : Type 0 where
   pub ground : Ground r b l m
   pub before : Sized mostTransfer (a .before)
   pub after : Sized mostTransfer (a .after)
   pub charge : isCharge (a .charge) ≡ true
   pub whole-sized : Sized mostWhole (a .before +ℤ energyAll l)
-  pub cycles : r .counted / (20 * r .seconds) ≡ finishedCycles b (r .counted)
-  pub most : r .counted / (20 * r .seconds) ≤ 64
 
 module _ (r : Run) (a : Amounts) (b : List ℕ) (l : List ℤ) (m : List ℕ) where
   pub standing : grounds r a b l m 0 ≡ 0 → Standing r a b l m
@@ -74,8 +72,6 @@ module _ (r : Run) (a : Amounts) (b : List ℕ) (l : List ℤ) (m : List ℕ) wh
         after = sized-between mostTransfer (a .after) (x₁ .1);
         charge = x₂ .1;
         whole-sized = weaken (omega arith) (sized-add before (energy-all-sized l (g .bounded)));
-        cycles = ap (λ (t : ℕ). r .counted / (20 * t)) (sym (g .same-seconds));
-        most = div-le-of-le-mul (20 * r .seconds) (omega (arith, progress-most _ _ _ _ (g .limits .progress) .1));
       }
 
   grounds-on : (others : ℕ) → grounds r a b l m 0 ≡ 0 → grounds r a b l m others ≡ others
@@ -113,7 +109,7 @@ module _ (r : Run) (a : Amounts) (b : List ℕ) (l : List ℤ) (m : List ℕ) wh
 
   -- nothing is refused, by the ground or by the closing
   pub nothing-refused : refusalOf r a b l m ≡ 0
-      → Standing r a b l m × (closingRefusal (whole r a b l m) (finishedCycles b (r .counted)) (energyIn l) (distanceIn l) ≡ 0)
+      → Standing r a b l m × (closingRefusal (whole r a b l m) (cyclesBy r) (energyIn l) (distanceIn l) ≡ 0)
   unfolding refusalOf closedOf
   nothing-refused e =
       let (x, e′) = not-refused 0 _ _ e in
@@ -156,7 +152,7 @@ module _ (E : ℤ) (n : ℕ) (e d : ℕ → ℤ) where
 
 -- of the closing itself
 module _ (r : Run) (a : Amounts) (b : List ℕ) (l : List ℤ) (m : List ℕ) (z : refusalOf r a b l m ≡ 0) where
-  pub range-is : closingOf r a b l m .range ≡ rangeFigure (whole r a b l m) (finishedCycles b (r .counted)) (energyIn l) (distanceIn l)
+  pub range-is : closingOf r a b l m .range ≡ rangeFigure (whole r a b l m) (cyclesBy r) (energyIn l) (distanceIn l)
   unfolding closedOf
   range-is = settled-taken 0 z ∙ settled-taken 0 (nothing-refused r a b l m z .1)
 

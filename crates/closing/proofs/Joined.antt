@@ -5,31 +5,34 @@ use mathlib.Core.List.{List, _++_}
 use mathlib.Core.Path.{_≡_, refl, sym, ap, ap₂, _∙_}
 use Prim.Native.Nat.{ℕ, _≤_, _<_}
 use lib.Dec.{eqb}
-use native.Mathlib.Omega.{arith}
 use lib.IntN.{ℤ, pos, _+ℤ_}
-use lib.ListN.{length, length-append, List·getD-append}
+use lib.ListN.{length}
 use Rattle.numbers.proofs.Tests.{pass}
-use Rattle.rules.specs.declared.Sample.{Sample}
-use Rattle.rules.specs.declared.Tolerances.{Tolerances}
+use Rattle.rules.specs.declared.Moment.{Moment}
 use Rattle.rules.specs.declared.Amounts.{Amounts}
 use Rattle.rules.specs.declared.Charge.{Charge}
 use Rattle.rules.specs.declared.Charge.the-variants.{Absent as absent, Wh as wh}
-use Rattle.rules.specs.Bench.{isOpen}
+use Rattle.rules.specs.Bench.{isOpen, mostCycles}
+use Rattle.rules.specs.Course.{closed}
+use Rattle.rules.specs.Parts.{rowPart, cycles, partEnergy, partDistance}
+use Rattle.rules.specs.Regular.{Plan, courseOf, momentIn}
 use Rattle.rules.specs.Closing.{wholeEnergy, areAmounts, weightedFigure, rangeFigure, closingRefusal, rechargeFigure, rechargeRefusal}
-use Rattle.rules.specs.Run.{sampleOf, cycleEnergy, cycleDistance, finishedCycles, counted, cycles}
-use Rattle.rules.proofs.Longer.{Stays, ended-stays}
+use Rattle.rules.proofs.Facts.{Lawful}
+use Rattle.rules.proofs.Longer.{more-samples, same-samples, Over, over, energy-over, distance-over, whole-over}
+use Rattle.rules.proofs.Regular.{regular-lawful}
 use Rattle.rules.proofs.Same.{weighted-same, range-same, refusal-same, recharge-same, recharge-refusal-same}
 use Rattle.ledger.specs.Row.{energyIn, distanceIn, energyAll}
 use Rattle.state.specs.declared.Run.{Run}
+use Rattle.state.specs.Refusals.{cyclesBy}
 use Rattle.numbers.specs.Tests.{settled}
-use Rattle.judge.proofs.Runs.{Reached, run-shows, cycle-energies, cycle-distances, few-cycles, never-refused}
+use Rattle.judge.proofs.Runs.{Reached, good, run-shows, cycle-energies, cycle-distances, few-cycles, never-refused}
 use Rattle.consumption.specs.declared.Figure.the-variants.{Is, Refused}
 use Rattle.consumption.specs.Figures.{weightedBy, rangeBy, chargedBy, rechargeBy, closedOf}
 use Rattle.closing.specs.Answers.{refusalOf, weightedAnswer, rangeAnswer, rechargeAnswer}
 
 -- two closings that are alike in the whole energy, the number of cycles and each cycle
-module _ (E E′ : ℤ) (n n′ : ℕ) (few : n′ ≤ 64) (e d e′ d′ : ℕ → ℤ) (p : E ≡ E′) (q : n ≡ n′)
-    (he : (c : ℕ) → c < 64 → e c ≡ e′ c) (hd : (c : ℕ) → c < 64 → d c ≡ d′ c) where
+module _ (E E′ : ℤ) (n n′ : ℕ) (few : n′ ≤ mostCycles) (e d e′ d′ : ℕ → ℤ) (p : E ≡ E′) (q : n ≡ n′)
+    (he : (c : ℕ) → c < mostCycles → e c ≡ e′ c) (hd : (c : ℕ) → c < mostCycles → d c ≡ d′ c) where
   refusal-alike : closingRefusal E n e d ≡ closingRefusal E′ n′ e′ d′
   refusal-alike = ap₂ (λ (x : ℤ) (y : ℕ). closingRefusal x y e d) p q ∙ refusal-same E′ n′ few e d e′ d′ he hd
 
@@ -54,42 +57,42 @@ settled-twice k x = go (eqb k 0)
     go true = refl
     go false = refl
 
-module _ (b : List ℕ) (t : Tolerances) (l₀ : List ℤ) (m₀ : List ℕ) {xs : List Sample} {r : Run} {l : List ℤ} {m : List ℕ} (h : Reached b t l₀ m₀ xs r l m)
+module _ (p : Plan) (l₀ : List ℤ) (m₀ : List ℕ) {xs : List Moment} {r : Run} {l : List ℤ} {m : List ℕ} (h : Reached p l₀ m₀ xs r l m)
     (a : Amounts) (ok : areAmounts a ≡ true) where
   -- E, n, e_c and d_c of the samples
   abbrev pub E : ℤ
-  E = wholeEnergy (a .before) b t (sampleOf xs) (length xs)
+  E = wholeEnergy (a .before) (courseOf p) (momentIn xs) (length xs)
 
   abbrev pub n : ℕ
-  n = cycles b t (sampleOf xs) (length xs)
+  n = cycles (courseOf p .layout) (closed (courseOf p) (momentIn xs) (length xs))
 
   abbrev pub e : ℕ → ℤ
-  e c = cycleEnergy b (sampleOf xs) c (counted b t (sampleOf xs) (length xs))
+  e c = partEnergy (courseOf p .share) (momentIn xs) (rowPart (courseOf p .layout) c) (closed (courseOf p) (momentIn xs) (length xs))
 
   abbrev pub d : ℕ → ℤ
-  d c = pos (cycleDistance b (sampleOf xs) c (counted b t (sampleOf xs) (length xs)))
+  d c = pos (partDistance (courseOf p .share) (momentIn xs) (rowPart (courseOf p .layout) c) (closed (courseOf p) (momentIn xs) (length xs)))
 
   -- as the ledger has them
   abbrev E′ : ℤ
   E′ = a .before +ℤ energyAll l
 
   abbrev n′ : ℕ
-  n′ = finishedCycles b (r .counted)
+  n′ = cyclesBy r
 
   E-is : E′ ≡ E
-  E-is = ap (λ (z : ℤ). a .before +ℤ z) (run-shows b t l₀ m₀ h .energies-add-up)
+  E-is = ap (λ (z : ℤ). a .before +ℤ z) (run-shows p l₀ m₀ h .energies-add-up)
 
   n-is : n′ ≡ n
-  n-is = ap (finishedCycles b) (run-shows b t l₀ m₀ h .counted-is)
+  n-is = run-shows p l₀ m₀ h .cycles-are
 
-  few : n ≤ 64
-  few = rw (sym n-is) (few-cycles b t l₀ m₀ h)
+  few : n ≤ mostCycles
+  few = few-cycles p l₀ m₀ h
 
-  energies : (c : ℕ) → c < 64 → energyIn l c ≡ e c
-  energies = cycle-energies b t l₀ m₀ h
+  energies : (c : ℕ) → c < mostCycles → energyIn l c ≡ e c
+  energies = cycle-energies p l₀ m₀ h
 
-  distances : (c : ℕ) → c < 64 → distanceIn l c ≡ d c
-  distances = cycle-distances b t l₀ m₀ h
+  distances : (c : ℕ) → c < mostCycles → distanceIn l c ≡ d c
+  distances = cycle-distances p l₀ m₀ h
 
   refused-is : closingRefusal E′ n′ (energyIn l) (distanceIn l) ≡ closingRefusal E n e d
   refused-is = refusal-alike E′ E n′ n few (energyIn l) (distanceIn l) e d E-is n-is energies distances
@@ -101,17 +104,17 @@ module _ (b : List ℕ) (t : Tolerances) (l₀ : List ℤ) (m₀ : List ℕ) {xs
   range-is = range-alike E′ E n′ n few (energyIn l) (distanceIn l) e d E-is n-is energies distances
 
   -- such a run is refused by the closing's own numbers only
-  refusal-is : refusalOf r a b l m ≡ closingRefusal E n e d
+  refusal-is : refusalOf r a (p .cycle) l m ≡ closingRefusal E n e d
   unfolding refusalOf closedOf
-  refusal-is = sym (pass 1 ok refl) ∙ never-refused b t l₀ m₀ h _ ∙ refused-is
+  refusal-is = sym (pass 1 ok refl) ∙ never-refused p l₀ m₀ h _ ∙ refused-is
 
-  pub weighted-of-run : weightedAnswer r a b l m ≡ weightedBy E n e d
+  pub weighted-of-run : weightedAnswer r a (p .cycle) l m ≡ weightedBy E n e d
   unfolding closedOf
   weighted-of-run =
       (λ i. settled (refusal-is i) (Is (settled (refused-is i) (weighted-is i) 0)) (Refused (refusal-is i)))
       ∙ settled-twice (closingRefusal E n e d) (weightedFigure E n e d)
 
-  pub range-of-run : rangeAnswer r a b l m ≡ rangeBy E n e d
+  pub range-of-run : rangeAnswer r a (p .cycle) l m ≡ rangeBy E n e d
   unfolding closedOf
   range-of-run =
       (λ i. settled (refusal-is i) (Is (settled (refused-is i) (range-is i) 0)) (Refused (refusal-is i)))
@@ -120,49 +123,58 @@ module _ (b : List ℕ) (t : Tolerances) (l₀ : List ℤ) (m₀ : List ℕ) {xs
   charged-is : (F : ℤ) (charge : Charge) → chargedBy E′ n′ (energyIn l) (distanceIn l) F charge ≡ chargedBy E n e d F charge
   charged-is = charged-alike E′ E n′ n few (energyIn l) (distanceIn l) e d E-is n-is energies distances
 
-  pub recharge-of-run : rechargeAnswer r a b l m ≡ rechargeBy E n e d (a .after) (a .charge)
+  pub recharge-of-run : rechargeAnswer r a (p .cycle) l m ≡ rechargeBy E n e d (a .after) (a .charge)
   recharge-of-run = λ i. settled (refusal-is i) (charged-is (a .after) (a .charge) i) (Refused (refusal-is i))
 
 -- a run that has ended, and the same run with more samples: every figure is as it was
-module _ (b : List ℕ) (t : Tolerances) (l₀ : List ℤ) (m₀ : List ℕ) (xs ys : List Sample) {r r′ : Run} {l l′ : List ℤ} {m m′ : List ℕ}
-    (h : Reached b t l₀ m₀ xs r l m) (h′ : Reached b t l₀ m₀ (xs ++ ys) r′ l′ m′) (ended : isOpen (r .end) ≡ false) (a : Amounts) (ok : areAmounts a ≡ true) where
-  stays : Stays b t (sampleOf xs) (sampleOf (xs ++ ys)) (length xs) (length (xs ++ ys)) (omega (arith, length-append xs ys)) (List·getD-append xs ys _)
-  stays = ended-stays b t (sampleOf xs) (sampleOf (xs ++ ys)) (length xs) (length (xs ++ ys)) _ _ (ap isOpen (sym (run-shows b t l₀ m₀ h .end-is)) ∙ ended)
+module _ (p : Plan) (l₀ : List ℤ) (m₀ : List ℕ) (xs ys : List Moment) {r r′ : Run} {l l′ : List ℤ} {m m′ : List ℕ}
+    (h : Reached p l₀ m₀ xs r l m) (h′ : Reached p l₀ m₀ (xs ++ ys) r′ l′ m′) (ended : isOpen (r .progress .end) ≡ false) (a : Amounts) (ok : areAmounts a ≡ true) where
+  abbrev s : ℕ → Moment
+  s = momentIn xs
+
+  abbrev s′ : ℕ → Moment
+  s′ = momentIn (xs ++ ys)
+
+  lawful : Lawful (courseOf p)
+  lawful = regular-lawful (p .cycle) (good p l₀ m₀ h) (p .tolerances)
+
+  stays : Over (courseOf p) lawful s s′ (length xs) (length (xs ++ ys)) (more-samples xs ys) (same-samples xs ys)
+  stays = over (courseOf p) lawful s s′ (length xs) (length (xs ++ ys)) (more-samples xs ys) (same-samples xs ys) (ap isOpen (sym (run-shows p l₀ m₀ h .end-is)) ∙ ended)
 
   -- E, n, e_c and d_c are the same
-  same-E : E b t l₀ m₀ h′ a ok ≡ E b t l₀ m₀ h a ok
-  same-E = ap (λ (z : ℤ). a .before +ℤ z) (stays .whole)
+  same-E : E p l₀ m₀ h′ a ok ≡ E p l₀ m₀ h a ok
+  same-E = ap (λ (z : ℤ). a .before +ℤ z) (whole-over (courseOf p) lawful s s′ (length xs) (length (xs ++ ys)) (more-samples xs ys) (same-samples xs ys) stays)
 
-  same-n : n b t l₀ m₀ h′ a ok ≡ n b t l₀ m₀ h a ok
-  same-n = ap (finishedCycles b) (stays .counted-same)
+  same-n : n p l₀ m₀ h′ a ok ≡ n p l₀ m₀ h a ok
+  same-n = ap (cycles (courseOf p .layout)) (stays .closed-same)
 
   abbrev e₁ : ℕ → ℤ
-  e₁ = e b t l₀ m₀ h a ok
+  e₁ = e p l₀ m₀ h a ok
 
   abbrev d₁ : ℕ → ℤ
-  d₁ = d b t l₀ m₀ h a ok
+  d₁ = d p l₀ m₀ h a ok
 
-  same-e : (c : ℕ) → c < 64 → e b t l₀ m₀ h′ a ok c ≡ e₁ c
-  same-e c g = stays .energies c
+  same-e : (c : ℕ) → c < mostCycles → e p l₀ m₀ h′ a ok c ≡ e₁ c
+  same-e c g = energy-over (courseOf p) lawful s s′ (length xs) (length (xs ++ ys)) (more-samples xs ys) (same-samples xs ys) stays (rowPart (courseOf p .layout) c)
 
-  same-d : (c : ℕ) → c < 64 → d b t l₀ m₀ h′ a ok c ≡ d₁ c
-  same-d c g = ap pos (stays .distances c)
+  same-d : (c : ℕ) → c < mostCycles → d p l₀ m₀ h′ a ok c ≡ d₁ c
+  same-d c g = ap pos (distance-over (courseOf p) lawful s s′ (length xs) (length (xs ++ ys)) (more-samples xs ys) (same-samples xs ys) stays (rowPart (courseOf p .layout) c))
 
-  same-refusal : closingRefusal (E b t l₀ m₀ h′ a ok) (n b t l₀ m₀ h′ a ok) (e b t l₀ m₀ h′ a ok) (d b t l₀ m₀ h′ a ok)
-      ≡ closingRefusal (E b t l₀ m₀ h a ok) (n b t l₀ m₀ h a ok) e₁ d₁
-  same-refusal = refusal-alike _ _ _ _ (few b t l₀ m₀ h a ok) _ _ e₁ d₁ same-E same-n same-e same-d
+  same-refusal : closingRefusal (E p l₀ m₀ h′ a ok) (n p l₀ m₀ h′ a ok) (e p l₀ m₀ h′ a ok) (d p l₀ m₀ h′ a ok)
+      ≡ closingRefusal (E p l₀ m₀ h a ok) (n p l₀ m₀ h a ok) e₁ d₁
+  same-refusal = refusal-alike _ _ _ _ (few p l₀ m₀ h a ok) _ _ e₁ d₁ same-E same-n same-e same-d
 
-  pub weighted-stays : weightedAnswer r′ a b l′ m′ ≡ weightedAnswer r a b l m
+  pub weighted-stays : weightedAnswer r′ a (p .cycle) l′ m′ ≡ weightedAnswer r a (p .cycle) l m
   weighted-stays =
-      let w = weighted-alike _ _ _ _ (few b t l₀ m₀ h a ok) _ _ e₁ d₁ same-E same-n same-e same-d in
-      weighted-of-run b t l₀ m₀ h′ a ok ∙ (λ i. settled (same-refusal i) (Is (w i)) (Refused (same-refusal i))) ∙ sym (weighted-of-run b t l₀ m₀ h a ok)
+      let w = weighted-alike _ _ _ _ (few p l₀ m₀ h a ok) _ _ e₁ d₁ same-E same-n same-e same-d in
+      weighted-of-run p l₀ m₀ h′ a ok ∙ (λ i. settled (same-refusal i) (Is (w i)) (Refused (same-refusal i))) ∙ sym (weighted-of-run p l₀ m₀ h a ok)
 
-  pub range-stays : rangeAnswer r′ a b l′ m′ ≡ rangeAnswer r a b l m
+  pub range-stays : rangeAnswer r′ a (p .cycle) l′ m′ ≡ rangeAnswer r a (p .cycle) l m
   range-stays =
-      let w = range-alike _ _ _ _ (few b t l₀ m₀ h a ok) _ _ e₁ d₁ same-E same-n same-e same-d in
-      range-of-run b t l₀ m₀ h′ a ok ∙ (λ i. settled (same-refusal i) (Is (w i)) (Refused (same-refusal i))) ∙ sym (range-of-run b t l₀ m₀ h a ok)
+      let w = range-alike _ _ _ _ (few p l₀ m₀ h a ok) _ _ e₁ d₁ same-E same-n same-e same-d in
+      range-of-run p l₀ m₀ h′ a ok ∙ (λ i. settled (same-refusal i) (Is (w i)) (Refused (same-refusal i))) ∙ sym (range-of-run p l₀ m₀ h a ok)
 
-  pub recharge-stays : rechargeAnswer r′ a b l′ m′ ≡ rechargeAnswer r a b l m
+  pub recharge-stays : rechargeAnswer r′ a (p .cycle) l′ m′ ≡ rechargeAnswer r a (p .cycle) l m
   recharge-stays =
-      let w = charged-alike _ _ _ _ (few b t l₀ m₀ h a ok) _ _ e₁ d₁ same-E same-n same-e same-d (a .after) (a .charge) in
-      recharge-of-run b t l₀ m₀ h′ a ok ∙ (λ i. settled (same-refusal i) (w i) (Refused (same-refusal i))) ∙ sym (recharge-of-run b t l₀ m₀ h a ok)
+      let w = charged-alike _ _ _ _ (few p l₀ m₀ h a ok) _ _ e₁ d₁ same-E same-n same-e same-d (a .after) (a .charge) in
+      recharge-of-run p l₀ m₀ h′ a ok ∙ (λ i. settled (same-refusal i) (w i) (Refused (same-refusal i))) ∙ sym (recharge-of-run p l₀ m₀ h a ok)

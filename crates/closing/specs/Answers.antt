@@ -6,10 +6,10 @@ use lib.IntN.{ℤ, _+ℤ_}
 use Rattle.numbers.specs.Tests.{unless, settled}
 use Rattle.rules.specs.declared.Amounts.{Amounts}
 use Rattle.rules.specs.Closing.{areAmounts}
-use Rattle.rules.specs.Run.{finishedCycles}
 use Rattle.ledger.specs.Row.{energyIn, distanceIn, energyAll}
 use Rattle.state.specs.declared.Run.{Run}
 use Rattle.state.specs.State.{ground}
+use Rattle.state.specs.Refusals.{cyclesBy}
 use Rattle.consumption.specs.declared.Closed.{Closed}
 use Rattle.consumption.specs.declared.Figure.{Figure}
 use Rattle.consumption.specs.declared.Figure.the-variants.{Is}
@@ -25,7 +25,7 @@ module _ (r : Run) (a : Amounts) (b : List ℕ) (l : List ℤ) (m : List ℕ) wh
   whole = a .before +ℤ energyAll l
 
   abbrev pub closed : Closed
-  closed = closedOf l (finishedCycles b (r .counted)) whole
+  closed = closedOf l (cyclesBy r) whole
 
   -- 1, 2, 10, 11, 12, 13, or 0
   unfoldable pub refusalOf : ℕ
@@ -38,7 +38,7 @@ module _ (r : Run) (a : Amounts) (b : List ℕ) (l : List ℤ) (m : List ℕ) wh
   rangeAnswer = figureOr refusalOf (Is (closed .range))
 
   abbrev pub rechargeAnswer : Figure
-  rechargeAnswer = figureOr refusalOf (chargedBy whole (finishedCycles b (r .counted)) (energyIn l) (distanceIn l) (a .after) (a .charge))
+  rechargeAnswer = figureOr refusalOf (chargedBy whole (cyclesBy r) (energyIn l) (distanceIn l) (a .after) (a .charge))
 
   -- the closing with the refusals before it
   abbrev pub closingOf : Closed

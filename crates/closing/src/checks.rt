@@ -4,10 +4,11 @@ use consumption::close;
 use ledger::totals::energy_all;
 use rules::Amounts;
 use state::Run;
+use state::cycles_of;
 use state::ground_refusal;
 use values::are_amounts;
 ghost use mathlib.Core.Path.{_≡_};
-ghost use Rattle.closing.specs.Answers.{grounds, refusalOf, closed, closingOf};
+ghost use Rattle.closing.specs.Answers.{grounds, closingOf};
 
 // 1 or 2, or 0 where the closing may go on.
 fn grounds_refusal(run: Run, a: Amounts, cycle: &[u8], ledger: &[i64], map: &[u64]) -> u32
@@ -31,6 +32,6 @@ pub fn closing_of(run: Run, a: Amounts, cycle: &[u8], ledger: &[i64], map: &[u64
             range: 0,
         };
     }
-    let n = (run.counted / (20 * run.seconds)) as usize;
+    let n = cycles_of(run) as usize;
     close(ledger, n, a.before + energy_all(ledger))
 }

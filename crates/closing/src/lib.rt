@@ -4,7 +4,7 @@ use rules::Amounts;
 use rules::Charge;
 use state::Run;
 ghost use mathlib.Core.Path.{_≡_};
-ghost use Rattle.closing.specs.Answers.{refusalOf, weightedAnswer, rangeAnswer, rechargeAnswer};
+ghost use Rattle.closing.specs.Answers.{weightedAnswer, rangeAnswer, rechargeAnswer};
 
 pub mod checks;
 

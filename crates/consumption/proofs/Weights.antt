@@ -19,7 +19,7 @@ use Rattle.numbers.proofs.Tests.{both, all-more, all-fails, all-at, refuted, pa
 use Rattle.numbers.proofs.Whole.{sum-is, le-up, up-le, le-not, sized-upto}
 use Rattle.rules.specs.Closing.{mostRate, isRate, rateOf, weighing, weight, weightedFigure, rangeFigure, closingRefusal}
 use Rattle.rules.proofs.Weighing.{greatest-rate, weight-pos, weighted-at-least-one}
-use Rattle.rules.specs.Bench.{mostPhases}
+use Rattle.rules.specs.Bench.{mostPhases, mostCycles}
 use Rattle.rules.specs.Shown.{mostEnergy, mostDistance}
 use Rattle.wide.specs.declared.Ratio.the-variants.{Over}
 use Rattle.wide.specs.Ratio.{ratio}
@@ -96,7 +96,7 @@ mostDrawn = mostPhases * mostEnergy
 abbrev pub mostMoved : ℕ
 mostMoved = mostPhases * mostDistance
 
-module _ (l : List ℤ) (b : bounded l ≡ true) (c : ℕ) (h : c < 64) where
+module _ (l : List ℤ) (b : bounded l ≡ true) (c : ℕ) (h : c < mostCycles) where
   pub energy-positive : leZ (pos 1) (energyIn l c) ≡ true → Positive mostDrawn (energyIn l c)
   energy-positive e = positive mostDrawn (energyIn l c) (energy-sized l b c h) e
 
@@ -122,7 +122,7 @@ module _ (l : List ℤ) (n : ℕ) (g : Closable l n) where
     drawn-at = all-at n (λ k. leZ (pos 1) (energyIn l k)) (g .drawn) c h
 
     -- what `energy_in` and `rate_in` ask
-    pub cycle-at : (bounded l ≡ true) × (c < 64) × (leZ (pos 1) (energyIn l c) ≡ true) × (ltZ (pos 0) (distanceIn l c) ≡ true)
+    pub cycle-at : (bounded l ≡ true) × (c < mostCycles) × (leZ (pos 1) (energyIn l c) ≡ true) × (ltZ (pos 0) (distanceIn l c) ≡ true)
     cycle-at = (g .bounded, omega (arith, g .most), drawn-at, all-at n (λ k. ltZ (pos 0) (distanceIn l k)) (g .moved) c h)
 
     pub energy-at : Positive mostDrawn (energyIn l c)

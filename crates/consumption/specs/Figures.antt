@@ -12,6 +12,7 @@ use Rattle.numbers.specs.Whole.{up}
 use Rattle.rules.specs.declared.Charge.{Charge}
 use Rattle.rules.specs.declared.Charge.the-variants.{Absent as absent, Wh as wh}
 use Rattle.rules.specs.Closing.{mostRate, isRate, rateOf, recharge, weightedFigure, rangeFigure, closingRefusal, rechargeFigure, rechargeRefusal}
+use Rattle.rules.specs.Bench.{mostCycles}
 use Rattle.ledger.specs.Row.{bounded, energyIn, distanceIn}
 use Rattle.consumption.specs.declared.Closed.{Closed}
 use Rattle.consumption.specs.declared.Figure.{Figure}
@@ -55,7 +56,7 @@ closedOf l n E =
 -- what the tests up to 12 leave
 pub record Closable (l : List ℤ) (n : ℕ) : Type 0 where
   pub bounded : bounded l ≡ true
-  pub most : n ≤ 64
+  pub most : n ≤ mostCycles
   pub three : 3 ≤ n
   pub drawn : allBelow n (λ c. leZ (pos 1) (energyIn l c)) ≡ true
   pub moved : allBelow n (λ c. ltZ (pos 0) (distanceIn l c)) ≡ true

@@ -10,7 +10,7 @@ ghost use lib.IntN.{pos, _+ℤ_};
 ghost use lib.Signed.{leZ, ltZ};
 ghost use Rattle.numbers.specs.Range.{sum};
 ghost use Rattle.numbers.specs.Tests.{allBelow};
-ghost use Rattle.numbers.specs.Whole.{up, Sized};
+ghost use Rattle.numbers.specs.Whole.{Sized};
 ghost use Rattle.rules.specs.Closing.{isRate, rateOf, weightedFigure, recharge, mostRate, mostWhole, mostCharge, mostTransfer};
 ghost use Rattle.rules.specs.Bench.{mostCycles};
 ghost use Rattle.ledger.specs.Row.{bounded, energyIn, distanceIn};
@@ -33,7 +33,7 @@ pub struct Closed {
 
 // Whether every finished cycle has drawn energy.
 fn all_drawn(ledger: &[i64], n: usize) -> bool
-    requires { ⌜ (bounded (now ledger) ≡ true) × (n ≤ 64) ⌝ }
+    requires { ⌜ (bounded (now ledger) ≡ true) × (n ≤ mostCycles) ⌝ }
     ensures { λ r. ⌜ r ≡ allBelow n (λ c. leZ (pos 1) (energyIn (now (ledger .entry)) c)) ⌝ }
 {
     let mut c = 0;
@@ -48,7 +48,12 @@ fn all_drawn(ledger: &[i64], n: usize) -> bool
 
 // q_c of a cycle that has drawn energy and moved.
 fn rate_in(ledger: &[i64], c: usize) -> u64
-    requires { ⌜ (bounded (now ledger) ≡ true) × (c < 64) × (leZ (pos 1) (energyIn (now ledger) c) ≡ true) × (ltZ (pos 0) (distanceIn (now ledger) c) ≡ true) ⌝ }
+    requires { ⌜
+        (bounded (now ledger) ≡ true)
+        × (c < mostCycles)
+        × (leZ (pos 1) (energyIn (now ledger) c) ≡ true)
+        × (ltZ (pos 0) (distanceIn (now ledger) c) ≡ true)
+        ⌝ }
     ensures { λ r. ⌜ r ≡ rateOf (energyIn (now (ledger .entry))) (distanceIn (now (ledger .entry))) c ⌝ }
 {
     let e = energy_in(ledger, c) as u64;
@@ -58,8 +63,12 @@ fn rate_in(ledger: &[i64], c: usize) -> u64
 
 // Whether every finished cycle has a distance and a rate within its limits.
 fn all_rated(ledger: &[i64], n: usize) -> bool
-    requires { ⌜ (bounded (now ledger) ≡ true) × (n ≤ 64) × (allBelow n (λ c. leZ (pos 1) (energyIn (now ledger) c)) ≡ true) ⌝ }
-    ensures { λ r. ⌜ r ≡ (allBelow n (λ c. ltZ (pos 0) (distanceIn (now (ledger .entry)) c)) && allBelow n (λ c. isRate (rateOf (energyIn (now (ledger .entry))) (distanceIn (now (ledger .entry))) c))) ⌝ }
+    requires { ⌜ (bounded (now ledger) ≡ true) × (n ≤ mostCycles) × (allBelow n (λ c. leZ (pos 1) (energyIn (now ledger) c)) ≡ true) ⌝ }
+    ensures { λ r. ⌜
+        r
+        ≡ (allBelow n (λ c. ltZ (pos 0) (distanceIn (now (ledger .entry)) c))
+        && allBelow n (λ c. isRate (rateOf (energyIn (now (ledger .entry))) (distanceIn (now (ledger .entry))) c)))
+        ⌝ }
 {
     let mut c = 0;
     while c < n {
@@ -81,7 +90,10 @@ fn all_rated(ledger: &[i64], n: usize) -> bool
 // q_3 + .. + q_n.
 fn sum_from_third(ledger: &[i64], n: usize) -> u64
     requires { ⌜ Closable (now ledger) n ⌝ }
-    ensures { λ r. ⌜ (r ≡ sum (λ c. rateOf (energyIn (now (ledger .entry))) (distanceIn (now (ledger .entry))) (2 + c)) (n - 2)) × (r ≤ mostCycles * mostRate) ⌝ }
+    ensures { λ r. ⌜
+        (r ≡ sum (λ c. rateOf (energyIn (now (ledger .entry))) (distanceIn (now (ledger .entry))) (2 + c)) (n - 2))
+        × (r ≤ mostCycles * mostRate)
+        ⌝ }
 {
     let mut s: u64 = 0;
     let mut c = 2;
@@ -156,7 +168,7 @@ fn finish(ledger: &[i64], n: usize, total: u64) -> Closed
 
 // The closing of n finished cycles with the whole energy total.
 pub fn close(ledger: &[i64], n: usize, total: i64) -> Closed
-    requires { ⌜ (bounded (now ledger) ≡ true) × (n ≤ 64) × Sized mostWhole total ⌝ }
+    requires { ⌜ (bounded (now ledger) ≡ true) × (n ≤ mostCycles) × Sized mostWhole total ⌝ }
     ensures { λ r. ⌜ r ≡ closedOf (now (ledger .entry)) n total ⌝ }
 {
     if n < 3 {

@@ -14,7 +14,7 @@ use Rattle.rules.specs.Closing.{isTransfer, isCharge}
 use Rattle.blocks.specs.Blocks.{samplesIn, areSamples, isBlock}
 use Rattle.fields.specs.declared.Front.the-variants.{Field as field}
 use Rattle.fields.specs.Fields.{valueIn, frontOf}
-use Rattle.fields.specs.Values.{isNumber, sameNumber, firstIn, samplesOf, energyIn, rechargeIn}
+use Rattle.fields.specs.Values.{isNumber, sameNumber, firstIn, samplesOf, transferIn, rechargeIn}
 use Rattle.fields.proofs.Fronts.{front-whole, sizes, value-length}
 use Rattle.contents.specs.declared.Content.{Content}
 use Rattle.contents.specs.declared.Content.the-variants.{Own, Foreign, Before, After, Recharge, Refused}
@@ -61,7 +61,7 @@ module _ (me : List ℕ) (passed offered tag : ℕ) (v : List ℕ) where
 
   says-energy : Says (energyContent v)
   unfolding energyContent
-  says-energy = tested 14 (isTransfer (energyIn v)) _ λ e. chosen (eqb (getD v 0 0) 0) (Before (energyIn v)) (After (energyIn v)) (λ _. e) e
+  says-energy = tested 14 (isTransfer (transferIn v)) _ λ e. chosen (eqb (getD v 0 0) 0) (Before (transferIn v)) (After (transferIn v)) (λ _. e) e
 
   says-recharge : Says (rechargeContent v)
   unfolding rechargeContent

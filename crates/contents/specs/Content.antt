@@ -10,7 +10,7 @@ use Rattle.rules.specs.declared.Charge.the-variants.{Wh as wh}
 use Rattle.rules.specs.Bench.{mostOffered, mostPassed}
 use Rattle.rules.specs.Closing.{isTransfer, isCharge}
 use Rattle.blocks.specs.Blocks.{samplesIn, areSamples}
-use Rattle.fields.specs.Values.{isNumber, sameNumber, firstIn, samplesOf, energyIn, rechargeIn}
+use Rattle.fields.specs.Values.{isNumber, sameNumber, firstIn, samplesOf, transferIn, rechargeIn}
 pub use Rattle.contents.specs.declared.Content.{Content}
 pub use Rattle.contents.specs.declared.Content.the-variants.{Own, Foreign, Before, After, Recharge, Refused}
 
@@ -42,8 +42,8 @@ blockContent me passed offered v =
 -- "within 10^13 either way"; "0 before or 1 after"
 unfoldable pub energyContent : List ℕ → Content
 energyContent v =
-    unless (Refused 14) (isTransfer (energyIn v))
-    (cond (eqb (getD v 0 0) 0) (Before (energyIn v)) (After (energyIn v)))
+    unless (Refused 14) (isTransfer (transferIn v))
+    (cond (eqb (getD v 0 0) 0) (Before (transferIn v)) (After (transferIn v)))
 
 -- "1..2,000,000"
 unfoldable pub rechargeContent : List ℕ → Content

@@ -10,7 +10,7 @@ use Rattle.records.proofs.Calls.{Lent}
 use Rattle.sheet.specs.Text.{mostSheet, refusalText}
 use Rattle.desk.specs.declared.Outcome.{Outcome}
 use Rattle.desk.specs.declared.Outcome.the-variants.{More, Refused}
-use Rattle.desk.specs.Feeding.{Laid, Taken, laidOf, emptyDesk, stops, feedOf, deskGround}
+use Rattle.desk.specs.Feeding.{Laid, Consumed, laidOf, emptyDesk, stops, feedOf, deskGround}
 use Rattle.desk.proofs.Grounds.{feed-refuses}
 use Rattle.desk.proofs.Arriving.{Arrived, arrived-none, arrived-more, arrived-refused}
 use Rattle.desk.proofs.feed
@@ -30,8 +30,8 @@ pub record FeedOn (x : Laid) (i : List ℕ) (c : FeedCall) : Type 0 where
   pub desk : c .args .0 ≡ x .desk
   pub input : now (c .args .1 .0) ≡ i
   pub room : now (c .args .1 .1 .0) ≡ x .room
-  pub ledger : now (c .args .1 .1 .1 .0) ≡ x .ledger
-  pub map : now (c .args .1 .1 .1 .1 .0) ≡ x .map
+  pub ledger : now (c .args .1 .1 .1 .0) ≡ x .memory .ledger
+  pub map : now (c .args .1 .1 .1 .1 .0) ≡ x .memory .map
 
 -- the desk and the memory that it leaves
 abbrev pub laidBy : FeedCall → Laid
@@ -39,13 +39,7 @@ laidBy c = laidOf (c .answer .desk) (c .lasts .1 .1 .0) (c .lasts .1 .1 .1 .0) (
 
 -- as the contract has them
 fed-by : {x : Laid} {i : List ℕ} (c : FeedCall) → FeedOn x i c → record { laid = laidBy c; used = c .answer .used; outcome = c .answer .outcome } ≡ feedOf x i
-fed-by {x} {i} c on =
-    let k = c .kept in
-    (λ j. record {
-      laid = laidOf (k .0 j .desk) (k .1 .0 j) (k .1 .1 .0 j) (k .1 .1 .1 j);
-      used = k .0 j .used;
-      outcome = k .0 j .outcome;
-    }) ∙ (λ j. feedOf (laidOf (on .desk j) (on .room j) (on .ledger j) (on .map j)) (on .input j))
+fed-by c on = c .kept ∙ (λ j. feedOf (laidOf (on .desk j) (on .room j) (on .ledger j) (on .map j)) (on .input j))
 
 module _ (lent : Lent) where
   -- the bytes w have arrived, in calls that each had what was left over before and new bytes behind it; the desk has taken all but the rest
@@ -58,8 +52,8 @@ module _ (lent : Lent) where
   fed-arrived empty = arrived-none lent
   fed-arrived (more {w} {rest} {x} h new c on e) =
       let f = fed-by c on in
-      subst (λ (y : Taken). Arrived lent (w ++ new) (y .laid) (drop (y .used) (rest ++ new))) (sym f)
-      (arrived-more lent (fed-arrived h) new (sym (ap (λ (y : Taken). y .outcome) f) ∙ e))
+      subst (λ (y : Consumed). Arrived lent (w ++ new) (y .laid) (drop (y .used) (rest ++ new))) (sym f)
+      (arrived-more lent (fed-arrived h) new (sym (ap (λ (y : Consumed). y .outcome) f) ∙ e))
 
 -- ---- what is printed
 
@@ -74,8 +68,8 @@ pub record CloseOn (x : Laid) (rest : List ℕ) (c : CloseCall) : Type 0 where
   pub desk : c .args .0 ≡ x .desk
   pub left : c .args .1 .0 ≡ length rest
   pub room : now (c .args .1 .1 .0) ≡ x .room
-  pub ledger : now (c .args .1 .1 .1 .0) ≡ x .ledger
-  pub map : now (c .args .1 .1 .1 .1 .0) ≡ x .map
+  pub ledger : now (c .args .1 .1 .1 .0) ≡ x .memory .ledger
+  pub map : now (c .args .1 .1 .1 .1 .0) ≡ x .memory .map
   pub long : mostSheet ≤ length (now (c .args .1 .1 .1 .1 .1 .0))
 
 -- a field is refused the number k at the desk x
@@ -107,18 +101,18 @@ module _ (lent : Lent) {w rest : List ℕ} {x : Laid} (h : FedIn lent w x rest) 
   -- new bytes, and a field of them is refused
   module _ (new : List ℕ) (f : FeedCall) (fed : FeedOn x (rest ++ new) f) (k : ℕ) (stops : f .answer .outcome ≡ Refused k) where
     outcome-is : feedOf x (rest ++ new) .outcome ≡ Refused k
-    outcome-is = sym (ap (λ (y : Taken). y .outcome) (fed-by f fed)) ∙ stops
+    outcome-is = sym (ap (λ (y : Consumed). y .outcome) (fed-by f fed)) ∙ stops
 
     -- its number is the record's, with the number of its field, whatever would follow
     pub feed-number : (q : List ℕ) → sheetOf ((w ++ new) ++ q) ≡ refused (outcomeNumber (f .answer .outcome)) (suc (f .answer .desk .fields))
     feed-number q =
         arrived-refused lent (fed-arrived lent h) new k outcome-is q
-        ∙ ap₂ (λ (y : Taken) (o : Outcome). refused (outcomeNumber o) (suc (y .laid .desk .fields))) (sym (fed-by f fed)) (sym stops)
+        ∙ ap₂ (λ (y : Consumed) (o : Outcome). refused (outcomeNumber o) (suc (y .laid .desk .fields))) (sym (fed-by f fed)) (sym stops)
 
     -- "A refused field gives only `refused N field K`, K from 1"
     pub refusal-prints : (c : RefuseCall) → RefuseOn (laidBy f) k c → (q : List ℕ) → take (c .answer) (c .lasts .1 .1 .0) ≡ printed (sheetOf ((w ++ new) ++ q))
     refusal-prints c on q =
         text-is _ _ (c .kept .0) (c .kept .1) (on .long)
         ∙ (λ j. refusalText (on .number j) (nextField (on .desk j .fields)))
-        ∙ ap (λ (y : Taken). refuseText (y .laid) k) (fed-by f fed)
+        ∙ ap (λ (y : Consumed). refuseText (y .laid) k) (fed-by f fed)
         ∙ printing.refusal-prints lent (fed-arrived lent h) new k outcome-is q

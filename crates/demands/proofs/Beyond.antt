@@ -2,9 +2,9 @@
 -- Assumes nothing.
 use mathlib.Core.Bool.{Bool, true, false, cond}
 use mathlib.Core.List.{List}
-use mathlib.Core.Path.{_≡_, refl, ap, _∙_}
+use mathlib.Core.Path.{_≡_, refl, subst⁻¹, _∙_}
 use Prim.Native.Nat.{ℕ, zero, suc, _+_, _*_, _<_}
-use native.Mathlib.Nat.{mod-lt, div-lt-iff-lt-mul, le-step}
+use native.Mathlib.Nat.{mod-lt, div-add-mod', div-lt-iff-lt-mul, le-step}
 use native.Mathlib.Omega.{arith}
 use lib.Dec.{eqb}
 use borrow.Author.Tests.{eqb-true}
@@ -15,36 +15,38 @@ use denote.Ref.{now}
 use Rattle.numbers.specs.Lists.{plus}
 use Rattle.numbers.specs.Range.{fold}
 use Rattle.numbers.proofs.Lists.{drop-cleared}
-use Rattle.rules.specs.declared.Sample.{Sample}
-use Rattle.rules.specs.declared.Tolerances.{Tolerances}
-use Rattle.rules.specs.Bench.{isOpen, isSample, drawn, distance}
-use Rattle.rules.specs.Cycle.{phaseAt}
-use Rattle.rules.specs.Run.{cycleOf, positionOf}
+use Rattle.rules.specs.declared.Moment.{Moment}
+use Rattle.rules.specs.Bench.{isOpen, isMoment, momentOf, mostCycles, mostPhases, mostPositions}
+use Rattle.rules.specs.Cycle.{phaseAt, positions}
+use Rattle.rules.specs.Course.{Course}
+use Rattle.rules.specs.Regular.{cycleOf, positionOf, Plan, courseOf}
 use Rattle.rules.proofs.Sound.{sound, real, four}
 use Rattle.rules.specs.Shown.{ledgerNumbers, mapWords}
 use Rattle.ledger.specs.Row.{outsideAdded, isOver, sampleAdded}
 use Rattle.map.specs.Map.{opened}
 use Rattle.map.proofs.Marks.{drop-markedIf, drop-opened}
 use Rattle.state.specs.declared.Run.{Run}
+use Rattle.state.specs.State.{Memory, lent}
 use Rattle.state.proofs.Checked.{ground-passed}
-use Rattle.step.specs.Step.{State, Kept, outNow, passed, judge, step, steps, goingOf, stateOf}
-use Rattle.step.proofs.Keeping.{kept-steps}
-use Rattle.blocks.specs.Blocks.{sampleAt, samplesIn}
-use Rattle.blocks.proofs.Bytes.{taken-one, taken, samples-at}
+use Rattle.step.specs.Step.{State, Kept, positionNow, outNow, onlyOffered, judge, sampleTaken, samplesTaken, leftAt, stateOf}
+use Rattle.step.proofs.Keeping.{kept-all}
+use Rattle.blocks.specs.Blocks.{momentAt, samplesIn}
+use Rattle.blocks.proofs.Bytes.{one-accepted, block-accepted, moments-at}
 use Rattle.judge.specs.declared.Answer.{Answer}
+use Rattle.judge.specs.Answers.{planOf}
 use Rattle.judge.proofs.Calls.{kept-ground}
 use Rattle.judge.proofs.Promises.{Promised}
-use Rattle.demands.proofs.Driven.{StartCall, SampleCall, BlockCall, start-kept, sample-kept, block-kept}
+use Rattle.demands.proofs.Driven.{StartCall, SampleCall, BlockCall, startLeaves, sampleLeaves, blockLeaves, start-promised, sample-promised, block-promised}
 
 -- ledger and map are beyond their 576 numbers and 750 words as they were
-pub record Beyond (l : List ℤ) (m : List ℕ) (l′ : List ℤ) (m′ : List ℕ) : Type 0 where
-  pub in-ledger : drop ledgerNumbers l′ ≡ drop ledgerNumbers l
-  pub in-map : drop mapWords m′ ≡ drop mapWords m
+pub record Beyond (a c : Memory) : Type 0 where
+  pub in-ledger : drop ledgerNumbers (c .ledger) ≡ drop ledgerNumbers (a .ledger)
+  pub in-map : drop mapWords (c .map) ≡ drop mapWords (a .map)
 
-pub untouched : {l : List ℤ} {m : List ℕ} → Beyond l m l m
+pub untouched : {a : Memory} → Beyond a a
 untouched = record { in-ledger = refl; in-map = refl }
 
-pub beyond-then : {l l₁ l₂ : List ℤ} {m m₁ m₂ : List ℕ} → Beyond l m l₁ m₁ → Beyond l₁ m₁ l₂ m₂ → Beyond l m l₂ m₂
+pub beyond-then : {a b c : Memory} → Beyond a b → Beyond b c → Beyond a c
 beyond-then g h = record { in-ledger = h .in-ledger ∙ g .in-ledger; in-map = h .in-map ∙ g .in-map }
 
 -- ---- one sample, and several
@@ -53,74 +55,80 @@ plus-beyond : (l : List ℤ) (i : ℕ) (z : ℤ) → i < ledgerNumbers → drop 
 plus-beyond l i z h = drop-set-lt ledgerNumbers l i _ h
 
 -- three additions in the nine numbers of a cycle
-module _ (c : ℕ) (l : List ℤ) (h : c < 64) where
+module _ (c : ℕ) (l : List ℤ) (h : c < mostCycles) where
   marked-beyond : (out : Bool) → drop ledgerNumbers (outsideAdded (9 * c) l out) ≡ drop ledgerNumbers l
   marked-beyond true = plus-beyond l (9 * c + 8) (pos 1) (omega arith)
   marked-beyond false = refl
 
-  added-beyond : (k : ℕ) (e d : ℤ) (out : Bool) (allowance : ℕ) → k < 4 → drop ledgerNumbers (sampleAdded (9 * c) l k e d out allowance) ≡ drop ledgerNumbers l
+  added-beyond : (k : ℕ) (x : Moment) (out : Bool) (allowance : ℕ) → k < mostPhases → drop ledgerNumbers (sampleAdded (9 * c) l k x out allowance) ≡ drop ledgerNumbers l
   unfolding sampleAdded
-  added-beyond k e d out allowance g = go (isOver (9 * c) l out allowance)
+  added-beyond k x out allowance g = go (isOver (9 * c) l out allowance)
     where
       l₁ : List ℤ
       l₁ = outsideAdded (9 * c) l out
 
-      go : (o : Bool) → drop ledgerNumbers (cond o l₁ (plus (plus l₁ (9 * c + k) e) (9 * c + (4 + k)) d)) ≡ drop ledgerNumbers l
+      go : (o : Bool) → drop ledgerNumbers (cond o l₁ (plus (plus l₁ (9 * c + k) (x .energy)) (9 * c + (4 + k)) (pos (x .speed)))) ≡ drop ledgerNumbers l
       go true = marked-beyond out
       go false =
-          plus-beyond (plus l₁ (9 * c + k) e) (9 * c + (4 + k)) d (omega arith) ∙ plus-beyond l₁ (9 * c + k) e (omega arith) ∙ marked-beyond out
+          plus-beyond (plus l₁ (9 * c + k) (x .energy)) (9 * c + (4 + k)) (pos (x .speed)) (omega arith) ∙ plus-beyond l₁ (9 * c + k) (x .energy) (omega arith) ∙ marked-beyond out
 
-module _ (b : List ℕ) (t : Tolerances) where
-  step-beyond : (a : State) (x : Sample) → Kept b t (goingOf b (t .time) a) (a .ledger) (a .map)
-      → Beyond (a .ledger) (a .map) (step b t a x .ledger) (step b t a x .map)
-  unfolding step judge
-  step-beyond a x k = go (isOpen (a .end)) refl
+module _ (p : Plan) where
+  abbrev y : Course
+  y = courseOf p
+
+  taken-beyond : (a : State) (x : Moment) → Kept p (leftAt p a) → Beyond (a .memory) (sampleTaken y a x .memory)
+  unfolding sampleTaken judge
+  taken-beyond a x k = go (isOpen (a .progress .end)) refl
     where
-      go : (o : Bool) → isOpen (a .end) ≡ o → (let y = cond o (judge b t a x) (passed a) in Beyond (a .ledger) (a .map) (y .ledger) (y .map))
+      n : ℕ
+      n = a .progress .counted
+
+      go : (o : Bool) → isOpen (a .progress .end) ≡ o → Beyond (a .memory) (cond o (judge y a x) (onlyOffered a) .memory)
       go true e =
-          let s = sound b (k .sound) in
-          let p = positionOf b (a .counted) in
-          let there = mod-lt (a .counted) (real s) in
-          let c<64 : cycleOf b (a .counted) < 64 = div-lt-iff-lt-mul {x = a .counted} {y = 64} (real s) .1 (k .room e) in
+          let s = sound (p .cycle) (k .sound) in
+          let q = positionNow y a x in
+          let there = mod-lt n (real s) in
+          let row : cycleOf (p .cycle) n < mostCycles = div-lt-iff-lt-mul {x = n} {y = mostCycles} (real s) .1 (k .room e) in
+          let small : q < mostPositions = omega (arith, div-add-mod' n (positions (p .cycle)), s .short) in
           record {
-            in-ledger = added-beyond (cycleOf b (a .counted)) (a .ledger) c<64 (phaseAt b p) (drawn x) (pos (distance x)) (outNow b t a x) (t .allowance) (four b p s there);
-            in-map = drop-markedIf (opened (a .map) p) p (outNow b t a x) (omega (arith, there, s .short)) ∙ drop-opened (a .map) p;
+            in-ledger = added-beyond (cycleOf (p .cycle) n) (a .memory .ledger) row (phaseAt (p .cycle) (positionOf (p .cycle) n)) x (outNow y a x) (p .tolerances .allowance) (four (p .cycle) (positionOf (p .cycle) n) s there);
+            in-map = drop-markedIf (opened (a .memory .map) q) q (outNow y a x) small ∙ drop-opened (a .memory .map) q;
           }
       go false e = untouched
 
-  pub steps-beyond : (a : State) (s : ℕ → Sample) (n : ℕ) → Kept b t (goingOf b (t .time) a) (a .ledger) (a .map) → ((i : ℕ) → i < n → isSample (s i) ≡ true)
-      → Beyond (a .ledger) (a .map) (steps b t a s n .ledger) (steps b t a s n .map)
+  pub all-beyond : (a : State) (s : ℕ → Moment) (n : ℕ) → Kept p (leftAt p a) → ((i : ℕ) → i < n → isMoment (s i) ≡ true)
+      → Beyond (a .memory) (samplesTaken y a s n .memory)
   unfolding fold
-  steps-beyond a s zero k h = untouched
-  steps-beyond a s (suc n) k h =
-      beyond-then (steps-beyond a s n k (λ i g. h i (le-step g))) (step-beyond (steps b t a s n) (s n) (kept-steps b t a s n k (λ i g. h i (le-step g))))
+  all-beyond a s zero k h = untouched
+  all-beyond a s (suc n) k h =
+      beyond-then (all-beyond a s n k (λ i g. h i (le-step g))) (taken-beyond (samplesTaken y a s n) (s n) (kept-all p a s n k (λ i g. h i (le-step g))))
 
 -- ---- the calls
 
 -- what was promised, by the number of the refusal
-promised-beyond : {n : ℕ} {r : Run} {a l u : List ℤ} {z m v : List ℕ} {x : Answer} → Promised n r a z l m x u v → (n ≡ 0 → Beyond l m a z) → Beyond l m u v
-promised-beyond {n} {a = a} {l} {u} {z} {m} {v} p h = go (eqb n 0) refl (p .in-ledger) (p .in-map)
+promised-beyond : {n : ℕ} {r : Run} {a c : Memory} {l : List ℤ} {m : List ℕ} {x : Answer} → Promised n r a l m x c → (n ≡ 0 → Beyond (lent l m) a) → Beyond (lent l m) c
+promised-beyond {n} {a = a} {c} {l} {m} k h = subst⁻¹ (Beyond (lent l m)) (k .in-memory) (go (eqb n 0) refl)
   where
-    go : (t : Bool) → eqb n 0 ≡ t → u ≡ cond t a l → v ≡ cond t z m → Beyond l m u v
-    go true e f g = let w = h (eqb-true n 0 e) in record { in-ledger = ap (drop ledgerNumbers) f ∙ w .in-ledger; in-map = ap (drop mapWords) g ∙ w .in-map }
-    go false e f g = record { in-ledger = ap (drop ledgerNumbers) f; in-map = ap (drop mapWords) g }
+    go : (t : Bool) → eqb n 0 ≡ t → Beyond (lent l m) (cond t a (lent l m))
+    go true e = h (eqb-true n 0 e)
+    go false e = untouched
 
-pub start-beyond : (c : StartCall) → Beyond (now (c .args .1 .1 .0)) (now (c .args .1 .1 .1 .0)) (c .lasts .1 .1 .0) (c .lasts .1 .1 .1 .0)
+pub start-beyond : (c : StartCall) → Beyond (lent (now (c .args .1 .1 .0)) (now (c .args .1 .1 .1 .0))) (startLeaves c)
 start-beyond c =
-    promised-beyond (start-kept c (record { cycle = refl; tolerances = refl; ledger = refl; map = refl }))
+    promised-beyond (start-promised c)
     (λ _. record { in-ledger = drop-cleared (pos 0) ledgerNumbers (now (c .args .1 .1 .0)); in-map = drop-cleared 0 mapWords (now (c .args .1 .1 .1 .0)) })
 
-pub sample-beyond : (c : SampleCall) → Beyond (now (c .args .1 .1 .0)) (now (c .args .1 .1 .1 .0)) (c .lasts .1 .1 .0) (c .lasts .1 .1 .1 .0)
+pub sample-beyond : (c : SampleCall) → Beyond (lent (now (c .args .1 .1 .0)) (now (c .args .1 .1 .1 .0))) (sampleLeaves c)
 sample-beyond c =
     let (r, (b, (l, (m, (x, _))))) = c .args in
-    promised-beyond (sample-kept c (record { run-is = refl; cycle-is = refl; ledger-is = refl; map-is = refl })) (λ z.
-    let k = taken-one r (now b) (now l) (now m) x z in
-    step-beyond (now b) (r .tolerances) (stateOf r (now l) (now m)) x (kept-ground r (now b) (now l) (now m) (ground-passed (k .ground))))
+    promised-beyond (sample-promised c) (λ z.
+    let k = one-accepted r (now b) (now l) (now m) x z in
+    taken-beyond (planOf r (now b)) (stateOf r (now l) (now m)) (momentOf x) (kept-ground r (now b) (now l) (now m) (ground-passed (k .ground))))
 
-pub block-beyond : (c : BlockCall) → Beyond (now (c .args .1 .1 .0)) (now (c .args .1 .1 .1 .0)) (c .lasts .1 .1 .0) (c .lasts .1 .1 .1 .0)
+pub block-beyond : (c : BlockCall) → Beyond (lent (now (c .args .1 .1 .0)) (now (c .args .1 .1 .1 .0))) (blockLeaves c)
 block-beyond c =
     let (r, (b, (l, (m, (first, (q, _)))))) = c .args in
-    promised-beyond (block-kept c (record { run-is = refl; cycle-is = refl; ledger-is = refl; map-is = refl })) (λ z.
-    let k = taken r (now b) (now l) (now m) first (now q) z in
-    steps-beyond (now b) (r .tolerances) (stateOf r (now l) (now m)) (sampleAt (now q)) (samplesIn (now q))
-    (kept-ground r (now b) (now l) (now m) (ground-passed (k .ground))) (samples-at (now q) (samplesIn (now q)) (k .samples)))
+    promised-beyond (block-promised c) (λ z.
+    let k = block-accepted r (now b) (now l) (now m) first (now q) z in
+    all-beyond (planOf r (now b)) (stateOf r (now l) (now m)) (momentAt (now q)) (samplesIn (now q))
+    (kept-ground r (now b) (now l) (now m) (ground-passed (k .ground))) (moments-at (now q) (samplesIn (now q)) (k .samples)))

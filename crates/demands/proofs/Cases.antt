@@ -62,17 +62,17 @@ unless-number number refusal false rest = refl
 -- "For starting a run, as field 4 does: 1, 2, 3."
 pub start-number : (c : Call start.ended start.Reads.Learnt) → (let (b, (t, (l, (m, _)))) = c .args in
     answerNumber (c .answer) ≡ startRefusal (now b) t (now l) (now m))
-start-number c = ap answerNumber (c .kept .0) ∙ settled-number answerNumber answer.Refused _ _ refl (λ k. refl)
+start-number c = ap (λ y. answerNumber (y .answer)) (c .kept) ∙ settled-number answerNumber answer.Refused _ _ refl (λ k. refl)
 
 -- "A single sample: 7, 5."
 pub sample-number : (c : Call sample.ended sample.Reads.Learnt) → (let (r, (b, (l, (m, (x, _))))) = c .args in
     answerNumber (c .answer) ≡ sampleRefusal r (now b) (now l) (now m) x)
-sample-number c = ap answerNumber (c .kept .0) ∙ settled-number answerNumber answer.Refused _ _ refl (λ k. refl)
+sample-number c = ap (λ y. answerNumber (y .answer)) (c .kept) ∙ settled-number answerNumber answer.Refused _ _ refl (λ k. refl)
 
 -- "for field 5: .. 6, 7, 5"
 pub block-number : (c : Call block.ended block.Reads.Learnt) → (let (r, (b, (l, (m, (first, (q, _)))))) = c .args in
     answerNumber (c .answer) ≡ blockRefusal r (now b) (now l) (now m) first (now q))
-block-number c = ap answerNumber (c .kept .0) ∙ settled-number answerNumber answer.Refused _ _ refl (λ k. refl)
+block-number c = ap (λ y. answerNumber (y .answer)) (c .kept) ∙ settled-number answerNumber answer.Refused _ _ refl (λ k. refl)
 
 -- "In a started run 1 and 2 come before all others"
 pub shown-number : (c : Call shown.ended shown.Reads.Learnt) → (let (r, (b, (l, (m, _)))) = c .args in

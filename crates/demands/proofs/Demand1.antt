@@ -12,9 +12,10 @@ use lib.Seq.{drop-append-seam}
 use denote.Ref.{RefT, now}
 use Rattle.numbers.specs.Tests.{unless}
 use Rattle.judge.specs.declared.Answer.the-variants.{Refused}
+use Rattle.state.specs.State.{lent}
 use Rattle.step.specs.Step.{State}
 use Rattle.numbers.proofs.Tests.{settled-refused}
-use Rattle.judge.proofs.Promises.{StartPromise, SamplePromise, BlockPromise, refused-changes-nothing}
+use Rattle.judge.proofs.Promises.{refused-changes-nothing}
 use Rattle.judge.proofs.start
 use Rattle.judge.proofs.sample
 use Rattle.judge.proofs.block
@@ -39,14 +40,14 @@ use Rattle.sheet.proofs.refusal_line
 use Rattle.figures.specs.declared.Found.{Found}
 use Rattle.figures.specs.Figured.{blank}
 use Rattle.figures.proofs.figures_of
-use Rattle.desk.specs.declared.Fed.{Fed}
-use Rattle.desk.specs.Feeding.{Laid, laidOf, feedOf}
+use Rattle.desk.specs.Feeding.{Laid, Consumed, laidOf, feedOf}
 use Rattle.desk.proofs.Promises as desk
 use Rattle.desk.proofs.feed
 use Rattle.prints.proofs.refuse
 use Rattle.prints.proofs.close
 use Rattle.desk.proofs.FedAlone.{feed-alone}
 use Rattle.demands.proofs.NoDoubt.{AsksNothing, Call, left, left-by}
+use Rattle.demands.proofs.Driven.{StartCall, SampleCall, BlockCall, start-promised, sample-promised, block-promised}
 use Rattle.demands.proofs.NoDoubt.OfJudge as ofJudge
 use Rattle.demands.proofs.NoDoubt.OfReader as ofReader
 
@@ -89,64 +90,54 @@ module _ {M : Type 1} where
 
 -- the judge: an answer that refuses holds no state
 
-pub start-refused-changes-nothing : (c : Call start.ended start.Reads.Learnt) (n : ℕ) → c .answer ≡ Refused n → left c ≡ c .args
+pub start-refused-changes-nothing : (c : StartCall) (n : ℕ) → c .answer ≡ Refused n → left c ≡ c .args
 start-refused-changes-nothing c n e =
-    let (b, (t, (l, (m, _)))) = c .args in
-    let (_, (_, (u, (v, _)))) = c .lasts in
-    let p : StartPromise (now b) t (now l) (now m) (c .answer) u v = record { answer = c .kept .0; in-ledger = c .kept .1 .0; in-map = c .kept .1 .1 } in
-    let s = refused-changes-nothing _ _ _ _ _ _ n _ _ _ p e in
-    left-by c (λ i. (tt, (tt, (s .1 i, (s .2 i, tt)))))
+    let s = refused-changes-nothing _ _ _ _ _ n _ _ (start-promised c) e in
+    left-by c (λ i. (tt, (tt, (s .1 i .ledger, (s .1 i .map, tt)))))
 
-pub sample-refused-changes-nothing : (c : Call sample.ended sample.Reads.Learnt) (n : ℕ) → c .answer ≡ Refused n → left c ≡ c .args
+pub sample-refused-changes-nothing : (c : SampleCall) (n : ℕ) → c .answer ≡ Refused n → left c ≡ c .args
 sample-refused-changes-nothing c n e =
-    let (r, (b, (l, (m, (x, _))))) = c .args in
-    let (_, (_, (u, (v, _)))) = c .lasts in
-    let p : SamplePromise r (now b) (now l) (now m) x (c .answer) u v = record { answer = c .kept .0; in-ledger = c .kept .1 .0; in-map = c .kept .1 .1 } in
-    let s = refused-changes-nothing _ _ _ _ _ _ n _ _ _ p e in
-    left-by c (λ i. (tt, (tt, (s .1 i, (s .2 i, (tt, tt))))))
+    let s = refused-changes-nothing _ _ _ _ _ n _ _ (sample-promised c) e in
+    left-by c (λ i. (tt, (tt, (s .1 i .ledger, (s .1 i .map, (tt, tt))))))
 
-pub block-refused-changes-nothing : (c : Call block.ended block.Reads.Learnt) (n : ℕ) → c .answer ≡ Refused n → left c ≡ c .args
+pub block-refused-changes-nothing : (c : BlockCall) (n : ℕ) → c .answer ≡ Refused n → left c ≡ c .args
 block-refused-changes-nothing c n e =
-    let (r, (b, (l, (m, (first, (q, _)))))) = c .args in
-    let (_, (_, (u, (v, _)))) = c .lasts in
-    let k = c .kept in
-    let p : BlockPromise r (now b) (now l) (now m) first (now q) (c .answer) u v = record { answer = k .0; in-ledger = k .1 .0; in-map = k .1 .1 } in
-    let s = refused-changes-nothing _ _ _ _ _ _ n _ _ _ p e in
-    left-by c (λ i. (tt, (tt, (s .1 i, (s .2 i, (tt, (tt, tt)))))))
+    let s = refused-changes-nothing _ _ _ _ _ n _ _ (block-promised c) e in
+    left-by c (λ i. (tt, (tt, (s .1 i .ledger, (s .1 i .map, (tt, (tt, tt)))))))
 
 -- the reader; and of its answer to an unfinished field: "That answer changes nothing."
 
 module _ (c : Call open.ended open.Reads.Learnt) where
   open-kept : (let (o, (i, (room, (l, (m, _))))) = c .args in
       let (_, (_, (q, (u, (v, _))))) = c .lasts in
-      reader.OpenPromise o (now room) (now l) (now m) (now i) (c .answer) q u v)
-  open-kept = record { answer = c .kept .0; in-room = c .kept .1 .0; in-ledger = c .kept .1 .1 .0; in-map = c .kept .1 .1 .1 }
+      reader.OpenPromise o (now room) (now l) (now m) (now i) (c .answer) q (lent u v))
+  open-kept = record { answer = ap (λ y. y .answer) (c .kept); in-room = ap (λ y. y .room) (c .kept); in-memory = ap (λ y. y .memory) (c .kept) }
 
   pub open-refused-changes-nothing : (n : ℕ) → c .answer .step ≡ opening.Refused n → (c .answer .opening ≡ c .args .0) × (left c ≡ c .args)
   open-refused-changes-nothing n e =
-      let s = reader.open-refused-changes-nothing _ _ _ _ _ _ _ _ _ open-kept n e in
-      (s .0, left-by c (λ i. (tt, (tt, (s .1 .0 i, (s .1 .1 .0 i, (s .1 .1 .1 i, tt)))))))
+      let s = reader.open-refused-changes-nothing _ _ _ _ _ _ _ _ open-kept n e in
+      (s .0, left-by c (λ i. (tt, (tt, (s .1 i, (s .2 i .ledger, (s .2 i .map, tt)))))))
 
   pub open-incomplete-changes-nothing : c .answer .step ≡ opening.Incomplete → (c .answer .opening ≡ c .args .0) × (left c ≡ c .args)
   open-incomplete-changes-nothing e =
-      let s = reader.open-incomplete-changes-nothing _ _ _ _ _ _ _ _ _ open-kept e in
-      (s .0, left-by c (λ i. (tt, (tt, (s .1 .0 i, (s .1 .1 .0 i, (s .1 .1 .1 i, tt)))))))
+      let s = reader.open-incomplete-changes-nothing _ _ _ _ _ _ _ _ open-kept e in
+      (s .0, left-by c (λ i. (tt, (tt, (s .1 i, (s .2 i .ledger, (s .2 i .map, tt)))))))
 
 module _ (c : Call read.ended read.Reads.Learnt) where
   read-kept : (let (r, (i, (b, (l, (m, _))))) = c .args in
       let (_, (_, (_, (u, (v, _))))) = c .lasts in
-      reader.ReadPromise r (now b) (now l) (now m) (now i) (c .answer) u v)
-  read-kept = record { answer = c .kept .0; in-ledger = c .kept .1 .0; in-map = c .kept .1 .1 }
+      reader.ReadPromise r (now b) (now l) (now m) (now i) (c .answer) (lent u v))
+  read-kept = record { answer = ap (λ y. y .answer) (c .kept); in-memory = ap (λ y. y .memory) (c .kept) }
 
   pub read-refused-changes-nothing : (n : ℕ) → c .answer .step ≡ step.Refused n → (c .answer .reading ≡ c .args .0) × (left c ≡ c .args)
   read-refused-changes-nothing n e =
-      let s = reader.read-refused-changes-nothing _ _ _ _ _ _ _ _ read-kept n e in
-      (s .0, left-by c (λ i. (tt, (tt, (tt, (s .1 .0 i, (s .1 .1 i, tt)))))))
+      let s = reader.read-refused-changes-nothing _ _ _ _ _ _ _ read-kept n e in
+      (s .0, left-by c (λ i. (tt, (tt, (tt, (s .1 i .ledger, (s .1 i .map, tt)))))))
 
   pub read-incomplete-changes-nothing : c .answer .step ≡ step.Incomplete → (c .answer .reading ≡ c .args .0) × (left c ≡ c .args)
   read-incomplete-changes-nothing e =
-      let s = reader.read-incomplete-changes-nothing _ _ _ _ _ _ _ _ read-kept e in
-      (s .0, left-by c (λ i. (tt, (tt, (tt, (s .1 .0 i, (s .1 .1 i, tt)))))))
+      let s = reader.read-incomplete-changes-nothing _ _ _ _ _ _ _ read-kept e in
+      (s .0, left-by c (λ i. (tt, (tt, (tt, (s .1 i .ledger, (s .1 i .map, tt)))))))
 
 -- `read_all` and `feed` take field after field. Where none was accepted, all is as it was; and what ends the call, a refusal or an unfinished field,
 -- leaves no trace: a call on the bytes of the accepted fields alone leaves the same
@@ -165,14 +156,14 @@ pub record Shorter {S : Type 0} (n : ℕ) (a b : Lent S) : Type 0 where
 
 all-kept : (c : Call read_all.ended read_all.Reads.Learnt) → (let (r, (i, (b, (l, (m, _))))) = c .args in
     let (_, (_, (_, (u, (v, _))))) = c .lasts in
-    reader.AllPromise r (now b) (now l) (now m) (now i) (c .answer) u v)
-all-kept c = record { answer = c .kept .0; in-ledger = c .kept .1 .0; in-map = c .kept .1 .1 }
+    reader.AllPromise r (now b) (now l) (now m) (now i) (c .answer) (lent u v))
+all-kept c = record { answer = ap (λ y. y .answer) (c .kept); in-memory = ap (λ y. y .memory) (c .kept) }
 
 pub read-all-none-accepted-changes-nothing : (c : Call read_all.ended read_all.Reads.Learnt) → c .answer .fields ≡ 0
     → (c .answer .reading ≡ c .args .0) × (left c ≡ c .args)
 read-all-none-accepted-changes-nothing c e =
-    let s = reader.none-accepted-changes-nothing _ _ _ _ _ _ _ _ (all-kept c) e in
-    (s .0, left-by c (λ i. (tt, (tt, (tt, (s .1 .0 i, (s .1 .1 i, tt)))))))
+    let s = reader.none-accepted-changes-nothing _ _ _ _ _ _ _ (all-kept c) e in
+    (s .0, left-by c (λ i. (tt, (tt, (tt, (s .1 i .ledger, (s .1 i .map, tt)))))))
 
 pub read-all-refused-leaves-no-trace : (c d : Call read_all.ended read_all.Reads.Learnt) → Shorter (c .answer .used) (c .args) (d .args)
     → (d .answer .reading ≡ c .answer .reading) × (d .lasts ≡ c .lasts)
@@ -183,10 +174,9 @@ read-all-refused-leaves-no-trace c d s =
     let input = s .input ∙ ap (λ (x : AllAnswer). take (x .used) (now i)) (p .answer) in
     let alone = reader.all-refused-changes-nothing r (now b) (now l) (now m) (now i) in
     let tale = (λ j. readAllOf (s .state j) (s .bytes j) (s .ledger j) (s .map j) (input j) .tale) ∙ alone in
-    let ledger = q .in-ledger ∙ ap (λ (k : Tale State). k .run .ledger) tale ∙ sym (p .in-ledger) in
-    let map = q .in-map ∙ ap (λ (k : Tale State). k .run .map) tale ∙ sym (p .in-map) in (
+    let memory = q .in-memory ∙ ap (λ (k : Tale State). k .run .memory) tale ∙ sym (p .in-memory) in (
       ap (λ (x : AllAnswer). x .reading) (q .answer) ∙ (λ j. readingOf (s .state j) (tale j)) ∙ sym (ap (λ (x : AllAnswer). x .reading) (p .answer)),
-      λ j. (tt, (tt, (tt, (ledger j, (map j, tt))))),
+      λ j. (tt, (tt, (tt, (memory j .ledger, (memory j .map, tt))))),
     )
 
 pub feed-none-accepted-changes-nothing : (c : Call feed.ended feed.Reads.Learnt) → c .answer .used ≡ 0
@@ -194,27 +184,18 @@ pub feed-none-accepted-changes-nothing : (c : Call feed.ended feed.Reads.Learnt)
 feed-none-accepted-changes-nothing c e =
     let (d, (i, (r, (l, (m, _))))) = c .args in
     let k = c .kept in
-    let s = desk.refused-changes-nothing (laidOf d (now r) (now l) (now m)) (now i) (sym (ap (λ (y : Fed). y .used) (k .0)) ∙ e) in
-    let room = k .1 .0 ∙ ap (λ (y : Laid). y .room) s in
-    let ledger = k .1 .1 .0 ∙ ap (λ (y : Laid). y .ledger) s in
-    let map = k .1 .1 .1 ∙ ap (λ (y : Laid). y .map) s in
-    (ap (λ (y : Fed). y .desk) (k .0) ∙ ap (λ (y : Laid). y .desk) s, left-by c (λ j. (tt, (tt, (room j, (ledger j, (map j, tt)))))))
+    let s = ap (λ (y : Consumed). y .laid) k ∙ desk.refused-changes-nothing (laidOf d (now r) (now l) (now m)) (now i) (sym (ap (λ (y : Consumed). y .used) k) ∙ e) in
+    (ap (λ (y : Laid). y .desk) s, left-by c (λ j. (tt, (tt, (s j .room, (s j .memory .ledger, (s j .memory .map, tt)))))))
 
 pub feed-refused-leaves-no-trace : (c d : Call feed.ended feed.Reads.Learnt) → Shorter (c .answer .used) (c .args) (d .args)
     → (d .answer .desk ≡ c .answer .desk) × (d .lasts ≡ c .lasts)
 feed-refused-leaves-no-trace c d s =
     let (x, (i, (r, (l, (m, _))))) = c .args in
     let p = c .kept in
-    let q = d .kept in
-    let input = s .input ∙ ap (λ (y : Fed). take (y .used) (now i)) (p .0) in
-    let alone = feed-alone (laidOf x (now r) (now l) (now m)) (now i) in
-    let end = (λ j. feedOf (laidOf (s .state j) (s .bytes j) (s .ledger j) (s .map j)) (input j) .laid) ∙ alone in
-    let room = q .1 .0 ∙ ap (λ (y : Laid). y .room) end ∙ sym (p .1 .0) in
-    let ledger = q .1 .1 .0 ∙ ap (λ (y : Laid). y .ledger) end ∙ sym (p .1 .1 .0) in
-    let map = q .1 .1 .1 ∙ ap (λ (y : Laid). y .map) end ∙ sym (p .1 .1 .1) in (
-      ap (λ (y : Fed). y .desk) (q .0) ∙ ap (λ (y : Laid). y .desk) end ∙ sym (ap (λ (y : Fed). y .desk) (p .0)),
-      λ j. (tt, (tt, (room j, (ledger j, (map j, tt))))),
-    )
+    let input = s .input ∙ ap (λ (y : Consumed). take (y .used) (now i)) p in
+    let fed = d .kept ∙ (λ j. feedOf (laidOf (s .state j) (s .bytes j) (s .ledger j) (s .map j)) (input j)) in
+    let end = ap (λ (y : Consumed). y .laid) fed ∙ feed-alone (laidOf x (now r) (now l) (now m)) (now i) ∙ sym (ap (λ (y : Consumed). y .laid) p) in
+    (ap (λ (y : Laid). y .desk) end, λ j. (tt, (tt, (end j .room, (end j .memory .ledger, (end j .memory .map, tt))))))
 
 -- the figures: "no figure"
 

@@ -7,56 +7,83 @@ use Prim.Native.Nat.{ℕ, _≤_, _<_}
 use lib.Dec.{T}
 use lib.ListN.{length}
 use Rattle.rules.specs.declared.End.the-variants.{Stop as stop}
-use Rattle.rules.specs.declared.Sample.{Sample}
+use Rattle.rules.specs.declared.Moment.{Moment}
 use Rattle.rules.specs.declared.Tolerances.{Tolerances}
 use Rattle.rules.specs.Bench.{tolerable, isOpen}
 use Rattle.rules.specs.Cycle.{valid}
-use Rattle.rules.specs.Run.{sampleOf, phaseFinished, cycleFinished, outside, counted, stopped, judged}
+use Rattle.rules.specs.Course.{Course, outside, counted, stopped, judged, closed}
+use Rattle.rules.specs.Parts.{Part, rowPart, phasePart, finished}
+use Rattle.rules.specs.Regular.{own, regularLayout, regular, plan, courseOf, momentIn}
 use Rattle.rules.proofs.Sound.{Sound, sound}
 use Rattle.rules.proofs.Band.{Widened}
-use Rattle.rules.proofs.Figures.{PhaseKept, CycleKept}
-use Rattle.rules.proofs.Wider.{counted-wider, stopped-wider, phase-wider, cycle-wider, outside-finished}
-use Rattle.rules.proofs.Longer.{more-samples, same-samples, counted-longer, cycles-longer, stop-longer, phase-longer, cycle-longer, outside-longer, ended-stays, end-stays}
+use Rattle.rules.proofs.Facts.{Orderly, Lawful, Wider}
+use Rattle.rules.proofs.Gathered.{PartKept, row-ends, phase-ends}
+use Rattle.rules.proofs.Regular.{regular-orderly, regular-lawful, regular-wider}
+use Rattle.rules.proofs.Wider.{counted-wider, stopped-wider, part-wider, outside-finished}
+use Rattle.rules.proofs.Longer.{more-samples, same-samples, counted-longer, cycles-longer, stop-longer, part-longer, outside-longer, over}
 use Rattle.fields.specs.Values.{tolerancesIn}
-use Rattle.records.specs.Records.{Told, told, sheetOf}
+use Rattle.records.specs.Records.{Told, told, planTold, sheetOf}
 use Rattle.records.proofs.Sheets.{told-valid, Grown, told-grows}
 use Rattle.sheet.specs.Text.{headLines, sheetText}
 use Rattle.figures.specs.Figured.{outsideTotal, figuresBy}
 use Rattle.figures.proofs.Ended.{figures-same}
 use Rattle.figures.proofs.WiderFigures.{NoEarlier, no-earlier, unstopped-same}
-use Rattle.prints.specs.Printed.{printed}
-use Rattle.demands.specs.Compared.{withFour, FirstThree, withTolerances, retold, figuresOf, samplesOf, outsideOf, NoMoreOutside}
+use Rattle.prints.specs.Printed.{figuresTold, printed}
+use Rattle.demands.specs.Compared.{withFour, FirstThree, withTolerances, retold, samplesOf, closedOf, outsideOf, NoMoreOutside}
 use Rattle.demands.proofs.FieldFour.{told-four, tolerable-four, retold-four}
 use Rattle.demands.proofs.Lines.{belowOutside, sheet-lines}
 
 -- ---- over runs: of any samples s, n are offered
 
-module _ (b : List ℕ) (t t′ : Tolerances) (s : ℕ → Sample) (n : ℕ) (good : valid b ≡ true) (wide : Widened t t′) where
+module _ (b : List ℕ) (t t′ : Tolerances) (s : ℕ → Moment) (n : ℕ) (good : valid b ≡ true) (wide : Widened t t′) where
+  abbrev y : Course
+  y = regular b t
+
+  abbrev y′ : Course
+  y′ = regular b t′
+
+  wider : Wider (y .rule) (y′ .rule)
+  wider = regular-wider b (sound b good) t t′ wide
+
+  orderly : Orderly (regularLayout b)
+  orderly = regular-orderly b (sound b good)
+
   -- "Wider tolerances never stop earlier."
-  pub wider-never-stops-earlier : (counted b t s n ≤ counted b t′ s n) × (T (stopped b t′ s n) → T (stopped b t s n))
-  wider-never-stops-earlier = (counted-wider b t t′ s (sound b good) wide n, stopped-wider b t t′ s (sound b good) wide n)
+  pub wider-never-stops-earlier : (counted y s n ≤ counted y′ s n) × (T (stopped y′ s n) → T (stopped y s n))
+  wider-never-stops-earlier = (counted-wider (regularLayout b) _ _ own wider s n, stopped-wider (regularLayout b) _ _ own wider s n)
 
   -- "What the narrower run finished, the wider finished too, with equal energies and distances and no higher outside count."
-  pub wider-finishes-phases : (c k : ℕ) → T (phaseFinished b c k (counted b t s n)) → PhaseKept b c k s s (counted b t s n) (counted b t′ s n)
-  wider-finishes-phases = phase-wider b t t′ s (sound b good) wide n
+  pub wider-finishes-phases : (c k : ℕ) → T (finished (phasePart (regularLayout b) c k) (closed y s n))
+      → PartKept own (phasePart (regularLayout b) c k) s s (closed y s n) (closed y′ s n)
+  wider-finishes-phases c k = part-wider (regularLayout b) _ _ own wider s n (phase-ends orderly c k)
 
-  pub wider-finishes-cycles : (c : ℕ) → T (cycleFinished b c (counted b t s n))
-      → CycleKept b c s s (counted b t s n) (counted b t′ s n) × (outside b t′ s c (judged b t′ s n) ≤ outside b t s c (judged b t s n))
-  wider-finishes-cycles c d = (cycle-wider b t t′ s (sound b good) wide n c d, outside-finished b t t′ s (sound b good) wide n c d)
+  pub wider-finishes-cycles : (c : ℕ) → T (finished (rowPart (regularLayout b) c) (closed y s n))
+      → PartKept own (rowPart (regularLayout b) c) s s (closed y s n) (closed y′ s n) × (outside y′ s c (judged y′ s n) ≤ outside y s c (judged y s n))
+  wider-finishes-cycles c d =
+      (part-wider (regularLayout b) _ _ own wider s n (row-ends orderly c) d, outside-finished (regularLayout b) _ _ own wider s n orderly c d)
 
 -- n samples of s, and n′ of s′ that begin with them
-module _ (b : List ℕ) (t : Tolerances) (s s′ : ℕ → Sample) (n n′ : ℕ) (more : n ≤ n′) (same : (j : ℕ) → j < n → s′ j ≡ s j) where
+module _ (b : List ℕ) (t : Tolerances) (good : valid b ≡ true) (s s′ : ℕ → Moment) (n n′ : ℕ) (more : n ≤ n′) (same : (j : ℕ) → j < n → s′ j ≡ s j) where
+  abbrev course : Course
+  course = regular b t
+
+  lawful : Lawful course
+  lawful = regular-lawful b (sound b good) t
+
   -- "Samples added at the end move no stop given"
-  pub longer-moves-no-stop : T (stopped b t s n) → T (stopped b t s′ n′) × (counted b t s′ n′ ≡ counted b t s n)
-  longer-moves-no-stop = stop-longer b t s s′ n n′ more same
+  pub longer-moves-no-stop : T (stopped course s n) → T (stopped course s′ n′) × (counted course s′ n′ ≡ counted course s n)
+  longer-moves-no-stop = stop-longer course lawful s s′ n n′ more same
 
   -- "and change no phase or cycle finished."
-  pub finished-phase-stays : (c k : ℕ) → T (phaseFinished b c k (counted b t s n)) → PhaseKept b c k s s′ (counted b t s n) (counted b t s′ n′)
-  finished-phase-stays = phase-longer b t s s′ n n′ more same
+  pub finished-phase-stays : (c k : ℕ) → T (finished (phasePart (regularLayout b) c k) (closed course s n))
+      → PartKept own (phasePart (regularLayout b) c k) s s′ (closed course s n) (closed course s′ n′)
+  finished-phase-stays c k = part-longer course lawful s s′ n n′ more same (phase-ends (lawful .orderly) c k)
 
-  pub finished-stays : valid b ≡ true → (c : ℕ) → T (cycleFinished b c (counted b t s n))
-      → CycleKept b c s s′ (counted b t s n) (counted b t s′ n′) × (outside b t s′ c (judged b t s′ n′) ≡ outside b t s c (judged b t s n))
-  finished-stays good c d = (cycle-longer b t s s′ n n′ more same (sound b good) c d, outside-longer b t s s′ n n′ more same (sound b good) c d)
+  pub finished-stays : (c : ℕ) → T (finished (rowPart (regularLayout b) c) (closed course s n))
+      → PartKept own (rowPart (regularLayout b) c) s s′ (closed course s n) (closed course s′ n′)
+      × (outside course s′ c (judged course s′ n′) ≡ outside course s c (judged course s n))
+  finished-stays c d =
+      (part-longer course lawful s s′ n n′ more same (row-ends (lawful .orderly) c) d, outside-longer course lawful s s′ n n′ more same c d)
 
 -- ---- over records: wider tolerances
 
@@ -87,18 +114,18 @@ module _ (p q v v′ : List ℕ) (h : FirstThree p) (six : length v ≡ 6) (six�
     wider-sheet = no-earlier _ _ _ _ _ _ _ sound-cycle wider-than-told
 
     -- and where the narrower run did not stop, the sheets are the same but for `outside`, which is no higher
-    pub wider-prints : (figuresOf x .end ≡ stop → ⊥) → NoMoreOutside (printed (sheetOf (withFour p q v))) (printed (sheetOf (withFour p q v′)))
+    pub wider-prints : (figuresTold x .end ≡ stop → ⊥) → NoMoreOutside (printed (sheetOf (withFour p q v))) (printed (sheetOf (withFour p q v′)))
     wider-prints went =
         let (same, fewer) =
         unstopped-same (x .vehicle) (x .tale .passed) (x .tale .amounts) (x .cycle) (x .tolerances) (tolerancesIn v′) (x .tale .run)
         sound-cycle wider-than-told went in
         record {
-          above = headLines (figuresOf x);
-          below = belowOutside (figuresOf x);
-          number = outsideTotal (x .cycle) (x .tolerances) (x .tale .run);
-          number′ = outsideTotal (x .cycle) (tolerancesIn v′) (x .tale .run);
-          lines = ap printed e ∙ sheet-lines (figuresOf x) _;
-          lines′ = ap printed wider-told ∙ ap sheetText same ∙ sheet-lines (figuresOf x) _;
+          above = headLines (figuresTold x);
+          below = belowOutside (figuresTold x);
+          number = outsideTotal (planTold x) (x .tale .run);
+          number′ = outsideTotal (planTold x′) (x .tale .run);
+          lines = ap printed e ∙ sheet-lines (figuresTold x) _;
+          lines′ = ap printed wider-told ∙ ap sheetText same ∙ sheet-lines (figuresTold x) _;
           no-higher = fewer;
         }
 
@@ -108,16 +135,18 @@ module _ (p q v v′ : List ℕ) (h : FirstThree p) (six : length v ≡ 6) (six�
 pub longer-record : (p q : List ℕ) (x x′ : Told) → sheetOf p ≡ told x → sheetOf (p ++ q) ≡ told x′ → (x′ .vehicle ≡ x .vehicle) × Grown x x′
 longer-record = told-grows
 
+-- a part that the run of x finished is finished in that of x′, with the same energy and distance
+abbrev Stays : Told → Told → Part → Type 0
+Stays x x′ part = T (finished part (closedOf x)) → PartKept own part (samplesOf x) (samplesOf x′) (closedOf x) (closedOf x′)
+
 -- "Samples added at the end move no stop given and change no phase or cycle finished."
 pub record Unmoved (x x′ : Told) : Type 0 where
-  pub stop-stays : figuresOf x .end ≡ stop → (figuresOf x′ .end ≡ stop) × (figuresOf x′ .counted ≡ figuresOf x .counted)
-  pub counted-no-less : figuresOf x .counted ≤ figuresOf x′ .counted
-  pub cycles-no-less : figuresOf x .cycles ≤ figuresOf x′ .cycles
-  pub phases-stay : (c k : ℕ) → T (phaseFinished (x .cycle) c k (figuresOf x .counted))
-      → PhaseKept (x .cycle) c k (samplesOf x) (samplesOf x′) (figuresOf x .counted) (figuresOf x′ .counted)
-  pub cycles-stay : (c : ℕ) → T (cycleFinished (x .cycle) c (figuresOf x .counted))
-      → CycleKept (x .cycle) c (samplesOf x) (samplesOf x′) (figuresOf x .counted) (figuresOf x′ .counted)
-  pub outside-stays : (c : ℕ) → T (cycleFinished (x .cycle) c (figuresOf x .counted)) → outsideOf x′ c ≡ outsideOf x c
+  pub stop-stays : figuresTold x .end ≡ stop → (figuresTold x′ .end ≡ stop) × (figuresTold x′ .counted ≡ figuresTold x .counted)
+  pub counted-no-less : figuresTold x .counted ≤ figuresTold x′ .counted
+  pub cycles-no-less : figuresTold x .cycles ≤ figuresTold x′ .cycles
+  pub phases-stay : (c k : ℕ) → Stays x x′ (phasePart (regularLayout (x .cycle)) c k)
+  pub cycles-stay : (c : ℕ) → Stays x x′ (rowPart (regularLayout (x .cycle)) c)
+  pub outside-stays : (c : ℕ) → T (finished (rowPart (regularLayout (x .cycle)) c) (closedOf x)) → outsideOf x′ c ≡ outsideOf x c
 
 -- any two records, of which the second tells the samples of the first with others behind them: fields 6 and 7 may stand behind the added blocks
 module _ (x x′ : Told) (g : Grown x x′) where
@@ -140,34 +169,34 @@ module _ (x x′ : Told) (g : Grown x x′) where
 
   pub longer-told : (i : List ℕ) → sheetOf i ≡ told x → Unmoved x x′
   longer-told i e =
-      let o = sound (x .cycle) (told-valid i x e .0) in
+      let good = told-valid i x e .0 in
       let xs = x .tale .run in
       let ys = g .samples .added in
-      let s = sampleOf xs in
-      let s′ = sampleOf (xs ++ ys) in
+      let s = momentIn xs in
+      let s′ = momentIn (xs ++ ys) in
       let more = more-samples xs ys in
       let same = same-samples xs ys in
-      let b = x .cycle in
-      let t = x .tolerances in
+      let y = courseOf (planTold x) in
+      let f = regular-lawful (x .cycle) (sound (x .cycle) good) (x .tolerances) in
       let n = length xs in
       let n′ = length (xs ++ ys) in
-      subst (λ (y : Told). Unmoved x y) as-told (record {
-        stop-stays = λ h. (end-stays b t s s′ n n′ more same (ap isOpen h) ∙ h, ended-stays b t s s′ n n′ more same (ap isOpen h) .counted-same);
-        counted-no-less = counted-longer b t s s′ n n′ more same;
-        cycles-no-less = cycles-longer b t s s′ n n′ more same o;
-        phases-stay = phase-longer b t s s′ n n′ more same;
-        cycles-stay = cycle-longer b t s s′ n n′ more same o;
-        outside-stays = outside-longer b t s s′ n n′ more same o;
+      subst (λ (z : Told). Unmoved x z) as-told (record {
+        stop-stays = λ h. let v = over y f s s′ n n′ more same (ap isOpen h) in (v .ending-same ∙ h, v .counted-same);
+        counted-no-less = counted-longer y f s s′ n n′ more same;
+        cycles-no-less = cycles-longer y f s s′ n n′ more same;
+        phases-stay = λ c k. part-longer y f s s′ n n′ more same (phase-ends (f .orderly) c k);
+        cycles-stay = λ c. part-longer y f s s′ n n′ more same (row-ends (f .orderly) c);
+        outside-stays = outside-longer y f s s′ n n′ more same;
       })
 
   -- "Later accepted samples raise only the number offered.": where the run of x has ended, no figure changes
-  module _ (ended : isOpen (figuresOf x .end) ≡ false) (vehicle : x′ .vehicle ≡ x .vehicle) (passed : x′ .tale .passed ≡ x .tale .passed)
-      (amounts : x′ .tale .amounts ≡ x .tale .amounts) where
-    pub ended-told : figuresOf x′ ≡ figuresOf x
+  module _ (ended : isOpen (figuresTold x .end) ≡ false) (vehicle : x′ .vehicle ≡ x .vehicle) (passed : x′ .tale .passed ≡ x .tale .passed)
+      (amounts : x′ .tale .amounts ≡ x .tale .amounts) (i : List ℕ) (e : sheetOf i ≡ told x) where
+    pub ended-told : figuresTold x′ ≡ figuresTold x
     ended-told =
-        (λ j. figuresBy (vehicle j) (passed j) (amounts j) (g .cycle j) (g .tolerances j) (g .samples .joins j))
-        ∙ figures-same (x .cycle) (x .tolerances) (x .tale .run) (g .samples .added) ended (x .vehicle) (x .tale .passed) (x .tale .amounts)
+        (λ j. figuresBy (vehicle j) (passed j) (amounts j) (plan (g .cycle j) (g .tolerances j)) (g .samples .joins j))
+        ∙ figures-same (planTold x) (sound (x .cycle) (told-valid i x e .0)) (x .tale .run) (g .samples .added) ended (x .vehicle) (x .tale .passed) (x .tale .amounts)
 
     -- nor a byte of what is printed
-    pub ended-prints : (i i′ : List ℕ) → sheetOf i ≡ told x → sheetOf i′ ≡ told x′ → printed (sheetOf i′) ≡ printed (sheetOf i)
-    ended-prints i i′ e e′ = ap printed e′ ∙ ap sheetText ended-told ∙ sym (ap printed e)
+    pub ended-prints : (i′ : List ℕ) → sheetOf i′ ≡ told x′ → printed (sheetOf i′) ≡ printed (sheetOf i)
+    ended-prints i′ e′ = ap printed e′ ∙ ap sheetText ended-told ∙ sym (ap printed e)

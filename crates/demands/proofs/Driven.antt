@@ -1,19 +1,23 @@
 -- Whole runs, by calls that keep the contracts; each is a run that the judge's own definitions reach.
 -- Assumes nothing.
 use mathlib.Core.List.{List, [], _∷_, _++_}
-use mathlib.Core.Path.{_≡_, sym, subst₂, subst₃, transport, _∙_}
+use mathlib.Core.Path.{_≡_, sym, subst⁻¹, subst₂, transport, _∙_}
 use Prim.Native.Nat.{ℕ}
 use lib.IntN.{ℤ}
 use denote.Ref.{RefT, now}
 use Rattle.numbers.specs.Range.{table}
 use Rattle.numbers.proofs.Tests.{settled-taken}
 use Rattle.rules.specs.declared.Sample.{Sample}
+use Rattle.rules.specs.declared.Moment.{Moment}
 use Rattle.rules.specs.declared.Tolerances.{Tolerances}
+use Rattle.rules.specs.Bench.{momentOf}
+use Rattle.rules.specs.Regular.{Plan}
 use Rattle.state.specs.declared.Run.{Run}
-use Rattle.blocks.specs.Blocks.{sampleAt, samplesIn}
+use Rattle.state.specs.State.{Memory, lent}
+use Rattle.blocks.specs.Blocks.{momentAt, samplesIn}
 use Rattle.judge.specs.declared.Answer.{Answer}
 use Rattle.judge.specs.declared.Answer.the-variants.{Taken, Refused}
-use Rattle.judge.proofs.Promises.{Promised, StartPromise, SamplePromise, BlockPromise, answer-taken, refused-changes-nothing}
+use Rattle.judge.proofs.Promises.{Promised, promised, StartPromise, SamplePromise, BlockPromise, answer-taken, refused-changes-nothing}
 use Rattle.judge.proofs.Runs.{Reached}
 use Rattle.judge.proofs.start
 use Rattle.judge.proofs.sample
@@ -58,56 +62,69 @@ sampleIn c = c .args .1 .1 .1 .1 .0
 abbrev pub bytesIn : BlockCall → List ℕ
 bytesIn c = now (c .args .1 .1 .1 .1 .1 .0)
 
--- ---- what they promise, on what they are lent
+-- ---- what they promise: the ledger and the map that a call leaves are together its memory
 
-pub start-kept : {b : List ℕ} {t : Tolerances} {l : List ℤ} {m : List ℕ} (c : StartCall) → StartOn b t l m c
-    → StartPromise b t l m (c .answer) (c .lasts .1 .1 .0) (c .lasts .1 .1 .1 .0)
-start-kept c on =
-    transport (λ i. StartPromise (on .cycle i) (on .tolerances i) (on .ledger i) (on .map i) (c .answer) (c .lasts .1 .1 .0) (c .lasts .1 .1 .1 .0))
-    (record { answer = c .kept .0; in-ledger = c .kept .1 .0; in-map = c .kept .1 .1 })
+abbrev pub startLeaves : StartCall → Memory
+startLeaves c = lent (c .lasts .1 .1 .0) (c .lasts .1 .1 .1 .0)
+
+abbrev pub sampleLeaves : SampleCall → Memory
+sampleLeaves c = lent (c .lasts .1 .1 .0) (c .lasts .1 .1 .1 .0)
+
+abbrev pub blockLeaves : BlockCall → Memory
+blockLeaves c = lent (c .lasts .1 .1 .0) (c .lasts .1 .1 .1 .0)
+
+pub start-promised : (c : StartCall) → (let (b, (t, (l, (m, _)))) = c .args in StartPromise (now b) t (now l) (now m) (c .answer) (startLeaves c))
+start-promised c = promised (c .kept)
+
+pub sample-promised : (c : SampleCall) → (let (r, (b, (l, (m, _)))) = c .args in SamplePromise r (now b) (now l) (now m) (sampleIn c) (c .answer) (sampleLeaves c))
+sample-promised c = promised (c .kept)
+
+pub block-promised : (c : BlockCall)
+    → (let (r, (b, (l, (m, (first, _))))) = c .args in BlockPromise r (now b) (now l) (now m) first (bytesIn c) (c .answer) (blockLeaves c))
+block-promised c = promised (c .kept)
+
+-- on what they are lent
+pub start-kept : {b : List ℕ} {t : Tolerances} {l : List ℤ} {m : List ℕ} (c : StartCall) → StartOn b t l m c → StartPromise b t l m (c .answer) (startLeaves c)
+start-kept c on = transport (λ i. StartPromise (on .cycle i) (on .tolerances i) (on .ledger i) (on .map i) (c .answer) (startLeaves c)) (start-promised c)
 
 pub sample-kept : {r : Run} {b : List ℕ} {l : List ℤ} {m : List ℕ} (c : SampleCall) → SampleOn r b l m c
-    → SamplePromise r b l m (sampleIn c) (c .answer) (c .lasts .1 .1 .0) (c .lasts .1 .1 .1 .0)
+    → SamplePromise r b l m (sampleIn c) (c .answer) (sampleLeaves c)
 sample-kept c on =
-    transport (λ i. SamplePromise (on .run-is i) (on .cycle-is i) (on .ledger-is i) (on .map-is i) (sampleIn c) (c .answer) (c .lasts .1 .1 .0) (c .lasts .1 .1 .1 .0))
-    (record { answer = c .kept .0; in-ledger = c .kept .1 .0; in-map = c .kept .1 .1 })
+    transport (λ i. SamplePromise (on .run-is i) (on .cycle-is i) (on .ledger-is i) (on .map-is i) (sampleIn c) (c .answer) (sampleLeaves c)) (sample-promised c)
 
 pub block-kept : {r : Run} {b : List ℕ} {l : List ℤ} {m : List ℕ} (c : BlockCall) → BlockOn r b l m c
-    → BlockPromise r b l m (c .args .1 .1 .1 .1 .0) (bytesIn c) (c .answer) (c .lasts .1 .1 .0) (c .lasts .1 .1 .1 .0)
+    → BlockPromise r b l m (c .args .1 .1 .1 .1 .0) (bytesIn c) (c .answer) (blockLeaves c)
 block-kept c on =
-    transport
-    (λ i. BlockPromise (on .run-is i) (on .cycle-is i) (on .ledger-is i) (on .map-is i) (c .args .1 .1 .1 .1 .0) (bytesIn c) (c .answer) (c .lasts .1 .1 .0) (c .lasts .1 .1 .1 .0))
-    (record { answer = c .kept .0; in-ledger = c .kept .1 .0; in-map = c .kept .1 .1 })
+    transport (λ i. BlockPromise (on .run-is i) (on .cycle-is i) (on .ledger-is i) (on .map-is i) (c .args .1 .1 .1 .1 .0) (bytesIn c) (c .answer) (blockLeaves c))
+    (block-promised c)
 
 -- ---- the whole run: "What is promised of a whole run takes state, memory and cycle at each call as the call before left them"
 
-module _ (b : List ℕ) (t : Tolerances) (l₀ : List ℤ) (m₀ : List ℕ) where
+module _ (p : Plan) (l₀ : List ℤ) (m₀ : List ℕ) where
   -- a run, its ledger and its map, after a start and calls that took the samples of the list, one by one or in blocks, or refused
-  pub data Driven : List Sample → Run → List ℤ → List ℕ → Type 0 where
-    begins : (c : StartCall) → StartOn b t l₀ m₀ c → {r : Run} → c .answer ≡ Taken r → Driven [] r (c .lasts .1 .1 .0) (c .lasts .1 .1 .1 .0)
-    takes : {xs : List Sample} {r : Run} {l : List ℤ} {m : List ℕ} → Driven xs r l m → (c : SampleCall) → SampleOn r b l m c → {r′ : Run} → c .answer ≡ Taken r′
-        → Driven (xs ++ sampleIn c ∷ []) r′ (c .lasts .1 .1 .0) (c .lasts .1 .1 .1 .0)
-    takes-block : {xs : List Sample} {r : Run} {l : List ℤ} {m : List ℕ} → Driven xs r l m → (c : BlockCall) → BlockOn r b l m c → {r′ : Run} → c .answer ≡ Taken r′
-        → Driven (xs ++ table (sampleAt (bytesIn c)) (samplesIn (bytesIn c))) r′ (c .lasts .1 .1 .0) (c .lasts .1 .1 .1 .0)
-    refuses : {xs : List Sample} {r : Run} {l : List ℤ} {m : List ℕ} → Driven xs r l m → (c : SampleCall) → SampleOn r b l m c → (k : ℕ) → c .answer ≡ Refused k
+  pub data Driven : List Moment → Run → List ℤ → List ℕ → Type 0 where
+    begins : (c : StartCall) → StartOn (p .cycle) (p .tolerances) l₀ m₀ c → {r : Run} → c .answer ≡ Taken r → Driven [] r (c .lasts .1 .1 .0) (c .lasts .1 .1 .1 .0)
+    takes : {xs : List Moment} {r : Run} {l : List ℤ} {m : List ℕ} → Driven xs r l m → (c : SampleCall) → SampleOn r (p .cycle) l m c → {r′ : Run} → c .answer ≡ Taken r′
+        → Driven (xs ++ momentOf (sampleIn c) ∷ []) r′ (c .lasts .1 .1 .0) (c .lasts .1 .1 .1 .0)
+    takes-block : {xs : List Moment} {r : Run} {l : List ℤ} {m : List ℕ} → Driven xs r l m → (c : BlockCall) → BlockOn r (p .cycle) l m c → {r′ : Run} → c .answer ≡ Taken r′
+        → Driven (xs ++ table (momentAt (bytesIn c)) (samplesIn (bytesIn c))) r′ (c .lasts .1 .1 .0) (c .lasts .1 .1 .1 .0)
+    refuses : {xs : List Moment} {r : Run} {l : List ℤ} {m : List ℕ} → Driven xs r l m → (c : SampleCall) → SampleOn r (p .cycle) l m c → (k : ℕ) → c .answer ≡ Refused k
         → Driven xs r (c .lasts .1 .1 .0) (c .lasts .1 .1 .1 .0)
-    refuses-block : {xs : List Sample} {r : Run} {l : List ℤ} {m : List ℕ} → Driven xs r l m → (c : BlockCall) → BlockOn r b l m c → (k : ℕ) → c .answer ≡ Refused k
+    refuses-block : {xs : List Moment} {r : Run} {l : List ℤ} {m : List ℕ} → Driven xs r l m → (c : BlockCall) → BlockOn r (p .cycle) l m c → (k : ℕ) → c .answer ≡ Refused k
         → Driven xs r (c .lasts .1 .1 .0) (c .lasts .1 .1 .1 .0)
 
   -- what was promised and taken was reached; what was refused is where it was
-  by-promise : {n : ℕ} {r r′ : Run} {a l u : List ℤ} {z m v : List ℕ} {xs : List Sample} {x : Answer} → Promised n r a z l m x u v → x ≡ Taken r′
-      → (n ≡ 0 → Reached b t l₀ m₀ xs r a z) → Reached b t l₀ m₀ xs r′ u v
-  by-promise {n} {r} {r′} p e reach =
-      let (zero, same) = answer-taken n r r′ (sym (p .answer) ∙ e) in
-      subst₃ (Reached b t l₀ m₀ _) same (sym (p .in-ledger ∙ settled-taken _ zero)) (sym (p .in-map ∙ settled-taken _ zero)) (reach zero)
+  by-promise : {n : ℕ} {r r′ : Run} {a c : Memory} {l : List ℤ} {m : List ℕ} {xs : List Moment} {x : Answer} → Promised n r a l m x c → x ≡ Taken r′
+      → (n ≡ 0 → Reached p l₀ m₀ xs r (a .ledger) (a .map)) → Reached p l₀ m₀ xs r′ (c .ledger) (c .map)
+  by-promise {n} {r} {r′} {l = l} {m = m} {xs = xs} k e reach =
+      let (zero, same) = answer-taken n r r′ (sym (k .answer) ∙ e) in
+      subst₂ (λ (y : Run) (z : Memory). Reached p l₀ m₀ xs y (z .ledger) (z .map)) same (sym (k .in-memory ∙ settled-taken (lent l m) zero)) (reach zero)
 
-  by-refusal : {n : ℕ} {r s : Run} {a l u : List ℤ} {z m v : List ℕ} {xs : List Sample} {x : Answer} → Promised n s a z l m x u v → (k : ℕ) → x ≡ Refused k
-      → Reached b t l₀ m₀ xs r l m → Reached b t l₀ m₀ xs r u v
-  by-refusal p k e h =
-      let s = refused-changes-nothing _ _ _ _ _ _ k _ _ _ p e in
-      subst₂ (Reached b t l₀ m₀ _ _) (sym (s .1)) (sym (s .2)) h
+  by-refusal : {n : ℕ} {r s : Run} {a c : Memory} {l : List ℤ} {m : List ℕ} {xs : List Moment} {x : Answer} → Promised n s a l m x c → (k : ℕ) → x ≡ Refused k
+      → Reached p l₀ m₀ xs r l m → Reached p l₀ m₀ xs r (c .ledger) (c .map)
+  by-refusal {r = r} {c = c} {xs = xs} q k e h = subst⁻¹ (λ (z : Memory). Reached p l₀ m₀ xs r (z .ledger) (z .map)) (refused-changes-nothing _ _ _ _ _ k _ c q e .1) h
 
-  pub driven-reached : {xs : List Sample} {r : Run} {l : List ℤ} {m : List ℕ} → Driven xs r l m → Reached b t l₀ m₀ xs r l m
+  pub driven-reached : {xs : List Moment} {r : Run} {l : List ℤ} {m : List ℕ} → Driven xs r l m → Reached p l₀ m₀ xs r l m
   driven-reached (begins c on e) = by-promise (start-kept c on) e (λ z. Reached.start z)
   driven-reached (takes h c on e) = by-promise (sample-kept c on) e (λ z. Reached.sample (driven-reached h) (sampleIn c) z)
   driven-reached (takes-block h c on e) = by-promise (block-kept c on) e (λ z. Reached.block (driven-reached h) _ (bytesIn c) z)

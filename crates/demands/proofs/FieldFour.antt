@@ -12,7 +12,7 @@ use lib.Seq.{take-at, drop-at, drop-append-add}
 use Rattle.numbers.specs.Tests.{unless, settled}
 use Rattle.numbers.proofs.Bytes.{be-two}
 use Rattle.numbers.proofs.Tests.{pass}
-use Rattle.rules.specs.declared.Sample.{Sample}
+use Rattle.rules.specs.declared.Moment.{Moment}
 use Rattle.rules.specs.declared.Tolerances.{Tolerances}
 use Rattle.rules.specs.Bench.{tolerable}
 use Rattle.rules.specs.Cycle.{valid}
@@ -125,7 +125,7 @@ module _ (p q : List ℕ) (h : FirstThree p) where
     pub told-four : (x : Told) → sheetOf (withFour p q v) ≡ told x → x .tolerances ≡ tolerancesIn v
     told-four x e = go (eqb number 0) (sym sheet-four ∙ e)
       where
-        y : Read (List Sample)
+        y : Read (List Moment)
         y = fieldsIn (k .vehicle) q
 
         go : (b : Bool) → cond b (sheetBy (y .last) (tells (tolerancesIn v)) (4 + y .fields) (length q - y .used)) (refused number 4) ≡ told x
@@ -148,7 +148,7 @@ module _ (p q : List ℕ) (h : FirstThree p) where
         sheet-four v′ six′ ∙ ap (λ (x : ℕ). sheet x (tolerancesIn v′)) same-number ∙ go (eqb (number v six) 0)
         ∙ ap (retold (tolerancesIn v′)) (sym (sheet-four v six))
       where
-        y : Read (List Sample)
+        y : Read (List Moment)
         y = fieldsIn (k .vehicle) q
 
         by : Tolerances → Bool → Sheet

@@ -18,7 +18,7 @@ use Rattle.contents.specs.declared.Content.the-variants as content
 use Rattle.reading.specs.declared.Reading.{Reading}
 use Rattle.reading.specs.declared.Step.the-variants as step
 use Rattle.reading.specs.Reading.{Tale, Answered, stepOf, taleAfter, brought, fieldAt}
-use Rattle.reading.specs.Answers.{offeredOf, takeBlock, taleOf, readingOf, readGround, readOf}
+use Rattle.reading.specs.Answers.{offeredOf, takeBlock, taleOf, readingOf, planOf, readGround, readOf}
 use Rattle.reading.proofs.Onwards.{Ends, by-front}
 use Rattle.reader.specs.declared.ReadAnswer.{ReadAnswer}
 use Rattle.records.specs.Records.{Told, told, refused, sheetOf}
@@ -27,8 +27,8 @@ use Rattle.records.proofs.Sheets.{withTale}
 use Rattle.records.proofs.ForeignRecords as records
 use Rattle.records.proofs.ForeignRecords.{passedIn, oneMore}
 use Rattle.sheet.specs.Text.{refusalText}
-use Rattle.prints.specs.Printed.{printed}
-use Rattle.demands.specs.Compared.{figuresOf, OneMorePassed}
+use Rattle.prints.specs.Printed.{figuresTold, printed}
+use Rattle.demands.specs.Compared.{OneMorePassed}
 use Rattle.demands.proofs.NoDoubt.{left, left-by}
 use Rattle.demands.proofs.LaterCalls.{ReadCall}
 use Rattle.demands.proofs.Lines.{withPassed, abovePassed, belowPassed, passed-lines}
@@ -44,17 +44,17 @@ module _ (p f q : List ℕ) (x : Told) (n : ℕ) (tells : sheetOf p ≡ told x) 
   -- every figure is the same but `passed`
   pub foreign-figures : (y : Told) → sheetOf (p ++ q) ≡ told y
       → (sheetOf (p ++ (f ++ q)) ≡ told (withTale y (morePassed (y .tale))))
-      × (figuresOf (withTale y (morePassed (y .tale))) ≡ withPassed (figuresOf y) (y .tale .passed + 1))
+      × (figuresTold (withTale y (morePassed (y .tale))) ≡ withPassed (figuresTold y) (y .tale .passed + 1))
   foreign-figures y e = (foreign-blocks-change-nothing ∙ ap oneMore e, refl)
 
   -- and every line
   pub foreign-prints : (y : Told) → sheetOf (p ++ q) ≡ told y → OneMorePassed (printed (sheetOf (p ++ q))) (printed (sheetOf (p ++ (f ++ q))))
   foreign-prints y e = record {
-    above = abovePassed (figuresOf y);
-    below = belowPassed (figuresOf y);
+    above = abovePassed (figuresTold y);
+    below = belowPassed (figuresTold y);
     number = y .tale .passed;
-    lines = ap printed e ∙ passed-lines (figuresOf y) (y .tale .passed);
-    lines′ = ap printed (foreign-blocks-change-nothing ∙ ap oneMore e) ∙ passed-lines (figuresOf y) (y .tale .passed + 1);
+    lines = ap printed e ∙ passed-lines (figuresTold y) (y .tale .passed);
+    lines′ = ap printed (foreign-blocks-change-nothing ∙ ap oneMore e) ∙ passed-lines (figuresTold y) (y .tale .passed + 1);
   }
 
   -- of a record that is refused, only the field's number changes
@@ -85,11 +85,11 @@ passed-read r b l m i n = go (eqb (readGround r b l m) 0)
   where
     call : Bool → Answered State
     call t =
-        cond t (fieldAt offeredOf (takeBlock b (r .run .tolerances)) (r .vehicle) (taleOf r l m) i)
+        cond t (fieldAt offeredOf (takeBlock (planOf r b)) (r .vehicle) (taleOf r l m) i)
         (record { step = step.Refused (readGround r b l m); tale = taleOf r l m })
 
     go : (t : Bool) → call t .step ≡ step.Passed n → call t .tale ≡ morePassed (taleOf r l m)
-    go true = passed-field offeredOf (takeBlock b (r .run .tolerances)) (r .vehicle) (taleOf r l m) i n
+    go true = passed-field offeredOf (takeBlock (planOf r b)) (r .vehicle) (taleOf r l m) i n
     go false = λ e. absurd (false≢true cc)
 
 -- the reading with one block more passed over
@@ -99,8 +99,7 @@ onePassed r = record { vehicle = r .vehicle; place = r .place; passed = r .passe
 pub read-passes-over : (c : ReadCall) (n : ℕ) → c .answer .step ≡ step.Passed n → (c .answer .reading ≡ onePassed (c .args .0)) × (left c ≡ c .args)
 read-passes-over c n e =
     let (r, (i, (b, (l, (m, _))))) = c .args in
-    let k = c .kept in
-    let f = passed-read r (now b) (now l) (now m) (now i) n (sym (ap (λ (x : ReadAnswer). x .step) (k .0)) ∙ e) in
-    let in-ledger = k .1 .0 ∙ ap (λ (y : Tale State). y .run .ledger) f in
-    let in-map = k .1 .1 ∙ ap (λ (y : Tale State). y .run .map) f in
-    (ap (λ (x : ReadAnswer). x .reading) (k .0) ∙ ap (readingOf r) f, left-by c (λ j. (tt, (tt, (tt, (in-ledger j, (in-map j, tt)))))))
+    let k = ap (λ y. y .answer) (c .kept) in
+    let f = passed-read r (now b) (now l) (now m) (now i) n (sym (ap (λ (x : ReadAnswer). x .step) k) ∙ e) in
+    let memory = ap (λ y. y .memory) (c .kept) ∙ ap (λ (y : Tale State). y .run .memory) f in
+    (ap (λ (x : ReadAnswer). x .reading) k ∙ ap (readingOf r) f, left-by c (λ j. (tt, (tt, (tt, (memory j .ledger, (memory j .map, tt)))))))

@@ -2,57 +2,69 @@
 -- Assumes nothing.
 use mathlib.Core.Bool.{Bool, true, false, cond}
 use mathlib.Core.List.{List}
-use mathlib.Core.Path.{_≡_, sym, ap, _∙_}
-use Prim.Native.Nat.{ℕ, _+_, _-_, _*_, _<_}
+use mathlib.Core.Path.{_≡_, refl, sym, ap, _∙_}
+use Prim.Native.Nat.{ℕ, _+_, _-_, _*_, _≤_, _<_, min}
 use native.Mathlib.Nat.{add-zero, div-lt-iff-lt-mul}
 use native.Mathlib.Numerals.{add-one}
 use native.Mathlib.Omega.{arith}
+use borrow.Author.Tests.{ltb-true}
 use lib.Dec.{ltb}
 use lib.IntN.{ℤ, pos}
 use lib.ListN.{length}
 use Rattle.numbers.specs.Tests.{bit}
-use Rattle.rules.specs.declared.Sample.{Sample}
-use Rattle.rules.specs.declared.Tolerances.{Tolerances}
+use Rattle.rules.specs.declared.Moment.{Moment}
 use Rattle.rules.specs.declared.End.the-variants.{None as none, Stop as stop, Limit as limit}
-use Rattle.rules.specs.Cycle.{seconds}
-use Rattle.rules.specs.Run.{sampleOf, cycleOf, most, outside, counted, stopped, judged}
-use Rattle.rules.specs.Shown.{lastJudged}
+use Rattle.rules.specs.Bench.{mostCycles}
+use Rattle.rules.specs.Course.{Course, ends, outside, counted, stopped, judged, closed}
+use Rattle.rules.specs.Regular.{cycleOf, Plan, courseOf, momentIn}
+use Rattle.rules.specs.Shown.{shownRow}
+use Rattle.rules.proofs.NineNumbers.{outside-figure}
+use Rattle.rules.proofs.Regular.{shown-last}
+use Rattle.rules.proofs.Sound.{real}
+use Rattle.rules.proofs.Tally.{counted-le}
 use Rattle.ledger.specs.Row.{outsideIn}
 use Rattle.state.specs.declared.Run.{Run}
 use Rattle.state.specs.Refusals.{judgedBy, lastCycle}
-use Rattle.state.proofs.Checked.{ground-passed, judged-most}
-use Rattle.judge.proofs.Runs.{Reached, run-shows, never-refused}
-use Rattle.rules.proofs.NineNumbers.{outside-figure}
+use Rattle.judge.proofs.Runs.{Reached, good, run-shows}
 
-module _ (b : List ℕ) (t : Tolerances) (l₀ : List ℤ) (m₀ : List ℕ) {xs : List Sample} {r : Run} {l : List ℤ} {m : List ℕ}
-    (h : Reached b t l₀ m₀ xs r l m) where
-  abbrev s : ℕ → Sample
-  s = sampleOf xs
+module _ (p : Plan) (l₀ : List ℤ) (m₀ : List ℕ) {xs : List Moment} {r : Run} {l : List ℤ} {m : List ℕ} (h : Reached p l₀ m₀ xs r l m) where
+  abbrev s : ℕ → Moment
+  s = momentIn xs
 
   abbrev n : ℕ
   n = length xs
 
+  abbrev c : Course
+  c = courseOf p
+
   -- how many samples the state says were judged
-  judged-are : judgedBy (r .end) (r .counted) ≡ judged b t s n
+  judged-are : judgedBy (r .progress .end) (r .progress .counted) ≡ judged c s n
   judged-are =
-      let shown = run-shows b t l₀ m₀ h in
-      (λ i. judgedBy (shown .end-is i) (shown .counted-is i)) ∙ go (stopped b t s n) (ltb (counted b t s n) (most b)) (counted b t s n)
+      let shown = run-shows p l₀ m₀ h in
+      (λ i. judgedBy (shown .end-is i) (shown .counted-is i)) ∙ go (stopped c s n) (ltb (closed c s n) (c .layout .most)) (counted c s n)
     where
       go : (x y : Bool) (k : ℕ) → judgedBy (cond x stop (cond y none limit)) k ≡ k + bit x
       go true y k = sym (add-one k)
       go false true k = sym (add-zero k)
       go false false k = sym (add-zero k)
 
-  pub last-cycle-is : lastCycle r b ≡ lastJudged b t s (judged b t s n)
-  last-cycle-is = ap (λ (j : ℕ). cycleOf b (j - 1)) judged-are
+  judged-most : judged c s n ≤ c .layout .most
+  judged-most = go (stopped c s n) refl
+    where
+      go : (x : Bool) → stopped c s n ≡ x → counted c s n + bit x ≤ c .layout .most
+      go true e = omega (arith, ltb-true (counted c s n) (min n (c .layout .most)) e)
+      go false e = omega (arith, counted-le (ends c s) (c .layout .most) n .1)
 
-  pub last-cycle-most : lastCycle r b < 64
+  pub last-cycle-is : lastCycle r (p .cycle) ≡ shownRow (c .layout) (judged c s n)
+  last-cycle-is =
+      ap (λ (j : ℕ). cycleOf (p .cycle) (j - 1)) judged-are ∙ sym (shown-last (p .cycle) (good p l₀ m₀ h) (judged c s n) judged-most)
+
+  pub last-cycle-most : lastCycle r (p .cycle) < mostCycles
   last-cycle-most =
-      let g = ground-passed (never-refused b t l₀ m₀ h 0) in
-      let some : 0 < 20 * seconds b = omega (arith, g .limits .long, g .same-seconds) in
-      let k = judged-most (r .end) _ (r .offered) (r .counted) (g .limits .progress) (omega (arith, g .limits .long)) in
-      div-lt-iff-lt-mul {x = judgedBy (r .end) (r .counted) - 1} {y = 64} some .1 (omega (arith, k, g .same-seconds))
+      let o = good p l₀ m₀ h in
+      let some : 0 < c .layout .most = omega (arith, real o) in
+      rw judged-are (div-lt-iff-lt-mul {x = judged c s n - 1} {y = mostCycles} (real o) .1 (omega (arith, judged-most)))
 
   -- the ledger's outside count of a cycle
-  pub outsides-are : (c : ℕ) → c < 64 → outsideIn l c ≡ pos (outside b t s c (judged b t s n))
-  outsides-are c g = run-shows b t l₀ m₀ h .ledger-shows (9 * c + 8) (omega arith) ∙ outside-figure b t s n c
+  pub outsides-are : (k : ℕ) → k < mostCycles → outsideIn l k ≡ pos (outside c s k (judged c s n))
+  outsides-are k g = run-shows p l₀ m₀ h .ledger-shows (9 * k + 8) (omega arith) ∙ outside-figure c s n k

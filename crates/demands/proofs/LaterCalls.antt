@@ -93,9 +93,9 @@ module _ {r : Run} {b : List ℕ} {l : List ℤ} {m : List ℕ} where
   shown-kept c on =
       c .kept ∙ (λ i. shownAnswer (ground (on .run-is i) (on .cycle-is i) (on .ledger-is i) (on .map-is i) 0) (countsOf (on .run-is i) (on .cycle-is i) (on .ledger-is i) (on .map-is i)))
 
-  pub totals-kept : (c : TotalsCall) → TotalsOn r b l m c → c .answer ≡ totalsAnswer (ground r b l m 0) (sumsOf r b l)
+  pub totals-kept : (c : TotalsCall) → TotalsOn r b l m c → c .answer ≡ totalsAnswer (ground r b l m 0) (sumsOf r l)
   totals-kept c on =
-      c .kept ∙ (λ i. totalsAnswer (ground (on .run-is i) (on .cycle-is i) (on .ledger-is i) (on .map-is i) 0) (sumsOf (on .run-is i) (on .cycle-is i) (on .ledger-is i)))
+      c .kept ∙ (λ i. totalsAnswer (ground (on .run-is i) (on .cycle-is i) (on .ledger-is i) (on .map-is i) 0) (sumsOf (on .run-is i) (on .ledger-is i)))
 
   pub weighted-kept : (c : WeightedCall) → WeightedOn r b l m c → c .answer ≡ weightedAnswer r (weightedAmounts c) b l m
   weighted-kept c on = c .kept ∙ (λ i. weightedAnswer (on .run-is i) (weightedAmounts c) (on .cycle-is i) (on .ledger-is i) (on .map-is i))

@@ -18,7 +18,7 @@ use Rattle.consumption.specs.Figures.{chargedBy}
 use Rattle.fields.specs.declared.Front.{Front}
 use Rattle.fields.specs.declared.Front.the-variants as front
 use Rattle.fields.specs.Fields.{valueIn, frontOf}
-use Rattle.fields.specs.Values.{sameNumber, firstIn, samplesOf, energyIn}
+use Rattle.fields.specs.Values.{sameNumber, firstIn, samplesOf, transferIn}
 use Rattle.contents.specs.declared.Content.the-variants.{Foreign, Before, After, Refused}
 use Rattle.contents.specs.Content.{ownContent, blockContent, energyContent, rechargeContent, contentOf}
 use Rattle.reading.specs.declared.Reading.{Reading}
@@ -82,7 +82,7 @@ block-neither me passed offered v =
 energy-neither : (v : List ℕ) → Neither (contentNumber (energyContent v))
 unfolding energyContent
 energy-neither v =
-    chain-neither contentNumber _ (omega arith) (either-neither contentNumber (eqb (getD v 0 0) 0) (Before (energyIn v)) (After (energyIn v)) zero-neither zero-neither)
+    chain-neither contentNumber _ (omega arith) (either-neither contentNumber (eqb (getD v 0 0) 0) (Before (transferIn v)) (After (transferIn v)) zero-neither zero-neither)
 
 recharge-neither : (v : List ℕ) → Neither (contentNumber (rechargeContent v))
 unfolding rechargeContent
@@ -100,7 +100,7 @@ content-neither me place passed offered tag v =
 pub next-neither : (r : Reading) (i : List ℕ) → Neither (nextNumber r i)
 next-neither r i = go (frontOf i)
   where
-    go : (f : Front) → Neither (fieldNumber f (λ tag n. contentNumber (contentOf (r .vehicle) (r .place) (r .passed) (r .run .offered) tag (valueIn i n))))
+    go : (f : Front) → Neither (fieldNumber f (λ tag n. contentNumber (contentOf (r .vehicle) (r .place) (r .passed) (r .run .progress .offered) tag (valueIn i n))))
     go front.Incomplete = zero-neither
     go front.Impossible = omega arith
-    go (front.Field tag n) = content-neither (r .vehicle) (r .place) (r .passed) (r .run .offered) tag (valueIn i n)
+    go (front.Field tag n) = content-neither (r .vehicle) (r .place) (r .passed) (r .run .progress .offered) tag (valueIn i n)

@@ -12,8 +12,8 @@ use denote.Ref.{RefT, now}
 use Rattle.numbers.specs.Tests.{settled}
 use Rattle.numbers.proofs.Tests.{pass}
 use Rattle.rules.specs.declared.Charge.{Charge}
-use Rattle.rules.specs.declared.Sample.{Sample}
-use Rattle.rules.specs.declared.Tolerances.{Tolerances}
+use Rattle.rules.specs.declared.Moment.{Moment}
+use Rattle.rules.specs.Regular.{Plan}
 use Rattle.rules.specs.Closing.{areAmounts, closingRefusal}
 use Rattle.state.specs.declared.Run.{Run}
 use Rattle.state.specs.State.{ground}
@@ -54,26 +54,26 @@ module _ (E : ℤ) (n : ℕ) (e d : ℕ → ℤ) where
 
 -- ---- the calls
 
-module _ {b : List ℕ} {t : Tolerances} {l₀ : List ℤ} {m₀ : List ℕ} {xs : List Sample} {r : Run} {l : List ℤ} {m : List ℕ} (h : Driven b t l₀ m₀ xs r l m) where
+module _ {p : Plan} {l₀ : List ℤ} {m₀ : List ℕ} {xs : List Moment} {r : Run} {l : List ℤ} {m : List ℕ} (h : Driven p l₀ m₀ xs r l m) where
   -- what comes after 1 and 2 decides
-  grounded : {run : Run} {cycle : RefT (List ℕ)} {ledger : RefT (List ℤ)} {map : RefT (List ℕ)} → On r b l m run cycle ledger map → (others : ℕ)
+  grounded : {run : Run} {cycle : RefT (List ℕ)} {ledger : RefT (List ℤ)} {map : RefT (List ℕ)} → On r (p .cycle) l m run cycle ledger map → (others : ℕ)
       → ground run (now cycle) (now ledger) (now map) others ≡ others
   grounded on others =
-      (λ i. ground (on .run-is i) (on .cycle-is i) (on .ledger-is i) (on .map-is i) others) ∙ runs.never-refused b t l₀ m₀ (driven-reached b t l₀ m₀ h) others
+      (λ i. ground (on .run-is i) (on .cycle-is i) (on .ledger-is i) (on .map-is i) others) ∙ runs.never-refused p l₀ m₀ (driven-reached p l₀ m₀ h) others
 
-  sample-neither : (c : SampleCall) → SampleOn r b l m c → Neither1Nor2 answer.Refused (c .answer)
+  sample-neither : (c : SampleCall) → SampleOn r (p .cycle) l m c → Neither1Nor2 answer.Refused (c .answer)
   unfolding sampleRefusal
   sample-neither c on =
       by-number answerNumber answer.Refused (λ k. refl) (sample-number c ∙ grounded on _)
       (unless-neither _ (omega arith) (unless-neither _ (omega arith) zero-neither))
 
-  block-neither : (c : BlockCall) → BlockOn r b l m c → Neither1Nor2 answer.Refused (c .answer)
+  block-neither : (c : BlockCall) → BlockOn r (p .cycle) l m c → Neither1Nor2 answer.Refused (c .answer)
   unfolding blockRefusal
   block-neither c on =
       by-number answerNumber answer.Refused (λ k. refl) (block-number c ∙ grounded on _)
       (unless-neither _ (omega arith) (unless-neither _ (omega arith) (unless-neither _ (omega arith) (unless-neither _ (omega arith) zero-neither))))
 
-  reading-neither : (reading : Reading) (cycle : RefT (List ℕ)) (ledger : RefT (List ℤ)) (map : RefT (List ℕ)) → On r b l m (reading .run) cycle ledger map
+  reading-neither : (reading : Reading) (cycle : RefT (List ℕ)) (ledger : RefT (List ℤ)) (map : RefT (List ℕ)) → On r (p .cycle) l m (reading .run) cycle ledger map
       → isReading reading ≡ true → (next : ℕ) → Neither next → Neither (orElse (readGround reading (now cycle) (now ledger) (now map)) next)
   unfolding readGround
   reading-neither reading cycle ledger map on ok next g =
@@ -81,18 +81,18 @@ module _ {b : List ℕ} {t : Tolerances} {l₀ : List ℤ} {m₀ : List ℕ} {xs
       cond-neither (eqb (readGround reading (now cycle) (now ledger) (now map)) 0) next _ g (omega (arith, z))
 
   pub record NeverRefused : Type 0 where
-    pub sample : (c : SampleCall) → SampleOn r b l m c → Neither1Nor2 answer.Refused (c .answer)
-    pub block : (c : BlockCall) → BlockOn r b l m c → Neither1Nor2 answer.Refused (c .answer)
-    pub shown : (c : ShownCall) → ShownOn r b l m c → Neither1Nor2 counts.Refused (c .answer)
-    pub totals : (c : TotalsCall) → TotalsOn r b l m c → Neither1Nor2 sums.Refused (c .answer)
+    pub sample : (c : SampleCall) → SampleOn r (p .cycle) l m c → Neither1Nor2 answer.Refused (c .answer)
+    pub block : (c : BlockCall) → BlockOn r (p .cycle) l m c → Neither1Nor2 answer.Refused (c .answer)
+    pub shown : (c : ShownCall) → ShownOn r (p .cycle) l m c → Neither1Nor2 counts.Refused (c .answer)
+    pub totals : (c : TotalsCall) → TotalsOn r (p .cycle) l m c → Neither1Nor2 sums.Refused (c .answer)
     -- with amounts within their limits
-    pub weighted : (c : WeightedCall) → WeightedOn r b l m c → areAmounts (weightedAmounts c) ≡ true → Neither1Nor2 fig.Refused (c .answer)
-    pub range : (c : RangeCall) → RangeOn r b l m c → areAmounts (rangeAmounts c) ≡ true → Neither1Nor2 fig.Refused (c .answer)
-    pub recharge : (c : RechargeCall) → RechargeOn r b l m c → areAmounts (rechargeAmounts c) ≡ true → Neither1Nor2 fig.Refused (c .answer)
+    pub weighted : (c : WeightedCall) → WeightedOn r (p .cycle) l m c → areAmounts (weightedAmounts c) ≡ true → Neither1Nor2 fig.Refused (c .answer)
+    pub range : (c : RangeCall) → RangeOn r (p .cycle) l m c → areAmounts (rangeAmounts c) ≡ true → Neither1Nor2 fig.Refused (c .answer)
+    pub recharge : (c : RechargeCall) → RechargeOn r (p .cycle) l m c → areAmounts (rechargeAmounts c) ≡ true → Neither1Nor2 fig.Refused (c .answer)
     -- with a reading whose own numbers are within their limits
-    pub figures : (c : FiguresCall) → FiguresOn r b l m c → isReading (c .args .0) ≡ true → c .answer .refusal ≡ 0
-    pub read : (c : ReadCall) → ReadOn r b l m c → isReading (c .args .0) ≡ true → Neither1Nor2 step.Refused (c .answer .step)
-    pub read-all : (c : AllCall) → AllOn r b l m c → isReading (c .args .0) ≡ true → Neither1Nor2 step.Refused (c .answer .last)
+    pub figures : (c : FiguresCall) → FiguresOn r (p .cycle) l m c → isReading (c .args .0) ≡ true → c .answer .refusal ≡ 0
+    pub read : (c : ReadCall) → ReadOn r (p .cycle) l m c → isReading (c .args .0) ≡ true → Neither1Nor2 step.Refused (c .answer .step)
+    pub read-all : (c : AllCall) → AllOn r (p .cycle) l m c → isReading (c .args .0) ≡ true → Neither1Nor2 step.Refused (c .answer .last)
 
   pub never-refused-1-or-2 : NeverRefused
   never-refused-1-or-2 = record {

@@ -22,17 +22,15 @@ use Rattle.contents.specs.declared.Content.{Content}
 use Rattle.contents.specs.declared.Content.the-variants as content
 use Rattle.contents.specs.Content.{contentOf}
 use Rattle.opening.specs.declared.Opening.{Opening}
-use Rattle.opening.specs.declared.OpenAnswer.{OpenAnswer}
 use Rattle.opening.specs.declared.OpenStep.the-variants as opening
 use Rattle.opening.specs.Opening.{Begun, openRefusal, openByFront, openAt}
-use Rattle.opening.specs.Answers.{Held, hold, cycleIn, begunOf, openGround, openOf}
+use Rattle.opening.specs.Answers.{Held, hold, cycleIn, begunOf, openGround, openOf, OpenLeft}
 use Rattle.reading.specs.declared.Reading.{Reading}
 use Rattle.reading.specs.declared.Step.the-variants as step
 use Rattle.reading.specs.Reading.{Tale, Answered, Read, stepOf, brought, byFront, fieldAt, upto, fieldsOf}
-use Rattle.reading.specs.Answers.{offeredOf, takeBlock, taleOf, readGround, readOf, readAllOf}
+use Rattle.reading.specs.Answers.{offeredOf, takeBlock, taleOf, planOf, readGround, readOf, readAllOf}
 use Rattle.reading.proofs.Onwards.{by-step}
 use Rattle.reading.proofs.Cuts.{field-size, field-none, field-ends}
-use Rattle.reader.specs.declared.ReadAnswer.{ReadAnswer}
 use Rattle.reader.specs.declared.AllAnswer.{AllAnswer}
 use Rattle.reader.specs.Answers.{endingOf}
 use Rattle.reader.proofs.open
@@ -74,7 +72,7 @@ pub open-number : (c : Call open.ended open.Reads.Learnt) → (let (o, (i, (room
     openNumber (c .answer .step) ≡ openingNumber o (now room) (now l) (now m) (now i))
 open-number c =
     let (o, (i, (room, (l, (m, _))))) = c .args in
-    ap (λ (x : OpenAnswer). openNumber (x .step)) (c .kept .0) ∙ open-of-number o (now room) (now l) (now m) (now i)
+    ap (λ (x : OpenLeft). openNumber (x .answer .step)) (c .kept) ∙ open-of-number o (now room) (now l) (now m) (now i)
 
 -- ---- after it
 
@@ -92,19 +90,19 @@ module _ (r : Reading) (b : List ℕ) (l : List ℤ) (m i : List ℕ) where
   me = r .vehicle
 
   abbrev takes : State → List ℕ → State
-  takes = takeBlock b (r .run .tolerances)
+  takes = takeBlock (planOf r b)
 
   abbrev at : Tale State → List ℕ → Answered State
   at = fieldAt offeredOf takes me
 
   abbrev next : Tale State → List ℕ → ℕ
-  next k j = fieldNumber (frontOf j) (λ tag n. contentNumber (contentOf me (k .place) (k .passed) (k .run .offered) tag (valueIn j n)))
+  next k j = fieldNumber (frontOf j) (λ tag n. contentNumber (contentOf me (k .place) (k .passed) (k .run .progress .offered) tag (valueIn j n)))
 
   at-number : (k : Tale State) (j : List ℕ) → stepNumber (at k j .step) ≡ next k j
   unfolding fieldAt
   at-number k j = go (frontOf j)
     where
-      go : (f : Front) → stepNumber (byFront offeredOf takes me k j f .step) ≡ fieldNumber f (λ tag n. contentNumber (contentOf me (k .place) (k .passed) (k .run .offered) tag (valueIn j n)))
+      go : (f : Front) → stepNumber (byFront offeredOf takes me k j f .step) ≡ fieldNumber f (λ tag n. contentNumber (contentOf me (k .place) (k .passed) (k .run .progress .offered) tag (valueIn j n)))
       go front.Incomplete = refl
       go front.Impossible = refl
       go (front.Field tag n) = step-number (brought offeredOf takes me k tag (valueIn j n)) (3 + n)
@@ -148,14 +146,14 @@ pub read-number : (c : Call read.ended read.Reads.Learnt) → (let (r, (i, (b, (
     stepNumber (c .answer .step) ≡ readingNumber r (now b) (now l) (now m) (now i))
 read-number c =
     let (r, (i, (b, (l, (m, _))))) = c .args in
-    ap (λ (x : ReadAnswer). stepNumber (x .step)) (c .kept .0) ∙ read-of-number r (now b) (now l) (now m) (now i)
+    ap (λ y. stepNumber (y .answer .step)) (c .kept) ∙ read-of-number r (now b) (now l) (now m) (now i)
 
 -- of `read_all`: 1 and 2 of the whole call, then the number of the field at the front of what the accepted fields leave
 pub read-all-number : (c : Call read_all.ended read_all.Reads.Learnt) → (let (r, (i, (b, (l, (m, _))))) = c .args in
     stepNumber (c .answer .last) ≡ orElse (readGround r (now b) (now l) (now m)) (nextNumber (c .answer .reading) (drop (c .answer .used) (now i))))
 read-all-number c =
     let (r, (i, (b, (l, (m, _))))) = c .args in
-    let e = c .kept .0 in
+    let e = ap (λ y. y .answer) (c .kept) in
     ap (λ (x : AllAnswer). stepNumber (x .last)) e ∙ read-all-of-number r (now b) (now l) (now m) (now i)
     ∙ ap (λ (x : AllAnswer). orElse (readGround r (now b) (now l) (now m)) (nextNumber (x .reading) (drop (x .used) (now i)))) (sym e)
 

@@ -1,13 +1,13 @@
 -- "Demand 2 shuts out a judge that ..": the six judges that document 01 names, each of which breaks a contract.
 -- Assumes nothing.
-use mathlib.Core.Bool.{Bool, true, false, false≢true}
+use mathlib.Core.Bool.{Bool, true, false, cond, false≢true}
 use mathlib.Core.List.{List, [], _++_}
 use mathlib.Core.Path.{_≡_, refl, sym, ap, _∙_}
 use Prim.Native.Nat.{ℕ, suc, _+_, _≤_, _<_}
 use native.Mathlib.Numerals.{add-one}
 use native.Mathlib.Omega.{arith}
 use borrow.Author.Tests.{le-leb, eq-eqb}
-use lib.Dec.{lit≤, lit<}
+use lib.Dec.{ltb, lit≤, lit<}
 use lib.IntN.{ℤ, pos}
 use lib.ListN.{length}
 use denote.Ref.{now}
@@ -15,44 +15,45 @@ use Rattle.numbers.specs.Bytes.{be}
 use Rattle.numbers.specs.Range.{fold, gather, first, table}
 use Rattle.numbers.specs.Tests.{allBelow, unless}
 use Rattle.numbers.proofs.Tests.{pass, settled-taken}
-use Rattle.rules.specs.declared.End.the-variants.{None as none, Stop as stop}
+use Rattle.rules.specs.declared.End.the-variants.{None as none, Stop as stop, Limit as limit}
 use Rattle.rules.specs.declared.Sample.{Sample}
+use Rattle.rules.specs.declared.Moment.{Moment}
 use Rattle.rules.specs.declared.Tolerances.{Tolerances}
-use Rattle.rules.specs.Bench.{isSample, tolerable, mostOffered, mostSpeed}
+use Rattle.rules.specs.Bench.{isSample, momentOf, tolerable, mostSpeed, mostCycles, mostOffered}
 use Rattle.rules.specs.Cycle.{valid, positions}
 use Rattle.rules.specs.Band.{grid20, inside, side, verdict}
 use Rattle.rules.specs.Tally as tally
-use Rattle.rules.specs.Run.{sampleOf, outside, over, most, stopped, judged}
-use Rattle.rules.specs.Shown.{figure, lastJudged, marked, ledgerNumbers, mapWords}
-use Rattle.rules.proofs.Tally.{stopped-ending, ending-stopped}
+use Rattle.rules.specs.Course.{outside, stopped, judged, closed}
+use Rattle.rules.specs.Regular.{Plan, plan, courseOf, momentIn}
+use Rattle.rules.specs.Shown.{ledgerNumbers, mapWords, figure, shownRow, marked}
 use Rattle.ledger.specs.Row.{at, outsideIn}
 use Rattle.map.specs.Map.{isSet, onesOf}
 use Rattle.state.specs.declared.Run.{Run}
-use Rattle.state.specs.State.{ground}
+use Rattle.state.specs.State.{Memory, lent, ground}
 use Rattle.state.specs.Refusals.{startRefusal, sampleRefusal}
-use Rattle.step.specs.Step.{State, outNow, stateOf, runOf}
-use Rattle.step.proofs.Steps.{step-offered}
-use Rattle.step.proofs.Keeping.{steps-offered}
-use Rattle.blocks.specs.Blocks.{sampleAt, samplesIn, areSamples, isBlock, blockRefusal}
-use Rattle.blocks.proofs.Bytes.{block-of, taken}
+use Rattle.step.specs.Step.{State, outNow, stateOf, withProgress}
+use Rattle.step.proofs.Steps.{taken-offered}
+use Rattle.step.proofs.Keeping.{all-offered}
+use Rattle.blocks.specs.Blocks.{momentAt, samplesIn, areSamples, isBlock, blockRefusal}
+use Rattle.blocks.proofs.Bytes.{block-of, block-accepted}
 use Rattle.judge.specs.declared.Answer.{Answer}
 use Rattle.judge.specs.declared.Answer.the-variants.{Taken, Refused}
-use Rattle.judge.specs.Answers.{afterSample, afterBlock}
+use Rattle.judge.specs.Answers.{planOf, afterSample, afterBlock}
 use Rattle.judge.proofs.Promises.{Promised, answer-taken}
 use Rattle.judge.proofs.Runs as runs
 use Rattle.bench.specs.Question.{question}
 use Rattle.bench.proofs.paperwhelk_verdict
 use Rattle.demands.specs.Rows.{risen, noTime, ofSpeed, eleven, level, allowsThree, fourFast}
 use Rattle.demands.proofs.NoDoubt.{Call}
-use Rattle.demands.proofs.Driven.{StartCall, SampleCall, BlockCall, StartOn, SampleOn, BlockOn, sampleIn, bytesIn, start-kept, sample-kept, block-kept, Driven, driven-reached}
+use Rattle.demands.proofs.Driven.{StartCall, SampleCall, BlockCall, StartOn, SampleOn, BlockOn, sampleIn, bytesIn, start-kept, sample-kept, block-kept, Driven, driven-reached, sample-promised}
 use Rattle.demands.proofs.Driven.Driven.{takes-block}
 use Rattle.demands.proofs.LastJudged.{outsides-are}
 use Rattle.demands.proofs.Demand2.{state-shows, ledger-shows, map-shows, ones-are-outside}
-use Rattle.demands.proofs.SomeRun.{some-run}
+use Rattle.demands.proofs.SomeRun.{momentsOf, some-run}
 
 -- ---- "a judge that refuses everything"
 
-not-refused : {n : ℕ} {r : Run} {a l u : List ℤ} {z m v : List ℕ} {x : Answer} → Promised n r a z l m x u v → n ≡ 0 → (k : ℕ) → x ≡ Refused k → ⊥
+not-refused : {n : ℕ} {r : Run} {a c : Memory} {l : List ℤ} {m : List ℕ} {x : Answer} → Promised n r a l m x c → n ≡ 0 → (k : ℕ) → x ≡ Refused k → ⊥
 not-refused {n} {r} p z k e =
     let f : Taken r ≡ Refused k = sym (settled-taken (Refused n) z) ∙ sym (p .answer) ∙ e in
     false≢true cc
@@ -66,18 +67,18 @@ start-not-refused {b} {t} {l} {m} c on long-ledger long-map good tolerated =
     (sym (pass 1 (le-leb ledgerNumbers (length l) long-ledger) (pass 1 (le-leb mapWords (length m) long-map) (pass 2 good (pass 3 tolerated refl)))))
 
 -- a sample within its limits, and a block of such, in a whole run that has room for them
-module _ {b : List ℕ} {t : Tolerances} {l₀ : List ℤ} {m₀ : List ℕ} {xs : List Sample} {r : Run} {l : List ℤ} {m : List ℕ} (h : Driven b t l₀ m₀ xs r l m) where
-  grounded : (others : ℕ) → ground r b l m others ≡ others
-  grounded = runs.never-refused b t l₀ m₀ (driven-reached b t l₀ m₀ h)
+module _ {p : Plan} {l₀ : List ℤ} {m₀ : List ℕ} {xs : List Moment} {r : Run} {l : List ℤ} {m : List ℕ} (h : Driven p l₀ m₀ xs r l m) where
+  grounded : (others : ℕ) → ground r (p .cycle) l m others ≡ others
+  grounded = runs.never-refused p l₀ m₀ (driven-reached p l₀ m₀ h)
 
-  pub sample-not-refused : (c : SampleCall) → SampleOn r b l m c → isSample (sampleIn c) ≡ true → r .offered < mostOffered → (k : ℕ) → c .answer ≡ Refused k → ⊥
+  pub sample-not-refused : (c : SampleCall) → SampleOn r (p .cycle) l m c → isSample (sampleIn c) ≡ true → r .progress .offered < mostOffered → (k : ℕ) → c .answer ≡ Refused k → ⊥
   unfolding sampleRefusal
   sample-not-refused c on ok room =
       not-refused (sample-kept c on)
-      (grounded _ ∙ sym (pass 7 (le-leb (r .offered + 1) mostOffered (omega arith)) (pass 5 ok refl)))
+      (grounded _ ∙ sym (pass 7 (le-leb (r .progress .offered + 1) mostOffered (omega arith)) (pass 5 ok refl)))
 
-  pub block-not-refused : (c : BlockCall) → BlockOn r b l m c → (let q = bytesIn c in
-      isBlock (length q) ≡ true → c .args .1 .1 .1 .1 .0 ≡ r .offered → r .offered + samplesIn q ≤ mostOffered → areSamples q (samplesIn q) ≡ true
+  pub block-not-refused : (c : BlockCall) → BlockOn r (p .cycle) l m c → (let q = bytesIn c in
+      isBlock (length q) ≡ true → c .args .1 .1 .1 .1 .0 ≡ r .progress .offered → r .progress .offered + samplesIn q ≤ mostOffered → areSamples q (samplesIn q) ≡ true
       → (k : ℕ) → c .answer ≡ Refused k → ⊥)
   unfolding blockRefusal
   block-not-refused c on whole first room ok =
@@ -128,74 +129,75 @@ no-constant-verdict v h =
 
 -- nor is the judge's verdict constant: whether the next sample is outside, of cycles, tolerances and samples that break no rule
 pub no-constant-out : (y : Bool)
-    → ((b : List ℕ) (t : Tolerances) (a : State) (x : Sample) → valid b ≡ true → tolerable t ≡ true → isSample x ≡ true → outNow b t a x ≡ y) → ⊥
+    → ((p : Plan) (a : State) (x : Sample) → valid (p .cycle) ≡ true → tolerable (p .tolerances) ≡ true → isSample x ≡ true
+    → outNow (courseOf p) a (momentOf x) ≡ y)
+    → ⊥
 unfolding be fold allBelow unless valid tolerable isSample grid20 inside
 no-constant-out y h =
-    let a : State = record { offered = 10; counted = 10; end = none; ledger = []; map = [] } in
-    false≢true (h risen noTime a (ofSpeed 20) refl refl refl ∙ sym (h risen noTime a (ofSpeed 19) refl refl refl))
+    let a : State = record { progress = record { offered = 10; counted = 10; end = none }; memory = lent [] [] } in
+    false≢true (h (plan risen noTime) a (ofSpeed 20) refl refl refl ∙ sym (h (plan risen noTime) a (ofSpeed 19) refl refl refl))
 
 -- nor is the mark that it leaves: after eleven samples, the last of speed 20 or 19
-unmarked : {l₀ : List ℤ} {m₀ : List ℕ} {r : Run} {l : List ℤ} {m : List ℕ} → Driven risen noTime l₀ m₀ (eleven 20) r l m → isSet m 10 ≡ false
-unfolding be fold gather first grid20 inside tally.over marked
+unmarked : {l₀ : List ℤ} {m₀ : List ℕ} {r : Run} {l : List ℤ} {m : List ℕ} → Driven (plan risen noTime) l₀ m₀ (momentsOf (eleven 20)) r l m → isSet m 10 ≡ false
+unfolding be fold gather first grid20 inside tally.over shownRow marked
 unmarked h = map-shows h 10 (lit< tt)
 
-marked-outside : {l₀ : List ℤ} {m₀ : List ℕ} {r : Run} {l : List ℤ} {m : List ℕ} → Driven risen noTime l₀ m₀ (eleven 19) r l m → isSet m 10 ≡ true
-unfolding be fold gather first grid20 inside tally.over marked
+marked-outside : {l₀ : List ℤ} {m₀ : List ℕ} {r : Run} {l : List ℤ} {m : List ℕ} → Driven (plan risen noTime) l₀ m₀ (momentsOf (eleven 19)) r l m → isSet m 10 ≡ true
+unfolding be fold gather first grid20 inside tally.over shownRow marked
 marked-outside h = map-shows h 10 (lit< tt)
 
 pub no-constant-mark : (l₀ : List ℤ) (m₀ : List ℕ) → ledgerNumbers ≤ length l₀ → mapWords ≤ length m₀ → (y : Bool)
-    → ((v : ℕ) (r : Run) (l : List ℤ) (m : List ℕ) → Driven risen noTime l₀ m₀ (eleven v) r l m → isSet m 10 ≡ y) → ⊥
+    → ((v : ℕ) (r : Run) (l : List ℤ) (m : List ℕ) → Driven (plan risen noTime) l₀ m₀ (momentsOf (eleven v)) r l m → isSet m 10 ≡ y) → ⊥
 unfolding be fold allBelow unless valid tolerable isSample
 no-constant-mark l₀ m₀ long-ledger long-map y h =
-    let in-speed = some-run risen noTime l₀ m₀ long-ledger long-map refl refl (eleven 20) refl (lit≤ tt) in
-    let out-speed = some-run risen noTime l₀ m₀ long-ledger long-map refl refl (eleven 19) refl (lit≤ tt) in
+    let in-speed = some-run (plan risen noTime) l₀ m₀ long-ledger long-map refl refl (eleven 20) refl (lit≤ tt) in
+    let out-speed = some-run (plan risen noTime) l₀ m₀ long-ledger long-map refl refl (eleven 19) refl (lit≤ tt) in
     false≢true (sym (unmarked (in-speed .driven)) ∙ h 20 _ _ _ (in-speed .driven) ∙ sym (h 19 _ _ _ (out-speed .driven)) ∙ marked-outside (out-speed .driven))
 
 -- ---- "one that does nothing"
 
 -- a sample that is taken raises the number offered
 module _ (c : SampleCall) {r′ : Run} (e : c .answer ≡ Taken r′) where
-  pub sample-is-offered : r′ .offered ≡ suc (c .args .0 .offered)
+  pub sample-is-offered : r′ .progress .offered ≡ suc (c .args .0 .progress .offered)
   sample-is-offered =
       let (r, (b, (l, (m, (x, _))))) = c .args in
-      let same = answer-taken (sampleRefusal r (now b) (now l) (now m) x) (runOf r (afterSample r (now b) (now l) (now m) x)) r′ (sym (c .kept .0) ∙ e) .1 in
-      ap (λ (y : Run). y .offered) (sym same) ∙ step-offered (now b) (r .tolerances) (stateOf r (now l) (now m)) x ∙ add-one (r .offered)
+      let a = afterSample r (now b) (now l) (now m) x in
+      let same = answer-taken (sampleRefusal r (now b) (now l) (now m) x) (withProgress r (a .progress)) r′ (sym (sample-promised c .answer) ∙ e) .1 in
+      ap (λ (y : Run). y .progress .offered) (sym same) ∙ taken-offered (courseOf (planOf r (now b))) (stateOf r (now l) (now m)) (momentOf x) ∙ add-one (r .progress .offered)
 
   pub sample-does-something : r′ ≡ c .args .0 → ⊥
-  sample-does-something f = let g = ap (λ (y : Run). y .offered) f in omega (arith, sample-is-offered)
+  sample-does-something f = let g = ap (λ (y : Run). y .progress .offered) f in omega (arith, sample-is-offered)
 
 -- ---- "one that works through the first block and lets later ones slide by"
 
 -- a block that is taken, first or later, has samples, and each of them is taken by the rules
 pub record WorkedThrough (r : Run) (b : List ℕ) (l : List ℤ) (m q : List ℕ) (r′ : Run) (l′ : List ℤ) (m′ : List ℕ) : Type 0 where
   pub some : 1 ≤ samplesIn q
-  pub offered : r′ .offered ≡ r .offered + samplesIn q
-  pub run : r′ ≡ runOf r (afterBlock r b l m q)
-  pub in-ledger : l′ ≡ afterBlock r b l m q .ledger
-  pub in-map : m′ ≡ afterBlock r b l m q .map
+  pub offered : r′ .progress .offered ≡ r .progress .offered + samplesIn q
+  pub run : r′ ≡ withProgress r (afterBlock r b l m q .progress)
+  pub memory : lent l′ m′ ≡ afterBlock r b l m q .memory
 
 pub every-block-is-worked-through : {r : Run} {b : List ℕ} {l : List ℤ} {m : List ℕ} (c : BlockCall) → BlockOn r b l m c → {r′ : Run} → c .answer ≡ Taken r′
     → WorkedThrough r b l m (bytesIn c) r′ (c .lasts .1 .1 .0) (c .lasts .1 .1 .1 .0)
 every-block-is-worked-through {r} {b} {l} {m} c on {r′} e =
-    let p = block-kept c on in
+    let k = block-kept c on in
     let q = bytesIn c in
     let a = afterBlock r b l m q in
-    let (z, same) = answer-taken _ (runOf r a) r′ (sym (p .answer) ∙ e) in
-    let k = taken r b l m (c .args .1 .1 .1 .1 .0) q z in
-    let w = block-of (length q) (k .block) in
+    let (z, same) = answer-taken _ (withProgress r (a .progress)) r′ (sym (k .answer) ∙ e) in
+    let w = block-accepted r b l m (c .args .1 .1 .1 .1 .0) q z in
+    let size = block-of (length q) (w .block) in
     record {
-      some = omega (arith, w .some, w .whole);
-      offered = ap (λ (y : Run). y .offered) (sym same) ∙ steps-offered b (r .tolerances) (stateOf r l m) (sampleAt q) (samplesIn q);
+      some = omega (arith, size .some, size .whole);
+      offered = ap (λ (y : Run). y .progress .offered) (sym same) ∙ all-offered (courseOf (planOf r b)) (stateOf r l m) (momentAt q) (samplesIn q);
       run = sym same;
-      in-ledger = p .in-ledger ∙ settled-taken l z;
-      in-map = p .in-map ∙ settled-taken m z;
+      memory = k .in-memory ∙ settled-taken (lent l m) z;
     }
 
-module _ {b : List ℕ} {t : Tolerances} {l₀ : List ℤ} {m₀ : List ℕ} {xs : List Sample} {r : Run} {l : List ℤ} {m : List ℕ} (h : Driven b t l₀ m₀ xs r l m) where
+module _ {p : Plan} {l₀ : List ℤ} {m₀ : List ℕ} {xs : List Moment} {r : Run} {l : List ℤ} {m : List ℕ} (h : Driven p l₀ m₀ xs r l m) where
   -- so after a later block the ledger shows its samples behind those before
-  pub later-block-shows : (c : BlockCall) → BlockOn r b l m c → {r′ : Run} → c .answer ≡ Taken r′
-      → (let ys = xs ++ table (sampleAt (bytesIn c)) (samplesIn (bytesIn c)) in
-      (i : ℕ) → i < ledgerNumbers → at (c .lasts .1 .1 .0) i ≡ figure b t (sampleOf ys) (length ys) i)
+  pub later-block-shows : (c : BlockCall) → BlockOn r (p .cycle) l m c → {r′ : Run} → c .answer ≡ Taken r′
+      → (let ys = xs ++ table (momentAt (bytesIn c)) (samplesIn (bytesIn c)) in
+      (i : ℕ) → i < ledgerNumbers → at (c .lasts .1 .1 .0) i ≡ figure (courseOf p) (momentIn ys) (length ys) i)
   later-block-shows c on e = ledger-shows (takes-block h c on e)
 
   -- ---- "and one whose outside count is invented: count and map are both tied to the band"
@@ -203,25 +205,33 @@ module _ {b : List ℕ} {t : Tolerances} {l₀ : List ℤ} {m₀ : List ℕ} {xs
   -- of the samples judged, those of cycle c that the band has outside: the count in the ledger is no other number, nor are the ones in the map for
   -- the cycle last judged
   abbrev banded : ℕ → ℕ
-  banded c = outside b t (sampleOf xs) c (judged b t (sampleOf xs) (length xs))
+  banded c = outside (courseOf p) (momentIn xs) c (judged (courseOf p) (momentIn xs) (length xs))
 
-  pub no-invented-count : (c : ℕ) → c < 64 → (n : ℕ) → (n ≡ banded c → ⊥) → outsideIn l c ≡ pos n → ⊥
+  pub no-invented-count : (c : ℕ) → c < mostCycles → (n : ℕ) → (n ≡ banded c → ⊥) → outsideIn l c ≡ pos n → ⊥
   no-invented-count c g n other e =
-      let f : pos n ≡ pos (banded c) = sym e ∙ outsides-are b t l₀ m₀ (driven-reached b t l₀ m₀ h) c g in
+      let f : pos n ≡ pos (banded c) = sym e ∙ outsides-are p l₀ m₀ (driven-reached p l₀ m₀ h) c g in
       other cc
 
-  pub no-invented-map : (n : ℕ) → (n ≡ banded (lastJudged b t (sampleOf xs) (judged b t (sampleOf xs) (length xs))) → ⊥) → onesOf m ≡ n → ⊥
+  pub no-invented-map : (n : ℕ) → (n ≡ banded (shownRow (courseOf p .layout) (judged (courseOf p) (momentIn xs) (length xs))) → ⊥) → onesOf m ≡ n → ⊥
   no-invented-map n other e = other (sym e ∙ ones-are-outside h)
 
   -- ---- and one that never stops: "Demand 3 alone would admit a judge that never stops, so it is stated over demand 2's definition."
 
-  pub stops-by-the-rules : stopped b t (sampleOf xs) (length xs) ≡ true → r .end ≡ stop
-  stops-by-the-rules e = state-shows h .2 ∙ stopped-ending (over b t (sampleOf xs)) (most b) (length xs) e
+  pub stops-by-the-rules : stopped (courseOf p) (momentIn xs) (length xs) ≡ true → r .progress .end ≡ stop
+  stops-by-the-rules e = state-shows h .2 ∙ rw e
 
-  pub stops-only-by-the-rules : r .end ≡ stop → stopped b t (sampleOf xs) (length xs) ≡ true
-  stops-only-by-the-rules e = ending-stopped (over b t (sampleOf xs)) (most b) (length xs) (sym (state-shows h .2) ∙ e)
+  pub stops-only-by-the-rules : r .progress .end ≡ stop → stopped (courseOf p) (momentIn xs) (length xs) ≡ true
+  stops-only-by-the-rules e =
+      let c = courseOf p in
+      let s = momentIn xs in
+      ended (stopped c s (length xs)) (ltb (closed c s (length xs)) (c .layout .most)) (sym (state-shows h .2) ∙ e)
+    where
+      ended : (x y : Bool) → cond x stop (cond y none limit) ≡ stop → x ≡ true
+      ended true y q = refl
+      ended false true q = absurd (false≢true cc)
+      ended false false q = absurd (false≢true cc)
 
 -- the row of the test card: a run of its four samples that goes on is no run of a judge that keeps its promises
-pub no-judge-that-never-stops : {l₀ : List ℤ} {m₀ : List ℕ} {r : Run} {l : List ℤ} {m : List ℕ} → Driven level allowsThree l₀ m₀ fourFast r l m → (r .end ≡ stop → ⊥) → ⊥
+pub no-judge-that-never-stops : {l₀ : List ℤ} {m₀ : List ℕ} {r : Run} {l : List ℤ} {m : List ℕ} → Driven (plan level allowsThree) l₀ m₀ (momentsOf fourFast) r l m → (r .progress .end ≡ stop → ⊥) → ⊥
 unfolding be fold gather first grid20 inside tally.over
 no-judge-that-never-stops h go-on = go-on (stops-by-the-rules h refl)

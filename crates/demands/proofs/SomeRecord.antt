@@ -10,7 +10,7 @@ use Rattle.records.proofs.Calls.{Lent}
 use Rattle.sheet.specs.Laid.{laid}
 use Rattle.sheet.specs.Text.{mostSheet}
 use Rattle.desk.specs.declared.Outcome.the-variants.{More}
-use Rattle.desk.specs.Feeding.{Laid, laidOf, emptyDesk, fedOf, feedOf}
+use Rattle.desk.specs.Feeding.{Laid, laidOf, emptyDesk, feedOf}
 use Rattle.prints.specs.Printed.{closeText}
 use Rattle.demands.proofs.SomeRun.{to}
 use Rattle.demands.proofs.Arrivals.{FeedCall, CloseCall, CloseOn, FedIn}
@@ -22,10 +22,10 @@ feedCall x i =
     let y = feedOf x i in
     record {
       κs = ([], ([], ([], ([], tt))));
-      args = (x .desk, (to i, (to (x .room), (to (x .ledger), (to (x .map), tt)))));
-      answer = fedOf y;
-      lasts = (tt, (tt, (y .laid .room, (y .laid .ledger, (y .laid .map, tt)))));
-      kept = (refl, (refl, (refl, refl)));
+      args = (x .desk, (to i, (to (x .room), (to (x .memory .ledger), (to (x .memory .map), tt)))));
+      answer = record { outcome = y .outcome; used = y .used; desk = y .laid .desk };
+      lasts = (tt, (tt, (y .laid .room, (y .laid .memory .ledger, (y .laid .memory .map, tt)))));
+      kept = refl;
     }
 
 abbrev closeCall : Laid → ℕ → List ℕ → CloseCall
@@ -33,7 +33,7 @@ closeCall x left out =
     let text = closeText x left in
     record {
       κs = ([], ([], ([], ([], tt))));
-      args = (x .desk, (left, (to (x .room), (to (x .ledger), (to (x .map), (to out, tt))))));
+      args = (x .desk, (left, (to (x .room), (to (x .memory .ledger), (to (x .memory .map), (to out, tt))))));
       answer = unless 0 (leb mostSheet (length out)) (length text);
       lasts = (tt, (tt, (tt, (tt, (tt, (unless out (leb mostSheet (length out)) (laid out 0 text), tt))))));
       kept = (refl, refl);

@@ -6,10 +6,9 @@ use Prim.Native.Nat.{ℕ}
 use lib.IntN.{ℤ}
 use Rattle.numbers.specs.Tests.{settled}
 use Rattle.rules.specs.declared.Amounts.{Amounts}
-use Rattle.rules.specs.Run.{finishedCycles}
 use Rattle.ledger.specs.Row.{energyIn, distanceIn}
 use Rattle.state.specs.declared.Run.{Run}
-use Rattle.state.specs.Refusals.{startRefusal}
+use Rattle.state.specs.Refusals.{startRefusal, cyclesBy}
 use Rattle.judge.specs.declared.Answer.{Answer}
 use Rattle.judge.specs.declared.Answer.the-variants as answer
 use Rattle.judge.specs.declared.ShownAnswer.{ShownAnswer}
@@ -107,7 +106,7 @@ orElse n next = settled n next n
 abbrev pub rechargeNumber : Run → Amounts → List ℕ → List ℤ → List ℕ → ℕ
 rechargeNumber r a b l m =
     orElse (refusalOf r a b l m)
-    (figureNumber (chargedBy (whole r a b l m) (finishedCycles b (r .counted)) (energyIn l) (distanceIn l) (a .after) (a .charge)))
+    (figureNumber (chargedBy (whole r a b l m) (cyclesBy r) (energyIn l) (distanceIn l) (a .after) (a .charge)))
 
 -- "Order for a field: 8, 9, then its content": by what stands at the front of the input, with the number of a whole field of that tag and length
 abbrev pub fieldNumber : Front → (ℕ → ℕ → ℕ) → ℕ
@@ -123,7 +122,7 @@ openingNumber o room l m i =
 
 -- after it: of the field at the front of i
 abbrev pub nextNumber : Reading → List ℕ → ℕ
-nextNumber r i = fieldNumber (frontOf i) (λ tag n. contentNumber (contentOf (r .vehicle) (r .place) (r .passed) (r .run .offered) tag (valueIn i n)))
+nextNumber r i = fieldNumber (frontOf i) (λ tag n. contentNumber (contentOf (r .vehicle) (r .place) (r .passed) (r .run .progress .offered) tag (valueIn i n)))
 
 -- "In a started run 1 and 2 come before all others"
 abbrev pub readingNumber : Reading → List ℕ → List ℤ → List ℕ → List ℕ → ℕ

@@ -4,14 +4,14 @@ use mathlib.Core.List.{List, _∷_, _++_}
 use mathlib.Core.Path.{_≡_}
 use Prim.Native.Nat.{ℕ, _+_, _≤_}
 use lib.ListN.{length}
-use Rattle.rules.specs.declared.Sample.{Sample}
+use Rattle.rules.specs.declared.Moment.{Moment}
 use Rattle.rules.specs.declared.Tolerances.{Tolerances}
-use Rattle.rules.specs.Run.{sampleOf, outside, judged}
+use Rattle.rules.specs.Course.{outside, judged}
+use Rattle.rules.specs.Regular.{courseOf, momentIn}
 use Rattle.opening.specs.declared.OpenStep.the-variants.{Incomplete}
-use Rattle.records.specs.Records.{Told, Sheet, told, refused, openingIn}
-use Rattle.sheet.specs.declared.Figures.{Figures}
+use Rattle.records.specs.Records.{Told, Sheet, told, refused, openingIn, planTold}
 use Rattle.sheet.specs.Text.{digits, line, outsideWord, passedWord}
-use Rattle.figures.specs.Figured.{figuresBy}
+use Rattle.figures.specs.Figured.{closedIn}
 
 -- ---- records that differ only in field 4: p, a field 4 of the value v, and q
 
@@ -38,16 +38,15 @@ retold t (refused number field) = refused number field
 
 -- ---- what is printed
 
--- the figures of what is told
-abbrev pub figuresOf : Told → Figures
-figuresOf x = figuresBy (x .vehicle) (x .tale .passed) (x .tale .amounts) (x .cycle) (x .tolerances) (x .tale .run)
+-- the samples of what is told, how many of their shares are closed, and how many of cycle c are outside, the stopping one among them
+abbrev pub samplesOf : Told → ℕ → Moment
+samplesOf x = momentIn (x .tale .run)
 
--- its samples, and of them those of cycle c that are outside, the stopping one among them
-abbrev pub samplesOf : Told → ℕ → Sample
-samplesOf x = sampleOf (x .tale .run)
+abbrev pub closedOf : Told → ℕ
+closedOf x = closedIn (planTold x) (x .tale .run)
 
 abbrev pub outsideOf : Told → ℕ → ℕ
-outsideOf x c = outside (x .cycle) (x .tolerances) (samplesOf x) c (judged (x .cycle) (x .tolerances) (samplesOf x) (length (x .tale .run)))
+outsideOf x c = let y = courseOf (planTold x) in outside y (samplesOf x) c (judged y (samplesOf x) (length (x .tale .run)))
 
 -- `outside` and a number
 abbrev pub outsideLine : ℕ → List ℕ

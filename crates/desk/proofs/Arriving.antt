@@ -14,7 +14,7 @@ use Rattle.records.proofs.Openings.{no-bytes}
 use Rattle.records.proofs.Calls.{Lent}
 use Rattle.records.proofs.Records.{Handed, until-ready, never-refused-1-or-2}
 use Rattle.desk.specs.declared.Outcome.the-variants.{More, Refused}
-use Rattle.desk.specs.Feeding.{Laid, laidOf, emptyDesk, cycleOf, feedOf, mostFields, deskGround}
+use Rattle.desk.specs.Feeding.{Laid, laidOf, emptyDesk, lentCycle, feedOf, mostFields, deskGround}
 use Rattle.desk.proofs.Grounds.{of-opening, of-reading}
 use Rattle.desk.proofs.Standing.{Stands, opens, reads, stands-empty}
 use Rattle.desk.proofs.Feeds.{stands-few, stands-on, feed-refused, feed-ended-refused, feed-ended-whole}
@@ -40,7 +40,7 @@ module _ (lent : Lent) where
     pub bytes : taken ++ rest ≡ w
     -- what `reader::ended` says here is what becomes of a record that ends here
     pub ends-refused : (k : ℕ) → endingOf (x .desk .started) (length rest) ≡ ended.Refused k → sheetOf w ≡ refused k (suc (x .desk .fields))
-    pub ends-whole : endingOf (x .desk .started) (length rest) ≡ ended.Whole → Handed lent w (cycleOf x) (x .desk .reading) (x .ledger) (x .map)
+    pub ends-whole : endingOf (x .desk .started) (length rest) ≡ ended.Whole → Handed lent w (lentCycle x) (x .desk .reading) (x .memory .ledger) (x .memory .map)
 
   pub arrived-none : Arrived [] (laidOf emptyDesk (lent .room₀) (lent .l₀) (lent .m₀)) []
   unfolding endingOf unless
@@ -71,7 +71,7 @@ module _ (lent : Lent) where
           ends-refused = λ k e. ap sheetOf (sym whole) ∙ feed-ended-refused lent (h .stands) input m k (ap (endingOf (y .laid .desk .started)) (sym left) ∙ e);
           ends-whole =
               λ e.
-              subst (λ (q : List ℕ). Handed lent q (cycleOf (y .laid)) (y .laid .desk .reading) (y .laid .ledger) (y .laid .map)) whole
+              subst (λ (q : List ℕ). Handed lent q (lentCycle (y .laid)) (y .laid .desk .reading) (y .laid .memory .ledger) (y .laid .memory .map)) whole
               (feed-ended-whole lent (h .stands) input (ap (endingOf (y .laid .desk .started)) (sym left) ∙ e));
         }
 

@@ -22,12 +22,12 @@ use Rattle.reading.specs.declared.Step.the-variants as step
 use Rattle.reading.specs.Reading.{Tale, Read, fieldsOf}
 use Rattle.opening.specs.Opening.{Begun, Opened, openAt}
 use Rattle.opening.specs.Answers.{Held, hold, cycleIn, begunOf, openGround, openOf}
-use Rattle.reading.specs.Answers.{offeredOf, takeBlock, taleOf, readGround, readAllOf}
+use Rattle.reading.specs.Answers.{offeredOf, takeBlock, taleOf, planOf, readGround, readAllOf}
 use Rattle.reading.proofs.Accepted.{fields-alone}
 use Rattle.records.proofs.OpenField.{Accepts, open-longer, open-alone}
 use Rattle.desk.specs.declared.Desk.{Desk}
 use Rattle.desk.specs.declared.Outcome.the-variants.{More, Refused}
-use Rattle.desk.specs.Feeding.{Laid, Taken, stops, behind, opensAs, opensTo, openOne, goOn, openUpto, readTo, cycleOf, readOn, mostFields, thenRead, feedOf}
+use Rattle.desk.specs.Feeding.{Laid, Consumed, stops, behind, opensAs, opensTo, openOne, goOn, openUpto, readTo, lentCycle, readOn, mostFields, thenRead, feedOf}
 use Rattle.desk.proofs.Promises.{none-opened}
 use Rattle.desk.proofs.Turns.{one-within, upto-within}
 
@@ -48,7 +48,7 @@ one-then x i q = go (eqb (openGround (x .desk .opening) (x .room)) 0)
     k = begunOf (x .desk .opening) (x .room)
 
     refused : List ℕ → Tolerances → ℕ
-    refused b t = startRefusal b t (x .ledger) (x .map)
+    refused b t = startRefusal b t (x .memory .ledger) (x .memory .map)
 
     at : List ℕ → Opened Held
     at j = openAt hold cycleIn refused k j
@@ -67,12 +67,12 @@ one-then x i q = go (eqb (openGround (x .desk .opening) (x .room)) 0)
 
 -- ---- all fields until the start
 
-record Same (y z : Taken) : Type 0 where
+record Same (y z : Consumed) : Type 0 where
   laid : y .laid ≡ z .laid
   used : y .used ≡ z .used
 
 -- where the run has started, what follows them is not looked at
-abbrev Unseen : Taken → List ℕ → Type 0
+abbrev Unseen : Consumed → List ℕ → Type 0
 Unseen y q = (y .laid .desk .started ≡ true) ⊎ (q ≡ [])
 
 upto-alone : (n : ℕ) (x : Laid) (i q : List ℕ) → (let y = openUpto n x i in Unseen y q → Same (openUpto n x (take (y .used) i ++ q)) y)
@@ -80,19 +80,19 @@ unfolding openUpto
 upto-alone zero x i q = λ _. record { laid = refl; used = refl }
 upto-alone (suc n) x i q = go (upto-alone n (openOne x i .laid) (drop (openOne x i .used) i) q) (x .desk .started) refl
   where
-    y : Taken
+    y : Consumed
     y = openOne x i
 
-    next : Taken
+    next : Consumed
     next = openUpto n (y .laid) (drop (y .used) i)
 
     more : List ℕ
     more = take (next .used) (drop (y .used) i) ++ q
 
-    onwards : List ℕ → Taken → Taken
+    onwards : List ℕ → Consumed → Consumed
     onwards j v = goOn v (openUpto n (v .laid) (drop (v .used) j))
 
-    all : List ℕ → Taken
+    all : List ℕ → Consumed
     all j = onwards j (openOne x j)
 
     Later : Type 0
@@ -114,7 +114,7 @@ upto-alone (suc n) x i q = go (upto-alone n (openOne x i .laid) (drop (openOne x
         let s = later h in
         let here : Same (onwards (take m i ++ more) y) (behind m next) = rw (f, d) (record { laid = s .laid; used = ap (λ (c : ℕ). m + c) (s .used) }) in
         subst (λ (l : List ℕ). Same (all l) (behind m next)) (sym j)
-        (subst (λ (v : Taken). Same (onwards (take m i ++ more) v) (behind m next)) (sym (one-then x i more (eqb-false m 0 f))) here)
+        (subst (λ (v : Consumed). Same (onwards (take m i ++ more) v) (behind m next)) (sym (one-then x i more (eqb-false m 0 f))) here)
 
     go : Later → (t : Bool) → x .desk .started ≡ t
         → (let z = cond t (stops x More) (onwards i y) in Unseen z q → Same (cond t (stops x More) (all (take (z .used) i ++ q))) z)
@@ -131,22 +131,22 @@ read-alone x i = go (leb (x .desk .opening .cycle) (length (x .room))) (eqb refu
     r = x .desk .reading
 
     refusal : ℕ
-    refusal = readGround r (cycleOf x) (x .ledger) (x .map)
+    refusal = readGround r (lentCycle x) (x .memory .ledger) (x .memory .map)
+
+    taking : State → List ℕ → State
+    taking = takeBlock (planOf r (lentCycle x))
 
     tale : Tale State
-    tale = taleOf r (x .ledger) (x .map)
-
-    fields : List ℕ → Read State
-    fields j = fieldsOf offeredOf (takeBlock (cycleOf x) (r .run .tolerances)) (r .vehicle) tale j
+    tale = taleOf r (x .memory .ledger) (x .memory .map)
 
     all : Bool → List ℕ → Read State
-    all t j = cond t (fields j) (record { tale = tale; fields = 0; used = 0; last = step.Refused refusal })
+    all t j = cond t (fieldsOf offeredOf taking (r .vehicle) tale j) (record { tale = tale; fields = 0; used = 0; last = step.Refused refusal })
 
-    call : Bool → Bool → List ℕ → Taken
+    call : Bool → Bool → List ℕ → Consumed
     call s t j = unless (stops x (Refused 1)) s (readTo x (all t j))
 
     go : (s t : Bool) → call s t (take (call s t i .used) i) .laid ≡ call s t i .laid
-    go true true = ap (λ (y : Read State). readTo x y .laid) (fields-alone offeredOf (takeBlock (cycleOf x) (r .run .tolerances)) (r .vehicle) tale i)
+    go true true = ap (λ (y : Read State). readTo x y .laid) (fields-alone offeredOf taking (r .vehicle) tale i)
     go true false = refl
     go false t = refl
 
@@ -156,23 +156,23 @@ pub feed-alone : (x : Laid) (i : List ℕ) → feedOf x (take (feedOf x i .used)
 unfolding feedOf unless
 feed-alone x i = go (leb (x .desk .fields) mostFields)
   where
-    y : Taken
+    y : Consumed
     y = openUpto 4 x i
 
-    z : Taken
+    z : Consumed
     z = readOn (y .laid) (drop (y .used) i)
 
-    all : List ℕ → Taken
+    all : List ℕ → Consumed
     all j = thenRead (openUpto 4 x j) j
 
     same-upto : (j q : List ℕ) → j ≡ take (y .used) i ++ q → Unseen y q → Same (openUpto 4 x j) y
     same-upto j q e h = subst (λ (l : List ℕ). Same (openUpto 4 x l) y) (sym e) (upto-alone 4 x i q h)
 
-    after : (j : List ℕ) (v : Taken) → Same v y → (t : Bool) → y .laid .desk .started ≡ t
+    after : (j : List ℕ) (v : Consumed) → Same v y → (t : Bool) → y .laid .desk .started ≡ t
         → thenRead v j .laid ≡ cond t (readOn (y .laid) (drop (y .used) j) .laid) (y .laid)
     after j v s t e = ap (λ (b : Bool). by b .laid) (ap (λ (l : Laid). l .desk .started) (s .laid) ∙ e) ∙ same t
       where
-        by : Bool → Taken
+        by : Bool → Consumed
         by t = cond t (behind (v .used) (readOn (v .laid) (drop (v .used) j))) v
 
         same : (t : Bool) → by t .laid ≡ cond t (readOn (y .laid) (drop (y .used) j) .laid) (y .laid)
@@ -189,7 +189,7 @@ feed-alone x i = go (leb (x .desk .fields) mostFields)
         ∙ read-alone (y .laid) (drop (y .used) i)
     on false e = after (take (y .used) i) _ (same-upto _ [] (sym (append-nil (take (y .used) i))) (inr refl)) false e
 
-    call : Bool → Taken → Taken
+    call : Bool → Consumed → Consumed
     call t w = unless (stops x (Refused 1)) t w
 
     go : (t : Bool) → (let w = call t (thenRead y i) in call t (all (take (w .used) i)) .laid ≡ w .laid)

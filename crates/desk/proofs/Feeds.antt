@@ -4,7 +4,7 @@
 use mathlib.Core.Bool.{Bool, true, false, cond, false≢true}
 use mathlib.Core.List.{List, _++_}
 use mathlib.Core.Path.{_≡_, refl, sym, ap, subst, subst⁻¹, _∙_}
-use Prim.Native.Nat.{ℕ, suc, _+_, _-_, _≤_, _<_}
+use Prim.Native.Nat.{ℕ, suc, _-_, _≤_, _<_}
 use native.Mathlib.Omega.{arith}
 use borrow.Author.Tests.{le-leb, eqb-false}
 use lib.Dec.{eqb}
@@ -15,9 +15,9 @@ use Rattle.numbers.specs.Tests.{unless}
 use Rattle.numbers.proofs.Tests.{pass}
 use Rattle.reading.specs.declared.Step.{Step}
 use Rattle.reading.specs.declared.Step.the-variants as step
-use Rattle.reading.specs.Reading.{fieldsOf}
-use Rattle.reading.specs.declared.Reading.{Reading}
-use Rattle.reading.specs.Answers.{offeredOf, takeBlock, taleOf, readGround, readAllOf}
+use Rattle.step.specs.Step.{State}
+use Rattle.reading.specs.Reading.{Read}
+use Rattle.reading.specs.Answers.{offeredOf, takeBlock, taleOf, planOf, readGround, readAllOf}
 use Rattle.reader.specs.Answers.{endingOf}
 use Rattle.reader.specs.declared.Ending.{Ending}
 use Rattle.reader.specs.declared.Ending.the-variants as ended
@@ -32,8 +32,9 @@ use Rattle.records.proofs.KeptUntil.{until-begins}
 use Rattle.desk.specs.declared.Desk.{Desk}
 use Rattle.desk.specs.declared.Outcome.{Outcome}
 use Rattle.desk.specs.declared.Outcome.the-variants.{More, Refused}
-use Rattle.desk.specs.Feeding.{Laid, Taken, laidOf, stops, behind, openUpto, outcomeOf, cycleOf, readOn, mostFields, thenRead, feedOf}
-use Rattle.desk.proofs.Onward.{all-size}
+use Rattle.desk.specs.Feeding.{Laid, laidOf, stops, behind, openUpto, outcomeOf, lentCycle, readOn, mostFields, thenRead, feedOf}
+use Rattle.desk.proofs.Grounds.{by-ground, readsBy}
+use Rattle.desk.proofs.Onward.{all-size, feed-used}
 use Rattle.desk.proofs.Few.{since-few}
 use Rattle.desk.proofs.Standing.{Stands, opens, reads, more-not-refused, Became, Fully, fully-on}
 use Rattle.desk.proofs.FirstFields.{open-became}
@@ -51,13 +52,12 @@ outcome-more (step.Passed n) h e = absurd (h n refl)
 outcome-more step.Incomplete h e = refl
 outcome-more (step.Refused k) h e = absurd (more-not-refused k (sym e))
 
-pub all-ended : (r : Reading) (b : List ℕ) (l : List ℤ) (m i : List ℕ) → Ends (readAllOf r b l m i .last)
+pub all-ended : (x : Laid) (i : List ℕ) → Ends (readsBy x i .last)
 unfolding readAllOf
-all-ended r b l m i = go (eqb (readGround r b l m) 0)
-  where
-    go : (t : Bool) → Ends (cond t (fieldsOf offeredOf (takeBlock b (r .run .tolerances)) (r .vehicle) (taleOf r l m) i) (record { tale = taleOf r l m; fields = 0; used = 0; last = step.Refused (readGround r b l m) }) .last)
-    go true = last-ends offeredOf (takeBlock b (r .run .tolerances)) (r .vehicle) (length i) (taleOf r l m) i
-    go false = λ m u. u
+all-ended x i =
+    let r = x .desk .reading in
+    by-ground (λ (y : Read State). Ends (y .last)) (readGround r (lentCycle x) (x .memory .ledger) (x .memory .map))
+    (λ _. last-ends offeredOf (takeBlock (planOf r (lentCycle x))) (r .vehicle) (length i) (taleOf r (x .memory .ledger) (x .memory .map)) i) (λ m u. u)
 
 module _ (lent : Lent) where
   read-became : (p i room : List ℕ) (d : Desk) (l : List ℤ) (m : List ℕ) → d .started ≡ true → d .opening .cycle ≤ length room
@@ -67,11 +67,11 @@ module _ (lent : Lent) where
       subst (Fully lent p i) (pass (stops (laidOf d room l m) (Refused 1)) (le-leb _ _ g) refl) (record {
         became = record {
           stands = reads s g (all-by h i);
-          size = all-size (d .reading) (take (d .opening .cycle) room) l m i .1;
+          size = all-size (laidOf d room l m) i .1;
           refusal = λ k e q. all-refused-longer lent h i q k (outcome-refused _ k e);
           waits = λ _ e. absurd (false≢true (sym e ∙ s));
         };
-        left = λ e u. all-incomplete lent h i (outcome-more _ (all-ended (d .reading) (take (d .opening .cycle) room) l m i) e) u;
+        left = λ e u. all-incomplete lent h i (outcome-more _ (all-ended (laidOf d room l m) i) e) u;
       })
 
   -- ---- both
@@ -99,7 +99,7 @@ module _ (lent : Lent) where
   stands-few (reads s g h) = since-few lent h
 
   -- ---- what feeding a record's desk says of the record
-  stands-ready : {p : List ℕ} {x : Laid} → Stands lent p x → x .desk .started ≡ true → Handed lent p (cycleOf x) (x .desk .reading) (x .ledger) (x .map)
+  stands-ready : {p : List ℕ} {x : Laid} → Stands lent p x → x .desk .started ≡ true → Handed lent p (lentCycle x) (x .desk .reading) (x .memory .ledger) (x .memory .map)
   stands-ready (opens s h f) e = absurd (false≢true (sym s ∙ e))
   stands-ready (reads s g h) e = record-tells lent h
 
@@ -110,9 +110,6 @@ module _ (lent : Lent) where
     -- the desk goes on as the bytes taken say, whatever the outcome: what was accepted before a refusal is taken too
     pub stands-on : Stands lent (p ++ take (feedOf x i .used) i) (feedOf x i .laid)
     stands-on = fed .became .stands
-
-    pub feed-within : feedOf x i .used ≤ length i
-    feed-within = fed .became .size
 
     -- a refusal is the record's, with the number of its field, whatever follows
     pub feed-refused : (k : ℕ) → feedOf x i .outcome ≡ Refused k → (q : List ℕ) → sheetOf (p ++ (i ++ q)) ≡ refused k (suc (feedOf x i .laid .desk .fields))
@@ -129,12 +126,12 @@ module _ (lent : Lent) where
     abbrev HandedAll : Type 0
     HandedAll =
         let y = feedOf x i .laid in
-        Handed lent (p ++ i) (cycleOf y) (y .desk .reading) (y .ledger) (y .map)
+        Handed lent (p ++ i) (lentCycle y) (y .desk .reading) (y .memory .ledger) (y .memory .map)
 
     pub feed-whole : feedOf x i .laid .desk .started ≡ true → feedOf x i .used ≡ length i → HandedAll
     feed-whole s u =
         let y = feedOf x i .laid in
-        subst (λ (q : List ℕ). Handed lent (p ++ q) (cycleOf y) (y .desk .reading) (y .ledger) (y .map)) (ap (λ (c : ℕ). take c i) u ∙ take-length i) (stands-ready stands-on s)
+        subst (λ (q : List ℕ). Handed lent (p ++ q) (lentCycle y) (y .desk .reading) (y .memory .ledger) (y .memory .map)) (ap (λ (c : ℕ). take c i) u ∙ take-length i) (stands-ready stands-on s)
 
     -- the same, by what `reader::ended` says of the desk and the number of bytes left over
     abbrev ending : Ending
@@ -156,4 +153,4 @@ module _ (lent : Lent) where
     pub feed-ended-whole : ending ≡ ended.Whole → HandedAll
     feed-ended-whole e =
         let (s, z) = only-whole (feedOf x i .laid .desk .started) (length i - feedOf x i .used) e in
-        feed-whole s (omega (arith, feed-within))
+        feed-whole s (omega (arith, feed-used x i))

@@ -11,20 +11,19 @@ use lib.IntN.{ℤ}
 use lib.ListN.{length, getD, drop}
 use Rattle.numbers.specs.Tests.{unless}
 use Rattle.numbers.proofs.Tests.{both}
-use Rattle.rules.specs.declared.Tolerances.{Tolerances}
 use Rattle.rules.specs.Bench.{mostOffered, mostPassed}
+use Rattle.rules.specs.Regular.{Plan, courseOf}
 use Rattle.step.specs.Step.{State}
-use Rattle.blocks.specs.Blocks.{samplesIn, sampleAt, areSamples, isBlock, mostBlock}
-use Rattle.step.proofs.Keeping.{steps-offered}
+use Rattle.blocks.specs.Blocks.{samplesIn, momentAt, areSamples, isBlock, mostBlock}
+use Rattle.step.proofs.Keeping.{all-offered}
 use Rattle.fields.specs.Fields.{valueIn}
-use Rattle.fields.specs.Values.{isNumber, sameNumber, firstIn, samplesOf, energyIn, rechargeIn}
+use Rattle.fields.specs.Values.{isNumber, sameNumber, firstIn, samplesOf, transferIn, rechargeIn}
 use Rattle.contents.specs.declared.Content.{Content}
 use Rattle.contents.specs.declared.Content.the-variants.{Own, Foreign, Before, After, Recharge, Refused}
 use Rattle.reading.specs.declared.Reading.{Reading}
-use Rattle.reading.specs.declared.Step.the-variants as step
 use Rattle.contents.specs.Content.{energyMayStand, mayStand, blockContent, energyContent, rechargeContent, contentOf}
-use Rattle.reading.specs.Reading.{Tale, Answered, Read, stepOf, taleAfter, brought, fieldAt, upto, fieldsOf}
-use Rattle.reading.specs.Answers.{offeredOf, takeBlock, taleOf, readGround, readOf, readAllOf}
+use Rattle.reading.specs.Reading.{Tale, Answered, Read, stepOf, taleAfter, brought, fieldAt, upto}
+use Rattle.reading.specs.Answers.{offeredOf, takeBlock, taleOf, planOf, readGround, readOf, readAllOf}
 use Rattle.contents.proofs.Brought.{own-block, block-bytes}
 use Rattle.reading.proofs.Onwards.{Uses, by-front, by-step}
 use Rattle.reading.proofs.Cuts.{field-ends}
@@ -34,6 +33,7 @@ use Rattle.records.proofs.Calls.Since.{begun as started-by, field as read-by, a
 use Rattle.records.proofs.KeptSince.{since-holds}
 use Rattle.records.proofs.Records.{never-refused-1-or-2}
 use Rattle.desk.specs.Feeding.{mostFields}
+use Rattle.desk.proofs.Grounds.{by-ground}
 
 -- ---- an own block and an amount stand only before the place that they move on to
 module _ (place : ℕ) where
@@ -68,7 +68,7 @@ module _ (place : ℕ) where
     unfolding energyContent
     moves-energy e = tested 14 _ _ (go (eqb (getD v 0 0) 0) e)
       where
-        go : (t : Bool) → cond t (eqb place 0) (leb place 2) ≡ true → Moves (cond t (Before (energyIn v)) (After (energyIn v)))
+        go : (t : Bool) → cond t (eqb place 0) (leb place 2) ≡ true → Moves (cond t (Before (transferIn v)) (After (transferIn v)))
         go true f = let z = eqb-true place 0 f in omega arith
         go false f = leb-true place 2 f
 
@@ -101,24 +101,24 @@ block-samples q e =
 
 -- ---- what counts the fields
 abbrev weight : Tale State → ℕ
-weight k = k .run .offered + k .passed + k .place
+weight k = k .run .progress .offered + k .passed + k .place
 
-module _ (me b : List ℕ) (t : Tolerances) where
+module _ (me : List ℕ) (p : Plan) where
   abbrev taking : State → List ℕ → State
-  taking = takeBlock b t
+  taking = takeBlock p
 
   field-weighs : (k : Tale State) (i : List ℕ) (m : ℕ) → Uses (fieldAt offeredOf taking me k i .step) m → 1 + weight k ≤ weight (fieldAt offeredOf taking me k i .tale)
   field-weighs k i =
       by-front offeredOf taking me (λ (x : Answered State). (m : ℕ) → Uses (x .step) m → 1 + weight k ≤ weight (x .tale)) k i (λ s h m u. absurd (h m u)) (λ tag n e m u.
       let v = valueIn i n in
-      go (3 + n) m v (brought offeredOf taking me k tag v) (moves (k .place) me (k .passed) (k .run .offered) tag v)
-      (λ own. block-samples (samplesOf v) (block-bytes i tag n e (own-block me (k .passed) (k .run .offered) tag v (k .place) own .0))) u)
+      go (3 + n) m v (brought offeredOf taking me k tag v) (moves (k .place) me (k .passed) (k .run .progress .offered) tag v)
+      (λ own. block-samples (samplesOf v) (block-bytes i tag n e (own-block me (k .passed) (k .run .progress .offered) tag v (k .place) own .0))) u)
     where
       go : (n m : ℕ) (v : List ℕ) (c : Content) → Moves (k .place) c → (c ≡ Own → 1 ≤ samplesIn (samplesOf v)) → Uses (stepOf c n) m
           → 1 + weight k ≤ weight (taleAfter offeredOf taking k v c)
       go n m v Own h g u =
           let s = g refl in
-          omega (arith, steps-offered b t (k .run) (sampleAt (samplesOf v)) (samplesIn (samplesOf v)))
+          omega (arith, all-offered (courseOf p) (k .run) (momentAt (samplesOf v)) (samplesIn (samplesOf v)))
       go n m v Foreign h g u = omega arith
       go n m v (Before e) h g u = omega arith
       go n m v (After e) h g u = omega arith
@@ -137,19 +137,15 @@ module _ (me b : List ℕ) (t : Tolerances) where
 module _ (r : Reading) (b : List ℕ) (l : List ℤ) (m i : List ℕ) where
   call-weighs : (c : ℕ) → Uses (readOf r b l m i .step) c → 1 + weight (taleOf r l m) ≤ weight (readOf r b l m i .tale)
   unfolding readOf
-  call-weighs c = go (eqb (readGround r b l m) 0)
-    where
-      go : (t : Bool) → (let x = cond t (fieldAt offeredOf (takeBlock b (r .run .tolerances)) (r .vehicle) (taleOf r l m) i) (record { step = step.Refused (readGround r b l m); tale = taleOf r l m }) in Uses (x .step) c → 1 + weight (taleOf r l m) ≤ weight (x .tale))
-      go true u = field-weighs (r .vehicle) b (r .run .tolerances) (taleOf r l m) i c u
-      go false u = absurd u
+  call-weighs c =
+      by-ground (λ (x : Answered State). Uses (x .step) c → 1 + weight (taleOf r l m) ≤ weight (x .tale)) (readGround r b l m)
+      (λ _. field-weighs (r .vehicle) (planOf r b) (taleOf r l m) i c) (λ u. absurd u)
 
   call-weighs-all : readAllOf r b l m i .fields + weight (taleOf r l m) ≤ weight (readAllOf r b l m i .tale)
   unfolding readAllOf
-  call-weighs-all = go (eqb (readGround r b l m) 0)
-    where
-      go : (t : Bool) → (let x = cond t (fieldsOf offeredOf (takeBlock b (r .run .tolerances)) (r .vehicle) (taleOf r l m) i) (record { tale = taleOf r l m; fields = 0; used = 0; last = step.Refused (readGround r b l m) }) in x .fields + weight (taleOf r l m) ≤ weight (x .tale))
-      go true = fields-weigh (r .vehicle) b (r .run .tolerances) (length i) (taleOf r l m) i
-      go false = omega arith
+  call-weighs-all =
+      by-ground (λ (x : Read State). x .fields + weight (taleOf r l m) ≤ weight (x .tale)) (readGround r b l m)
+      (λ _. fields-weigh (r .vehicle) (planOf r b) (length i) (taleOf r l m) i) (omega arith)
 
 -- ---- a record
 module _ (lent : Lent) where

@@ -1,19 +1,43 @@
--- The 1 or 2 of a desk, which comes before all else: what it tests, and that `feed` answers it with nothing taken.
+-- The 1 or 2 of a desk, which comes before all else: what it tests, and that `feed` answers it with nothing taken; and laws by such a test.
 -- Assumes nothing.
 use mathlib.Core.Bool.{Bool, true, false, cond}
 use mathlib.Core.List.{List}
 use mathlib.Core.Path.{_≡_, refl, sym, ap, _∙_}
 use Prim.Native.Nat.{ℕ, zero, suc, _≤_, _<_}
 use native.Mathlib.Nat.{add-zero}
-use borrow.Author.Tests.{leb-true, le-leb, lt-leb}
-use lib.Dec.{leb}
+use borrow.Author.Tests.{leb-true, le-leb, lt-leb, eqb-true}
+use lib.Dec.{leb, eqb}
 use lib.ListN.{length, drop}
-use Rattle.numbers.specs.Tests.{unless}
+use Rattle.numbers.specs.Tests.{unless, settled}
 use Rattle.numbers.proofs.Tests.{pass, stop, not-refused, settled-refused}
-use Rattle.opening.specs.Answers.{openGround, openOf}
+use Rattle.step.specs.Step.{State}
+use Rattle.opening.specs.Opening.{Opened}
+use Rattle.opening.specs.Answers.{Held, openGround, openOf}
+use Rattle.reading.specs.Reading.{Read}
 use Rattle.reading.specs.Answers.{readGround, readAllOf}
 use Rattle.desk.specs.declared.Outcome.the-variants.{More, Refused}
-use Rattle.desk.specs.Feeding.{Laid, Taken, stops, behind, opensTo, openOne, goOn, openUpto, readTo, cycleOf, readOn, thenRead, feedOf, mostFields, startedGround, deskGround, Steady}
+use Rattle.desk.specs.Feeding.{Laid, Consumed, stops, behind, opensTo, openOne, goOn, openUpto, readTo, lentCycle, readOn, thenRead, feedOf, mostFields, startedGround, deskGround, Steady}
+
+-- ---- what holds on both sides of a test
+module _ {A : Type 0} (P : A → Type 0) {x y : A} where
+  pub by-test : (t : Bool) → (t ≡ true → P x) → (t ≡ false → P y) → P (cond t x y)
+  by-test true h g = h refl
+  by-test false h g = g refl
+
+  pub by-ground : (n : ℕ) → (n ≡ 0 → P x) → P y → P (settled n x y)
+  by-ground n h g = by-test (eqb n 0) (λ e. h (eqb-true n 0 e)) (λ _. g)
+
+  pub by-unless : (t : Bool) → P x → P y → P (unless x t y)
+  unfolding unless
+  by-unless true h g = g
+  by-unless false h g = h
+
+-- ---- the calls of the reader: the field at the front of the input until the start, and all fields after it
+abbrev pub opensBy : Laid → List ℕ → Opened Held
+opensBy x i = openOf (x .desk .opening) (x .room) (x .memory .ledger) (x .memory .map) i
+
+abbrev pub readsBy : Laid → List ℕ → Read State
+readsBy x i = readAllOf (x .desk .reading) (lentCycle x) (x .memory .ledger) (x .memory .map) i
 
 -- a desk whose run has started opens nothing
 pub opens-nothing : (n : ℕ) (x : Laid) (i : List ℕ) → x .desk .started ≡ true → openUpto n x i ≡ stops x More
@@ -39,11 +63,11 @@ module _ (x : Laid) where
       pub no-room : length (x .room) < x .desk .opening .cycle → 1 ≡ deskGround x
       no-room h = stop _ (lt-leb _ _ h) ∙ by-start true e
 
-      pub of-reading : x .desk .opening .cycle ≤ length (x .room) → readGround (x .desk .reading) (cycleOf x) (x .ledger) (x .map) ≡ deskGround x
+      pub of-reading : x .desk .opening .cycle ≤ length (x .room) → readGround (x .desk .reading) (lentCycle x) (x .memory .ledger) (x .memory .map) ≡ deskGround x
       of-reading h = pass 1 (le-leb _ _ h) refl ∙ by-start true e
 
   -- a started run with none has its cycle in the room, and may be read on
-  pub started-fits : startedGround x ≡ 0 → (x .desk .opening .cycle ≤ length (x .room)) × (readGround (x .desk .reading) (cycleOf x) (x .ledger) (x .map) ≡ 0)
+  pub started-fits : startedGround x ≡ 0 → (x .desk .opening .cycle ≤ length (x .room)) × (readGround (x .desk .reading) (lentCycle x) (x .memory .ledger) (x .memory .map) ≡ 0)
   started-fits g = let (long, rest) = not-refused 0 (leb (x .desk .opening .cycle) (length (x .room))) _ g in (leb-true _ _ long, rest)
 
   -- a desk with none is as a call of its record left it
@@ -66,9 +90,9 @@ module _ (x : Laid) where
         → thenRead (openUpto 4 x i) i ≡ stops x (Refused (openGround (x .desk .opening) (x .room)))
     unfolding openUpto
     upto-refuses e h =
-        let rest : Taken → Taken = λ y. goOn y (openUpto 3 (y .laid) (drop (y .used) i)) in
+        let rest : Consumed → Consumed = λ y. goOn y (openUpto 3 (y .laid) (drop (y .used) i)) in
         ap (λ (t : Bool). thenRead (cond t (stops x More) (rest (openOne x i))) i) e
-        ∙ ap (λ (y : Taken). thenRead (rest y) i) (open-refuses h)
+        ∙ ap (λ (y : Consumed). thenRead (rest y) i) (open-refuses h)
         ∙ ap (λ (t : Bool). cond t (behind 0 (readOn x i)) (stops x (Refused (openGround (x .desk .opening) (x .room))))) e
 
     read-refuses : (startedGround x ≡ 0 → ⊥) → readOn x i ≡ stops x (Refused (startedGround x))
@@ -76,21 +100,15 @@ module _ (x : Laid) where
     read-refuses = go (leb (x .desk .opening .cycle) (length (x .room)))
       where
         g : ℕ
-        g = readGround (x .desk .reading) (cycleOf x) (x .ledger) (x .map)
+        g = readGround (x .desk .reading) (lentCycle x) (x .memory .ledger) (x .memory .map)
 
-        go : (t : Bool) → (unless 1 t g ≡ 0 → ⊥)
-            → unless (stops x (Refused 1)) t (readTo x (readAllOf (x .desk .reading) (cycleOf x) (x .ledger) (x .map) i)) ≡ stops x (Refused (unless 1 t g))
+        go : (t : Bool) → (unless 1 t g ≡ 0 → ⊥) → unless (stops x (Refused 1)) t (readTo x (readsBy x i)) ≡ stops x (Refused (unless 1 t g))
         go false h = refl
-        go true h = ap (readTo x) (settled-refused _ h) ∙ (λ j. record {
-          laid = record {
-            desk = record { started = x .desk .started; opening = x .desk .opening; reading = x .desk .reading; fields = add-zero (x .desk .fields) j };
-            room = x .room;
-            ledger = x .ledger;
-            map = x .map;
-          };
-          used = 0;
-          outcome = Refused g;
-        })
+        go true h = ap (readTo x) (settled-refused _ h) ∙ (λ j. stops (record {
+          desk = record { started = x .desk .started; opening = x .desk .opening; reading = x .desk .reading; fields = add-zero (x .desk .fields) j };
+          room = x .room;
+          memory = x .memory;
+        }) (Refused g))
 
     pub feed-refuses : (deskGround x ≡ 0 → ⊥) → feedOf x i ≡ stops x (Refused (deskGround x))
     unfolding feedOf deskGround unless
@@ -103,6 +121,6 @@ module _ (x : Laid) where
         go false s e h = refl
         go true false e h = upto-refuses e h
         go true true e h =
-            ap (λ (y : Taken). thenRead y i) (opens-nothing 4 x i e)
+            ap (λ (y : Consumed). thenRead y i) (opens-nothing 4 x i e)
             ∙ ap (λ (t : Bool). cond t (behind 0 (readOn x i)) (stops x More)) e
             ∙ ap (behind 0) (read-refuses h)

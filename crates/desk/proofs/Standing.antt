@@ -14,7 +14,7 @@ use Rattle.records.proofs.Calls.Until.{none as nothing-yet}
 use Rattle.desk.specs.declared.Desk.{Desk}
 use Rattle.desk.specs.declared.Outcome.{Outcome}
 use Rattle.desk.specs.declared.Outcome.the-variants.{More, Refused}
-use Rattle.desk.specs.Feeding.{Laid, Taken, laidOf, emptyDesk, stops, behind}
+use Rattle.desk.specs.Feeding.{Laid, Consumed, laidOf, emptyDesk, stops, behind}
 
 -- ---- bytes taken and bytes left
 module _ (p i : List ℕ) (n : ℕ) where
@@ -45,7 +45,7 @@ module _ (lent : Lent) where
   stands-empty = opens refl nothing-yet refl
 
   -- what became of the input i behind the bytes p
-  pub record Became (p i : List ℕ) (y : Taken) : Type 0 where
+  pub record Became (p i : List ℕ) (y : Consumed) : Type 0 where
     pub stands : Stands (p ++ take (y .used) i) (y .laid)
     pub size : y .used ≤ length i
     pub refusal : (k : ℕ) → y .outcome ≡ Refused k → (q : List ℕ) → sheetOf (p ++ (i ++ q)) ≡ refused k (suc (y .laid .desk .fields))
@@ -53,12 +53,12 @@ module _ (lent : Lent) where
     pub waits : y .outcome ≡ More → y .laid .desk .started ≡ false → sheetOf (p ++ i) ≡ refused 15 (suc (y .laid .desk .fields))
 
   -- and where it has
-  pub record Fully (p i : List ℕ) (y : Taken) : Type 0 where
+  pub record Fully (p i : List ℕ) (y : Consumed) : Type 0 where
     pub became : Became p i y
     pub left : y .outcome ≡ More → y .used < length i → sheetOf (p ++ i) ≡ refused 15 (suc (y .laid .desk .fields))
 
   -- behind the first n bytes of it
-  module _ (p i : List ℕ) (n : ℕ) (h : n ≤ length i) (y : Taken) where
+  module _ (p i : List ℕ) (n : ℕ) (h : n ≤ length i) (y : Consumed) where
     pub became-on : Became (p ++ take n i) (drop n i) y → Became p i (behind n y)
     became-on b = record {
       stands = subst (λ (q : List ℕ). Stands q (y .laid)) (taken-on p i n (y .used)) (b .stands);

@@ -8,10 +8,11 @@ use lib.Dec.{leb, eqb}
 use lib.IntN.{ℤ}
 use lib.ListN.{length, take, drop}
 use Rattle.numbers.specs.Tests.{unless}
-use Rattle.rules.specs.declared.End.the-variants.{None as none}
 use Rattle.rules.specs.Cycle.{mostBytes}
 use Rattle.rules.specs.Bench.{mostOffered, mostPassed}
 use Rattle.state.specs.declared.Run.{Run}
+use Rattle.state.specs.State.{Memory, lent}
+use Rattle.state.specs.Refusals.{notBegun}
 use Rattle.step.specs.Step.{State, startOf}
 use Rattle.opening.specs.declared.Opening.{Opening}
 use Rattle.reading.specs.declared.Step.{Step}
@@ -31,32 +32,32 @@ pub use Rattle.desk.specs.declared.Fed.{Fed}
 pub record Laid : Type 0 where
   pub desk : Desk
   pub room : List ℕ
-  pub ledger : List ℤ
-  pub map : List ℕ
+  pub memory : Memory
 
 -- what was taken of the input: what is left of desk and memory, how many bytes, and what became of them
-pub record Taken : Type 0 where
+pub record Consumed : Type 0 where
   pub laid : Laid
   pub used : ℕ
   pub outcome : Outcome
 
 abbrev pub laidOf : Desk → List ℕ → List ℤ → List ℕ → Laid
-laidOf d room l m = record { desk = d; room = room; ledger = l; map = m }
+laidOf d room l m = record { desk = d; room = room; memory = lent l m }
 
-abbrev pub fedOf : Taken → Fed
-fedOf y = record { outcome = y .outcome; used = y .used; desk = y .laid .desk }
+-- as a call leaves it: its answer, and the room, ledger and map
+abbrev pub fedLeft : Fed → List ℕ → List ℤ → List ℕ → Consumed
+fedLeft f room l m = record { laid = laidOf (f .desk) room l m; used = f .used; outcome = f .outcome }
 
 -- ---- before the first byte
 
 -- no run: until the start the reading holds it
 abbrev pub noRun : Run
 noRun = record {
-  seconds = 0;
-  ends = record { first = 0; second = 0; third = 0; fourth = 0 };
-  tolerances = record { speed = 0; time = 0; allowance = 0 };
-  offered = 0;
-  counted = 0;
-  end = none;
+  track = record {
+    seconds = 0;
+    ends = record { first = 0; second = 0; third = 0; fourth = 0 };
+    tolerances = record { speed = 0; time = 0; allowance = 0 };
+  };
+  progress = notBegun;
 }
 
 abbrev pub emptyDesk : Desk
@@ -65,11 +66,11 @@ emptyDesk = record { started = false; opening = nothing; reading = startedReadin
 -- ---- what is taken
 
 -- nothing
-abbrev pub stops : Laid → Outcome → Taken
+abbrev pub stops : Laid → Outcome → Consumed
 stops x o = record { laid = x; used = 0; outcome = o }
 
 -- n bytes more, before those of y
-abbrev pub behind : ℕ → Taken → Taken
+abbrev pub behind : ℕ → Consumed → Consumed
 behind n y = record { laid = y .laid; used = n + y .used; outcome = y .outcome }
 
 -- ---- until the start
@@ -81,30 +82,29 @@ opensAs d (opening.Started n r) o = record { outcome = More; used = n; desk = re
 opensAs d opening.Incomplete o = record { outcome = More; used = 0; desk = d }
 opensAs d (opening.Refused k) o = record { outcome = Refused k; used = 0; desk = d }
 
-abbrev pub opensTo : Laid → Opened Held → Taken
+abbrev pub opensTo : Laid → Opened Held → Consumed
 opensTo x y =
     let z = opensAs (x .desk) (y .step) (openingOf (y .begun)) in
     record {
       laid = record {
         desk = z .desk;
         room = y .begun .kept .room;
-        ledger = memoryAfter (y .step) (startOf (x .ledger) (x .map) .ledger) (x .ledger);
-        map = memoryAfter (y .step) (startOf (x .ledger) (x .map) .map) (x .map);
+        memory = memoryAfter (y .step) (startOf (x .memory .ledger) (x .memory .map) .memory) (x .memory);
       };
       used = z .used;
       outcome = z .outcome;
     }
 
 -- the field at the front of the input
-unfoldable pub openOne : Laid → List ℕ → Taken
-openOne x i = opensTo x (openOf (x .desk .opening) (x .room) (x .ledger) (x .map) i)
+unfoldable pub openOne : Laid → List ℕ → Consumed
+openOne x i = opensTo x (openOf (x .desk .opening) (x .room) (x .memory .ledger) (x .memory .map) i)
 
 -- y is the end where it took nothing; else what follows it
-abbrev pub goOn : Taken → Taken → Taken
+abbrev pub goOn : Consumed → Consumed → Consumed
 goOn y next = cond (eqb (y .used) 0) y (behind (y .used) next)
 
 -- at most n fields, one after another, until the start
-unfoldable pub openUpto : ℕ → Laid → List ℕ → Taken
+unfoldable pub openUpto : ℕ → Laid → List ℕ → Consumed
 openUpto zero x i = stops x More
 openUpto (suc n) x i =
     let y = openOne x i in
@@ -118,7 +118,7 @@ outcomeOf (step.Passed n) = More
 outcomeOf step.Incomplete = More
 outcomeOf (step.Refused k) = Refused k
 
-abbrev pub readTo : Laid → Read State → Taken
+abbrev pub readTo : Laid → Read State → Consumed
 readTo x y = record {
   laid = record {
     desk = record {
@@ -128,20 +128,19 @@ readTo x y = record {
       fields = x .desk .fields + y .fields;
     };
     room = x .room;
-    ledger = y .tale .run .ledger;
-    map = y .tale .run .map;
+    memory = y .tale .run .memory;
   };
   used = y .used;
   outcome = outcomeOf (y .last);
 }
 
 -- the cycle in the room
-abbrev pub cycleOf : Laid → List ℕ
-cycleOf x = take (x .desk .opening .cycle) (x .room)
+abbrev pub lentCycle : Laid → List ℕ
+lentCycle x = take (x .desk .opening .cycle) (x .room)
 
 -- all whole fields of the input; 1 where the room is too short for the cycle
-unfoldable pub readOn : Laid → List ℕ → Taken
-readOn x i = unless (stops x (Refused 1)) (leb (x .desk .opening .cycle) (length (x .room))) (readTo x (readAllOf (x .desk .reading) (cycleOf x) (x .ledger) (x .map) i))
+unfoldable pub readOn : Laid → List ℕ → Consumed
+readOn x i = unless (stops x (Refused 1)) (leb (x .desk .opening .cycle) (length (x .room))) (readTo x (readAllOf (x .desk .reading) (lentCycle x) (x .memory .ledger) (x .memory .map) i))
 
 -- ---- both
 
@@ -150,11 +149,11 @@ abbrev pub mostFields : ℕ
 mostFields = 4 + mostOffered + mostPassed + 4
 
 -- after the fields until the start
-abbrev pub thenRead : Taken → List ℕ → Taken
+abbrev pub thenRead : Consumed → List ℕ → Consumed
 thenRead y i = cond (y .laid .desk .started) (behind (y .used) (readOn (y .laid) (drop (y .used) i))) y
 
 -- the input is worked through field by field: until the start and after it
-unfoldable pub feedOf : Laid → List ℕ → Taken
+unfoldable pub feedOf : Laid → List ℕ → Consumed
 feedOf x i = unless (stops x (Refused 1)) (leb (x .desk .fields) mostFields) (thenRead (openUpto 4 x i) i)
 
 -- how many bytes the longest field has: tag, length and the longest cycle
@@ -165,7 +164,7 @@ longest = 3 + mostBytes
 
 -- 1 where the room is too short for the cycle; "In a started run 1 and 2 come before all others"
 abbrev pub startedGround : Laid → ℕ
-startedGround x = unless 1 (leb (x .desk .opening .cycle) (length (x .room))) (readGround (x .desk .reading) (cycleOf x) (x .ledger) (x .map))
+startedGround x = unless 1 (leb (x .desk .opening .cycle) (length (x .room))) (readGround (x .desk .reading) (lentCycle x) (x .memory .ledger) (x .memory .map))
 
 -- the 1 or 2 of a desk, 0 where it has none: of its number of fields, then until the start of the opening, after it of the reading
 unfoldable pub deskGround : Laid → ℕ

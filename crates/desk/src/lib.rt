@@ -12,11 +12,15 @@ use reading::Step;
 use reading::read_refusal;
 use rules::End;
 use rules::Tolerances;
+use rules::limits::MOST_OFFERED;
+use rules::limits::MOST_PASSED;
 use state::Ends;
+use state::Progress;
 use state::Run;
+use state::Track;
 ghost use mathlib.Core.Path.{_≡_};
 ghost use Prim.Native.Nat.{_+_, _≤_};
-ghost use Rattle.desk.specs.Feeding.{emptyDesk, laidOf, fedOf, outcomeOf, opensAs, openOne, openUpto, readOn, feedOf, mostFields, startedGround, deskGround, Steady};
+ghost use Rattle.desk.specs.Feeding.{emptyDesk, laidOf, fedLeft, outcomeOf, opensAs, openOne, openUpto, readOn, feedOf, mostFields, startedGround, deskGround, Steady};
 
 // A record as far as it was read: until the start the opening, after it the reading; and how many fields were accepted.
 pub struct Desk {
@@ -39,27 +43,34 @@ pub struct Fed {
     pub desk: Desk,
 }
 
+// No record has more fields: four until the start, and each later one raises the samples offered, the blocks passed over or the place in the order.
+const MOST_FIELDS: u64 = 4 + MOST_OFFERED as u64 + MOST_PASSED as u64 + 4;
+
 // Before the first byte. The reading is none until the start: it has a run of no cycle.
 pub fn empty() -> Desk
     ensures { λ r. ⌜ r ≡ emptyDesk ⌝ }
 {
     let opening = blank();
     let run = Run {
-        seconds: 0,
-        ends: Ends {
-            first: 0,
-            second: 0,
-            third: 0,
-            fourth: 0,
+        track: Track {
+            seconds: 0,
+            ends: Ends {
+                first: 0,
+                second: 0,
+                third: 0,
+                fourth: 0,
+            },
+            tolerances: Tolerances {
+                speed: 0,
+                time: 0,
+                allowance: 0,
+            },
         },
-        tolerances: Tolerances {
-            speed: 0,
-            time: 0,
-            allowance: 0,
+        progress: Progress {
+            offered: 0,
+            counted: 0,
+            end: End::None,
         },
-        offered: 0,
-        counted: 0,
-        end: End::None,
     };
     Desk {
         started: false,
@@ -117,10 +128,10 @@ fn opened(desk: Desk, answer: OpenAnswer) -> Fed
 // The field at the front of the input, until the start.
 fn open_one(desk: Desk, input: &[u8], room: &mut [u8], ledger: &mut [i64], map: &mut [u64]) -> Fed
     requires { ⌜ desk .fields ≤ mostFields + 4 ⌝ }
-    ensures { λ r. ⌜ r ≡ fedOf (openOne (laidOf desk (now (room .entry)) (now (ledger .entry)) (now (map .entry))) (now (input .entry))) ⌝ }
-    ensures { λ _. ⌜ now (room .exit) ≡ openOne (laidOf desk (now (room .entry)) (now (ledger .entry)) (now (map .entry))) (now (input .entry)) .laid .room ⌝ }
-    ensures { λ _. ⌜ now (ledger .exit) ≡ openOne (laidOf desk (now (room .entry)) (now (ledger .entry)) (now (map .entry))) (now (input .entry)) .laid .ledger ⌝ }
-    ensures { λ _. ⌜ now (map .exit) ≡ openOne (laidOf desk (now (room .entry)) (now (ledger .entry)) (now (map .entry))) (now (input .entry)) .laid .map ⌝ }
+    ensures { λ r. ⌜
+        fedLeft r (now (room .exit)) (now (ledger .exit)) (now (map .exit))
+        ≡ openOne (laidOf desk (now (room .entry)) (now (ledger .entry)) (now (map .entry))) (now (input .entry))
+        ⌝ }
 {
     let opening = desk.opening;
     let answer = open(opening, input, &mut *room, &mut *ledger, &mut *map);
@@ -130,10 +141,10 @@ fn open_one(desk: Desk, input: &[u8], room: &mut [u8], ledger: &mut [i64], map: 
 // The fields until the start, of which there are at most four.
 fn open_all(desk: Desk, input: &[u8], room: &mut [u8], ledger: &mut [i64], map: &mut [u64]) -> Fed
     requires { ⌜ desk .fields ≤ mostFields ⌝ }
-    ensures { λ r. ⌜ r ≡ fedOf (openUpto 4 (laidOf desk (now (room .entry)) (now (ledger .entry)) (now (map .entry))) (now (input .entry))) ⌝ }
-    ensures { λ _. ⌜ now (room .exit) ≡ openUpto 4 (laidOf desk (now (room .entry)) (now (ledger .entry)) (now (map .entry))) (now (input .entry)) .laid .room ⌝ }
-    ensures { λ _. ⌜ now (ledger .exit) ≡ openUpto 4 (laidOf desk (now (room .entry)) (now (ledger .entry)) (now (map .entry))) (now (input .entry)) .laid .ledger ⌝ }
-    ensures { λ _. ⌜ now (map .exit) ≡ openUpto 4 (laidOf desk (now (room .entry)) (now (ledger .entry)) (now (map .entry))) (now (input .entry)) .laid .map ⌝ }
+    ensures { λ r. ⌜
+        fedLeft r (now (room .exit)) (now (ledger .exit)) (now (map .exit))
+        ≡ openUpto 4 (laidOf desk (now (room .entry)) (now (ledger .entry)) (now (map .entry))) (now (input .entry))
+        ⌝ }
 {
     let mut on = desk;
     let mut used = 0;
@@ -182,9 +193,10 @@ fn outcome_of(step: Step) -> Outcome
 // All whole fields after the start, with the cycle in the room.
 fn read_on(desk: Desk, input: &[u8], room: &[u8], ledger: &mut [i64], map: &mut [u64]) -> Fed
     requires { ⌜ (desk .fields ≤ mostFields + 4) × (startedGround (laidOf desk (now room) (now ledger) (now map)) ≡ 0) ⌝ }
-    ensures { λ r. ⌜ r ≡ fedOf (readOn (laidOf desk (now (room .entry)) (now (ledger .entry)) (now (map .entry))) (now (input .entry))) ⌝ }
-    ensures { λ _. ⌜ now (ledger .exit) ≡ readOn (laidOf desk (now (room .entry)) (now (ledger .entry)) (now (map .entry))) (now (input .entry)) .laid .ledger ⌝ }
-    ensures { λ _. ⌜ now (map .exit) ≡ readOn (laidOf desk (now (room .entry)) (now (ledger .entry)) (now (map .entry))) (now (input .entry)) .laid .map ⌝ }
+    ensures { λ r. ⌜
+        fedLeft r (now (room .entry)) (now (ledger .exit)) (now (map .exit))
+        ≡ readOn (laidOf desk (now (room .entry)) (now (ledger .entry)) (now (map .entry))) (now (input .entry))
+        ⌝ }
 {
     let opening = desk.opening;
     let before = desk.reading;
@@ -218,10 +230,10 @@ pub fn feed_on(
     map: &mut [u64],
 ) -> Fed
     requires { ⌜ Steady (laidOf desk (now room) (now ledger) (now map)) ⌝ }
-    ensures { λ r. ⌜ r ≡ fedOf (feedOf (laidOf desk (now (room .entry)) (now (ledger .entry)) (now (map .entry))) (now (input .entry))) ⌝ }
-    ensures { λ _. ⌜ now (room .exit) ≡ feedOf (laidOf desk (now (room .entry)) (now (ledger .entry)) (now (map .entry))) (now (input .entry)) .laid .room ⌝ }
-    ensures { λ _. ⌜ now (ledger .exit) ≡ feedOf (laidOf desk (now (room .entry)) (now (ledger .entry)) (now (map .entry))) (now (input .entry)) .laid .ledger ⌝ }
-    ensures { λ _. ⌜ now (map .exit) ≡ feedOf (laidOf desk (now (room .entry)) (now (ledger .entry)) (now (map .entry))) (now (input .entry)) .laid .map ⌝ }
+    ensures { λ r. ⌜
+        fedLeft r (now (room .exit)) (now (ledger .exit)) (now (map .exit))
+        ≡ feedOf (laidOf desk (now (room .entry)) (now (ledger .entry)) (now (map .entry))) (now (input .entry))
+        ⌝ }
 {
     let x = open_all(desk, input, &mut *room, &mut *ledger, &mut *map);
     let on = x.desk;
@@ -243,7 +255,7 @@ pub fn feed_on(
 pub fn desk_refusal(desk: Desk, room: &[u8], ledger: &[i64], map: &[u64]) -> u32
     ensures { λ r. ⌜ r ≡ deskGround (laidOf desk (now (room .entry)) (now (ledger .entry)) (now (map .entry))) ⌝ }
 {
-    if 8_000_008 < desk.fields {
+    if MOST_FIELDS < desk.fields {
         return 1;
     }
     let opening = desk.opening;
@@ -260,10 +272,10 @@ pub fn desk_refusal(desk: Desk, room: &[u8], ledger: &[i64], map: &[u64]) -> u32
 
 // All whole fields of the input, on any desk: desk, memory and cycle are tested once.
 pub fn feed(desk: Desk, input: &[u8], room: &mut [u8], ledger: &mut [i64], map: &mut [u64]) -> Fed
-    ensures { λ r. ⌜ r ≡ fedOf (feedOf (laidOf desk (now (room .entry)) (now (ledger .entry)) (now (map .entry))) (now (input .entry))) ⌝ }
-    ensures { λ _. ⌜ now (room .exit) ≡ feedOf (laidOf desk (now (room .entry)) (now (ledger .entry)) (now (map .entry))) (now (input .entry)) .laid .room ⌝ }
-    ensures { λ _. ⌜ now (ledger .exit) ≡ feedOf (laidOf desk (now (room .entry)) (now (ledger .entry)) (now (map .entry))) (now (input .entry)) .laid .ledger ⌝ }
-    ensures { λ _. ⌜ now (map .exit) ≡ feedOf (laidOf desk (now (room .entry)) (now (ledger .entry)) (now (map .entry))) (now (input .entry)) .laid .map ⌝ }
+    ensures { λ r. ⌜
+        fedLeft r (now (room .exit)) (now (ledger .exit)) (now (map .exit))
+        ≡ feedOf (laidOf desk (now (room .entry)) (now (ledger .entry)) (now (map .entry))) (now (input .entry))
+        ⌝ }
 {
     let a = desk_refusal(desk, &room[..], &ledger[..], &map[..]);
     if a != 0 {

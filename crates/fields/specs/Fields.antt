@@ -5,8 +5,8 @@ use mathlib.Core.List.{List, [], _∷_}
 use Prim.Native.Nat.{ℕ, _+_, _-_}
 use lib.Dec.{leb, ltb, eqb}
 use lib.ListN.{length, getD, take, drop}
-use Rattle.numbers.specs.Bytes.{be}
-use Rattle.numbers.specs.Tests.{allBelow, unless}
+use Rattle.numbers.specs.Bytes.{be, sameBytes}
+use Rattle.numbers.specs.Tests.{unless}
 use Rattle.rules.specs.Cycle.{leastBytes, mostBytes}
 use Rattle.blocks.specs.Blocks.{isBlock}
 pub use Rattle.fields.specs.declared.Front.{Front}
@@ -28,11 +28,11 @@ abbrev pub isTag : ℕ → Bool
 isTag tag = leb 1 tag && leb tag 7
 
 -- "mark: the value is the four letters RUN1"
-abbrev pub mark : List ℕ
-mark = 82 ∷ 85 ∷ 78 ∷ 49 ∷ []
+abbrev pub markLetters : List ℕ
+markLetters = 82 ∷ 85 ∷ 78 ∷ 49 ∷ []
 
 unfoldable pub isMark : List ℕ → Bool
-isMark v = allBelow 4 (λ k. eqb (getD v k 0) (getD mark k 0))
+isMark v = sameBytes 4 v markLetters
 
 -- "wrong mark, tag 6 kind above 1"
 unfoldable pub isValue : ℕ → List ℕ → Bool

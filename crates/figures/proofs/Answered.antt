@@ -26,7 +26,7 @@ module _ (r : Reading) (b : List ℕ) (l : List ℤ) (m : List ℕ) where
   -- a test refuses
   pub tests-refuse : (n : ℕ) → n ≡ readGround r b l m → (n ≡ 0 → ⊥) → nothing n ≡ foundOf r b l m
   tests-refuse n e h =
-      let none = settled-refused (withSums (r .vehicle) (r .passed) (r .amounts) (r .run) b l m (sumsOf (r .run) b l)) {b = blank} (λ z. h (e ∙ z)) in
+      let none = settled-refused (withSums (r .vehicle) (r .passed) (r .amounts) (r .run) b l m (sumsOf (r .run) l)) {b = blank} (λ z. h (e ∙ z)) in
       λ i. record { refusal = e i; figures = sym none i }
 
   -- none does
@@ -36,9 +36,9 @@ module _ (r : Reading) (b : List ℕ) (l : List ℤ) (m : List ℕ) where
     grounded = not-refused 0 _ _ e .1
 
     abbrev answer : TotalsAnswer
-    answer = totalsAnswer (ground (r .run) b l m 0) (sumsOf (r .run) b l)
+    answer = totalsAnswer (ground (r .run) b l m 0) (sumsOf (r .run) l)
 
-    has-sums : answer ≡ Summed (sumsOf (r .run) b l)
+    has-sums : answer ≡ Summed (sumsOf (r .run) l)
     has-sums = settled-taken _ grounded
 
     -- then neither does the judge

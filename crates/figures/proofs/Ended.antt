@@ -8,66 +8,79 @@ use lib.IntN.{ℤ, pos, _+ℤ_}
 use lib.ListN.{length}
 use Rattle.numbers.proofs.Range.{fold-same}
 use Rattle.rules.specs.declared.Amounts.{Amounts}
-use Rattle.rules.specs.declared.Sample.{Sample}
-use Rattle.rules.specs.declared.Tolerances.{Tolerances}
+use Rattle.rules.specs.declared.Moment.{Moment}
 use Rattle.rules.specs.Bench.{isOpen, mostCycles}
-use Rattle.rules.specs.Run.{sampleOf, finishedCycles, outside, judged, ending}
-use Rattle.rules.proofs.Longer.{more-samples, same-samples, Stays, ended-stays, end-stays, outside-stays}
+use Rattle.rules.specs.Course.{Course, outside, judged, ending}
+use Rattle.rules.specs.Parts.{rowPart, cycles, energy}
+use Rattle.rules.specs.Regular.{Plan, courseOf, momentIn}
+use Rattle.rules.proofs.Facts.{Lawful}
+use Rattle.rules.proofs.Longer.{more-samples, same-samples, Over, over, energy-over, distance-over, whole-over, outside-over}
+use Rattle.rules.proofs.Regular.{regular-lawful}
+use Rattle.rules.proofs.Sound.{Sound}
 use Rattle.judge.proofs.Runs.{Reached}
 use Rattle.consumption.specs.Figures.{weightedBy, rangeBy, rechargeBy}
 use Rattle.reading.specs.declared.Reading.{Reading}
 use Rattle.reading.specs.Answers.{isReading}
 use Rattle.sheet.specs.declared.Figures.{Figures}
-use Rattle.figures.specs.Figured.{foundOf, energies, distances, outsideTotal, figuresBy}
+use Rattle.figures.specs.Figured.{foundOf, closedIn, energies, distances, outsideTotal, figuresBy}
 use Rattle.figures.proofs.OfRun.{figures-of-run}
 
 -- the samples xs, after which the run has ended, and more behind them
-module _ (b : List ℕ) (t : Tolerances) (xs ys : List Sample) where
-  abbrev s : ℕ → Sample
-  s = sampleOf xs
+module _ (p : Plan) (good : Sound (p .cycle)) (xs ys : List Moment) where
+  abbrev s : ℕ → Moment
+  s = momentIn xs
 
-  abbrev s′ : ℕ → Sample
-  s′ = sampleOf (xs ++ ys)
+  abbrev s′ : ℕ → Moment
+  s′ = momentIn (xs ++ ys)
 
-  module _ (ended : isOpen (ending b t s (length xs)) ≡ false) where
-    abbrev stays : Stays b t s s′ (length xs) (length (xs ++ ys)) (more-samples xs ys) (same-samples xs ys)
-    stays = ended-stays b t s s′ (length xs) (length (xs ++ ys)) (more-samples xs ys) (same-samples xs ys) ended
+  abbrev c : Course
+  c = courseOf p
 
-    energies-same : energies b t (xs ++ ys) ≡ energies b t xs
-    energies-same = λ i c. stays .energies c i
+  lawful : Lawful c
+  lawful = regular-lawful (p .cycle) good (p .tolerances)
 
-    distances-same : distances b t (xs ++ ys) ≡ distances b t xs
-    distances-same = λ i c. pos (stays .distances c i)
+  module _ (ended : isOpen (ending c s (length xs)) ≡ false) where
+    abbrev stays : Over c lawful s s′ (length xs) (length (xs ++ ys)) (more-samples xs ys) (same-samples xs ys)
+    stays = over c lawful s s′ (length xs) (length (xs ++ ys)) (more-samples xs ys) (same-samples xs ys) ended
 
-    outsides-same : outsideTotal b t (xs ++ ys) ≡ outsideTotal b t xs
+    whole-same : energy (c .share) s′ (closedIn p (xs ++ ys)) ≡ energy (c .share) s (closedIn p xs)
+    whole-same = whole-over c lawful s s′ (length xs) (length (xs ++ ys)) (more-samples xs ys) (same-samples xs ys) stays
+
+    energies-same : energies p (xs ++ ys) ≡ energies p xs
+    energies-same = λ i k. energy-over c lawful s s′ (length xs) (length (xs ++ ys)) (more-samples xs ys) (same-samples xs ys) stays (rowPart (c .layout) k) i
+
+    distances-same : distances p (xs ++ ys) ≡ distances p xs
+    distances-same = λ i k. pos (distance-over c lawful s s′ (length xs) (length (xs ++ ys)) (more-samples xs ys) (same-samples xs ys) stays (rowPart (c .layout) k) i)
+
+    outsides-same : outsideTotal p (xs ++ ys) ≡ outsideTotal p xs
     outsides-same =
-        fold-same _+_ 0 (λ c. outside b t s′ c (judged b t s′ (length (xs ++ ys)))) (λ c. outside b t s c (judged b t s (length xs))) mostCycles
-        (λ c _. outside-stays b t s s′ (length xs) (length (xs ++ ys)) (more-samples xs ys) (same-samples xs ys) ended c)
+        fold-same _+_ 0 (λ k. outside c s′ k (judged c s′ (length (xs ++ ys)))) (λ k. outside c s k (judged c s (length xs))) mostCycles
+        (λ k _. outside-over c lawful s s′ (length xs) (length (xs ++ ys)) (more-samples xs ys) (same-samples xs ys) stays k)
 
     -- by the rules
-    pub figures-same : (vehicle : List ℕ) (passed : ℕ) (a : Amounts) → figuresBy vehicle passed a b t (xs ++ ys) ≡ figuresBy vehicle passed a b t xs
+    pub figures-same : (vehicle : List ℕ) (passed : ℕ) (a : Amounts) → figuresBy vehicle passed a p (xs ++ ys) ≡ figuresBy vehicle passed a p xs
     figures-same vehicle passed a = λ i.
-        let E = a .before +ℤ stays .whole i in
-        let n = finishedCycles b (stays .counted-same i) in
+        let E = a .before +ℤ whole-same i in
+        let n = cycles (c .layout) (stays .closed-same i) in
         record {
           vehicle = vehicle;
-          end = end-stays b t s s′ (length xs) (length (xs ++ ys)) (more-samples xs ys) (same-samples xs ys) ended i;
+          end = stays .ending-same i;
           counted = stays .counted-same i;
           cycles = n;
           outside = pos (outsides-same i);
           passed = passed;
-          drawn = stays .whole i;
+          drawn = whole-same i;
           weighted = weightedBy E n (energies-same i) (distances-same i);
           range = rangeBy E n (energies-same i) (distances-same i);
           ac = rechargeBy E n (energies-same i) (distances-same i) (a .after) (a .charge);
         }
 
     -- as they are read off reading and memory: no line of the sheet changes
-    pub figures-stay : (l₀ : List ℤ) (m₀ : List ℕ) (r r′ : Reading) {l l′ : List ℤ} {m m′ : List ℕ} → Reached b t l₀ m₀ xs (r .run) l m → Reached b t l₀ m₀ (xs ++ ys) (r′ .run) l′ m′
+    pub figures-stay : (l₀ : List ℤ) (m₀ : List ℕ) (r r′ : Reading) {l l′ : List ℤ} {m m′ : List ℕ} → Reached p l₀ m₀ xs (r .run) l m → Reached p l₀ m₀ (xs ++ ys) (r′ .run) l′ m′
         → isReading r ≡ true → isReading r′ ≡ true → r′ .vehicle ≡ r .vehicle → r′ .passed ≡ r .passed → r′ .amounts ≡ r .amounts
-        → foundOf r′ b l′ m′ ≡ foundOf r b l m
+        → foundOf r′ (p .cycle) l′ m′ ≡ foundOf r (p .cycle) l m
     figures-stay l₀ m₀ r r′ h h′ ok ok′ vehicle passed amounts =
-        figures-of-run b t l₀ m₀ r′ h′ ok′
-        ∙ (λ i. record { refusal = 0; figures = figuresBy (vehicle i) (passed i) (amounts i) b t (xs ++ ys) })
+        figures-of-run p l₀ m₀ r′ h′ ok′
+        ∙ (λ i. record { refusal = 0; figures = figuresBy (vehicle i) (passed i) (amounts i) p (xs ++ ys) })
         ∙ ap (λ (f : Figures). record { refusal = 0; figures = f }) (figures-same (r .vehicle) (r .passed) (r .amounts))
-        ∙ sym (figures-of-run b t l₀ m₀ r h ok)
+        ∙ sym (figures-of-run p l₀ m₀ r h ok)

@@ -11,11 +11,11 @@ use lib.ListN.{length}
 use Rattle.numbers.proofs.Range.{fold-same}
 use Rattle.numbers.proofs.Sums.{sum-pos}
 use Rattle.numbers.proofs.Tests.{both, pass, settled-taken}
-use Rattle.rules.specs.declared.Sample.{Sample}
-use Rattle.rules.specs.declared.Tolerances.{Tolerances}
-use Rattle.rules.specs.Bench.{mostPassed}
+use Rattle.rules.specs.declared.Moment.{Moment}
+use Rattle.rules.specs.Bench.{mostPassed, mostCycles}
 use Rattle.rules.specs.Closing.{areAmounts}
-use Rattle.rules.specs.Run.{sampleOf, finishedCycles, outside, judged}
+use Rattle.rules.specs.Course.{outside, judged}
+use Rattle.rules.specs.Regular.{Plan, courseOf, momentIn}
 use Rattle.rules.proofs.NineNumbers.{outside-figure}
 use Rattle.ledger.specs.Row.{outsideIn, outsideAll}
 use Rattle.state.specs.declared.Run.{Run}
@@ -26,14 +26,14 @@ use Rattle.reading.specs.declared.Reading.{Reading}
 use Rattle.reading.specs.Answers.{isReading, readGround}
 use Rattle.figures.specs.Figured.{blank, foundOf, outsideTotal, figuresBy}
 
-module _ (b : List ℕ) (t : Tolerances) (l₀ : List ℤ) (m₀ : List ℕ) {xs : List Sample} {r : Run} {l : List ℤ} {m : List ℕ}
-    (h : Reached b t l₀ m₀ xs r l m) where
+module _ (p : Plan) (l₀ : List ℤ) (m₀ : List ℕ) {xs : List Moment} {r : Run} {l : List ℤ} {m : List ℕ}
+    (h : Reached p l₀ m₀ xs r l m) where
   -- the ledger's outside counts add up to the outside samples of all cycles
-  pub outsides-add-up : outsideAll l ≡ pos (outsideTotal b t xs)
+  pub outsides-add-up : outsideAll l ≡ pos (outsideTotal p xs)
   outsides-add-up =
-      fold-same _+ℤ_ (pos 0) (outsideIn l) (λ c. pos (outside b t (sampleOf xs) c (judged b t (sampleOf xs) (length xs)))) 64
-      (λ c g. run-shows b t l₀ m₀ h .ledger-shows (9 * c + 8) (omega arith) ∙ outside-figure b t (sampleOf xs) (length xs) c)
-      ∙ sum-pos (λ c. outside b t (sampleOf xs) c (judged b t (sampleOf xs) (length xs))) 64
+      fold-same _+ℤ_ (pos 0) (outsideIn l) (λ c. pos (outside (courseOf p) (momentIn xs) c (judged (courseOf p) (momentIn xs) (length xs)))) mostCycles
+      (λ c g. run-shows p l₀ m₀ h .ledger-shows (9 * c + 8) (omega arith) ∙ outside-figure (courseOf p) (momentIn xs) (length xs) c)
+      ∙ sum-pos (λ c. outside (courseOf p) (momentIn xs) c (judged (courseOf p) (momentIn xs) (length xs))) mostCycles
 
 -- the amounts are among the reading's own numbers
 amounts-in-limits : (r : Reading) → isReading r ≡ true → areAmounts (r .amounts) ≡ true
@@ -43,17 +43,17 @@ amounts-in-limits r e =
     let passed = leb (r .passed) mostPassed in
     both (place && passed) (areAmounts (r .amounts)) (both (place && passed && areAmounts (r .amounts)) (isNumber (r .vehicle)) e .0) .1
 
-module _ (b : List ℕ) (t : Tolerances) (l₀ : List ℤ) (m₀ : List ℕ) (r : Reading) {xs : List Sample} {l : List ℤ} {m : List ℕ}
-    (h : Reached b t l₀ m₀ xs (r .run) l m) (ok : isReading r ≡ true) where
+module _ (p : Plan) (l₀ : List ℤ) (m₀ : List ℕ) (r : Reading) {xs : List Moment} {l : List ℤ} {m : List ℕ}
+    (h : Reached p l₀ m₀ xs (r .run) l m) (ok : isReading r ≡ true) where
   -- no number of the reading is beyond its limits, and none of such a run
-  reading-not-refused : readGround r b l m ≡ 0
+  reading-not-refused : readGround r (p .cycle) l m ≡ 0
   unfolding readGround
-  reading-not-refused = sym (pass 1 ok (sym (never-refused b t l₀ m₀ h 0)))
+  reading-not-refused = sym (pass 1 ok (sym (never-refused p l₀ m₀ h 0)))
 
   -- every figure equals the rules: such a reading is not refused, and its figures are those of its run's samples
-  pub figures-of-run : foundOf r b l m ≡ record { refusal = 0; figures = figuresBy (r .vehicle) (r .passed) (r .amounts) b t xs }
+  pub figures-of-run : foundOf r (p .cycle) l m ≡ record { refusal = 0; figures = figuresBy (r .vehicle) (r .passed) (r .amounts) p xs }
   figures-of-run =
-      let shown = run-shows b t l₀ m₀ h in
+      let shown = run-shows p l₀ m₀ h in
       let a = r .amounts in
       let limits = amounts-in-limits r ok in
       λ i. record {
@@ -63,12 +63,12 @@ module _ (b : List ℕ) (t : Tolerances) (l₀ : List ℤ) (m₀ : List ℕ) (r 
               vehicle = r .vehicle;
               end = shown .end-is j;
               counted = shown .counted-is j;
-              cycles = finishedCycles b (shown .counted-is j);
-              outside = outsides-add-up b t l₀ m₀ h j;
+              cycles = shown .cycles-are j;
+              outside = outsides-add-up p l₀ m₀ h j;
               passed = r .passed;
               drawn = shown .energies-add-up j;
-              weighted = weighted-of-run b t l₀ m₀ h a limits j;
-              range = range-of-run b t l₀ m₀ h a limits j;
-              ac = recharge-of-run b t l₀ m₀ h a limits j;
+              weighted = weighted-of-run p l₀ m₀ h a limits j;
+              range = range-of-run p l₀ m₀ h a limits j;
+              ac = recharge-of-run p l₀ m₀ h a limits j;
             })) i;
       }

@@ -10,18 +10,21 @@ use Rattle.numbers.proofs.Range.{sum-le}
 use Rattle.numbers.proofs.Tests.{refuted}
 use Rattle.rules.specs.declared.Amounts.{Amounts}
 use Rattle.rules.specs.declared.End.the-variants.{Stop as stop}
-use Rattle.rules.specs.declared.Sample.{Sample}
+use Rattle.rules.specs.declared.Moment.{Moment}
 use Rattle.rules.specs.declared.Tolerances.{Tolerances}
 use Rattle.rules.specs.Bench.{mostCycles}
-use Rattle.rules.specs.Run.{sampleOf, cycleEnergy, cycleDistance, energy, finishedCycles, phaseFinished, cycleFinished, over, most, outside, stopped, judged}
+use Rattle.rules.specs.Course.{outside, stopped, judged}
+use Rattle.rules.specs.Parts.{Part, rowPart, phasePart, finished, cycles, partEnergy, partDistance, energy}
+use Rattle.rules.specs.Regular.{own, regularLayout, regularRule, Plan, plan, courseOf, momentIn}
 use Rattle.rules.proofs.Sound.{Sound}
 use Rattle.rules.proofs.Band.{Widened}
-use Rattle.rules.proofs.Tally.{stopped-ending}
-use Rattle.rules.proofs.Figures.{PhaseKept, CycleKept}
-use Rattle.rules.proofs.Wider.{counted-wider, cycles-wider, stop-wider, phase-wider, cycle-wider, outside-finished, unstopped-wider}
+use Rattle.rules.proofs.Facts.{Wider}
+use Rattle.rules.proofs.Gathered.{PartKept, row-ends, phase-ends}
+use Rattle.rules.proofs.Regular.{regular-orderly, regular-wider}
+use Rattle.rules.proofs.Wider.{counted-wider, cycles-wider, stop-wider, part-wider, outside-finished, unstopped-wider}
 use Rattle.consumption.specs.Figures.{weightedBy, rangeBy, rechargeBy}
 use Rattle.sheet.specs.declared.Figures.{Figures}
-use Rattle.figures.specs.Figured.{outsideTotal, figuresBy}
+use Rattle.figures.specs.Figured.{closedIn, outsideTotal, figuresBy}
 
 -- the figures, with other counts
 abbrev pub withCounts : Figures → ℤ → ℕ → Figures
@@ -42,16 +45,26 @@ withCounts f outside passed = record {
 abbrev pub withOutside : Figures → ℤ → Figures
 withOutside f o = withCounts f o (f .passed)
 
-module _ (vehicle : List ℕ) (passed : ℕ) (a : Amounts) (b : List ℕ) (t t′ : Tolerances) (xs : List Sample) where
-  abbrev s : ℕ → Sample
-  s = sampleOf xs
-
+module _ (vehicle : List ℕ) (passed : ℕ) (a : Amounts) (b : List ℕ) (t t′ : Tolerances) (xs : List Moment) where
   -- by the narrower tolerances, and by the wider
+  abbrev p : Plan
+  p = plan b t
+
+  abbrev p′ : Plan
+  p′ = plan b t′
+
   abbrev f : Figures
-  f = figuresBy vehicle passed a b t xs
+  f = figuresBy vehicle passed a p xs
 
   abbrev f′ : Figures
-  f′ = figuresBy vehicle passed a b t′ xs
+  f′ = figuresBy vehicle passed a p′ xs
+
+  abbrev s : ℕ → Moment
+  s = momentIn xs
+
+  -- a part that the narrower run finished
+  abbrev Stays : Part → Type 0
+  Stays part = T (finished part (closedIn p xs)) → PartKept own part s s (closedIn p xs) (closedIn p′ xs)
 
   -- "Wider tolerances never stop earlier. .. What the narrower run finished, the wider finished too, with equal energies and distances and no higher
   -- outside count."
@@ -59,39 +72,43 @@ module _ (vehicle : List ℕ) (passed : ℕ) (a : Amounts) (b : List ℕ) (t t�
     pub counted-no-less : f .counted ≤ f′ .counted
     pub cycles-no-less : f .cycles ≤ f′ .cycles
     pub stopped-too : f′ .end ≡ stop → f .end ≡ stop
-    pub phases-kept : (c k : ℕ) → T (phaseFinished b c k (f .counted)) → PhaseKept b c k s s (f .counted) (f′ .counted)
-    pub cycles-kept : (c : ℕ) → T (cycleFinished b c (f .counted)) → CycleKept b c s s (f .counted) (f′ .counted)
-    pub outside-no-higher : (c : ℕ) → T (cycleFinished b c (f .counted)) → outside b t′ s c (judged b t′ s (length xs)) ≤ outside b t s c (judged b t s (length xs))
+    pub phases-kept : (c k : ℕ) → Stays (phasePart (regularLayout b) c k)
+    pub cycles-kept : (c : ℕ) → Stays (rowPart (regularLayout b) c)
+    pub outside-no-higher : (c : ℕ) → T (finished (rowPart (regularLayout b) c) (closedIn p xs))
+        → outside (courseOf p′) s c (judged (courseOf p′) s (length xs)) ≤ outside (courseOf p) s c (judged (courseOf p) s (length xs))
 
   module _ (o : Sound b) (h : Widened t t′) where
+    wide : Wider (regularRule b t) (regularRule b t′)
+    wide = regular-wider b o t t′ h
+
     pub no-earlier : NoEarlier
     no-earlier = record {
-      counted-no-less = counted-wider b t t′ s o h (length xs);
-      cycles-no-less = cycles-wider b t t′ s o h (length xs);
-      stopped-too = stop-wider b t t′ s o h (length xs);
-      phases-kept = phase-wider b t t′ s o h (length xs);
-      cycles-kept = cycle-wider b t t′ s o h (length xs);
-      outside-no-higher = outside-finished b t t′ s o h (length xs);
+      counted-no-less = counted-wider (regularLayout b) _ _ own wide s (length xs);
+      cycles-no-less = cycles-wider (regularLayout b) _ _ own wide s (length xs);
+      stopped-too = stop-wider (regularLayout b) _ _ own wide s (length xs);
+      phases-kept = λ c k. part-wider (regularLayout b) _ _ own wide s (length xs) (phase-ends (regular-orderly b o) c k);
+      cycles-kept = λ c. part-wider (regularLayout b) _ _ own wide s (length xs) (row-ends (regular-orderly b o) c);
+      outside-no-higher = outside-finished (regularLayout b) _ _ own wide s (length xs) (regular-orderly b o);
     }
 
     -- a run that did not stop: only the outside count may fall
-    pub unstopped-same : (f .end ≡ stop → ⊥) → (f′ ≡ withOutside f (f′ .outside)) × (outsideTotal b t′ xs ≤ outsideTotal b t xs)
+    pub unstopped-same : (f .end ≡ stop → ⊥) → (f′ ≡ withOutside f (f′ .outside)) × (outsideTotal p′ xs ≤ outsideTotal p xs)
     unstopped-same went =
-        let u = unstopped-wider b t t′ s o h (length xs) (refuted (stopped b t s (length xs)) (λ e. went (stopped-ending (over b t s) (most b) (length xs) e))) in (
+        let u = unstopped-wider (regularLayout b) _ _ own wide s (length xs) (refuted (stopped (courseOf p) s (length xs)) (λ e. went (rw e))) in (
           λ i.
-              let m = u .counted-same i in
-              let E = a .before +ℤ energy s m in
-              let n = finishedCycles b m in
-              let e : ℕ → ℤ = λ c. cycleEnergy b s c m in
-              let d : ℕ → ℤ = λ c. pos (cycleDistance b s c m) in
+              let m = u .closed-same i in
+              let E = a .before +ℤ energy own s m in
+              let n = cycles (regularLayout b) m in
+              let e : ℕ → ℤ = λ c. partEnergy own s (rowPart (regularLayout b) c) m in
+              let d : ℕ → ℤ = λ c. pos (partDistance own s (rowPart (regularLayout b) c) m) in
               record {
                 vehicle = vehicle;
-                end = u .end-same i;
-                counted = m;
+                end = u .ending-same i;
+                counted = u .counted-same i;
                 cycles = n;
-                outside = pos (outsideTotal b t′ xs);
+                outside = pos (outsideTotal p′ xs);
                 passed = passed;
-                drawn = energy s m;
+                drawn = energy own s m;
                 weighted = weightedBy E n e d;
                 range = rangeBy E n e d;
                 ac = rechargeBy E n e d (a .after) (a .charge);

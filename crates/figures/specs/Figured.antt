@@ -7,10 +7,11 @@ use lib.ListN.{length, replicate}
 use Rattle.numbers.specs.Range.{sum}
 use Rattle.rules.specs.declared.Amounts.{Amounts}
 use Rattle.rules.specs.declared.End.the-variants.{None as none}
-use Rattle.rules.specs.declared.Sample.{Sample}
-use Rattle.rules.specs.declared.Tolerances.{Tolerances}
+use Rattle.rules.specs.declared.Moment.{Moment}
 use Rattle.rules.specs.Bench.{mostCycles}
-use Rattle.rules.specs.Run.{sampleOf, cycleEnergy, cycleDistance, energy, outside, counted, judged, ending, cycles}
+use Rattle.rules.specs.Course.{outside, counted, judged, closed, ending}
+use Rattle.rules.specs.Parts.{rowPart, cycles, partEnergy, partDistance, energy}
+use Rattle.rules.specs.Regular.{Plan, courseOf, momentIn}
 use Rattle.rules.specs.Closing.{wholeEnergy}
 use Rattle.state.specs.declared.Run.{Run}
 use Rattle.judge.specs.declared.Sums.{Sums}
@@ -63,43 +64,46 @@ withSums vehicle passed a r b l m sums = record {
 abbrev pub foundOf : Reading → List ℕ → List ℤ → List ℕ → Found
 foundOf r b l m =
     let refusal = readGround r b l m in
-    record { refusal = refusal; figures = settled refusal (withSums (r .vehicle) (r .passed) (r .amounts) (r .run) b l m (sumsOf (r .run) b l)) blank }
+    record { refusal = refusal; figures = settled refusal (withSums (r .vehicle) (r .passed) (r .amounts) (r .run) b l m (sumsOf (r .run) l)) blank }
 
 -- ---- by the rules alone
 
--- the samples of a record, by its cycle and tolerances
-module _ (b : List ℕ) (t : Tolerances) (xs : List Sample) where
-  -- how many count
-  abbrev pub countedIn : ℕ
-  countedIn = counted b t (sampleOf xs) (length xs)
+-- the samples of a record, by its plan
+module _ (p : Plan) (xs : List Moment) where
+  -- how many shares are closed
+  abbrev pub closedIn : ℕ
+  closedIn = closed (courseOf p) (momentIn xs) (length xs)
 
   -- "e_c and d_c are a finished cycle's energy and distance (c from 1)": place 0 is cycle 1
   abbrev pub energies : ℕ → ℤ
-  energies c = cycleEnergy b (sampleOf xs) c countedIn
+  energies c = partEnergy (courseOf p .share) (momentIn xs) (rowPart (courseOf p .layout) c) closedIn
 
   abbrev pub distances : ℕ → ℤ
-  distances c = pos (cycleDistance b (sampleOf xs) c countedIn)
+  distances c = pos (partDistance (courseOf p .share) (momentIn xs) (rowPart (courseOf p .layout) c) closedIn)
+
+  -- how many cycles are finished
+  abbrev pub cyclesIn : ℕ
+  cyclesIn = cycles (courseOf p .layout) closedIn
 
   -- "`outside` total over all cycles, open one included": of the samples judged, the stopping one among them
   abbrev pub outsideTotal : ℕ
-  outsideTotal = sum (λ c. outside b t (sampleOf xs) c (judged b t (sampleOf xs) (length xs))) mostCycles
+  outsideTotal = sum (λ c. outside (courseOf p) (momentIn xs) c (judged (courseOf p) (momentIn xs) (length xs))) mostCycles
 
 -- "`run` vehicle number; `end` none, stop or limit with the number of counted samples; `cycles` n; `outside` ..; `passed` blocks passed over;
 -- `drawn` energy of counted samples; `weighted`; `range`; `ac` figure or `-`"
-abbrev pub figuresBy : List ℕ → ℕ → Amounts → List ℕ → Tolerances → List Sample → Figures
-figuresBy vehicle passed a b t xs =
-    let s = sampleOf xs in
-    let E = wholeEnergy (a .before) b t s (length xs) in
-    let n = cycles b t s (length xs) in
+abbrev pub figuresBy : List ℕ → ℕ → Amounts → Plan → List Moment → Figures
+figuresBy vehicle passed a p xs =
+    let s = momentIn xs in
+    let E = wholeEnergy (a .before) (courseOf p) s (length xs) in
     record {
       vehicle = vehicle;
-      end = ending b t s (length xs);
-      counted = countedIn b t xs;
-      cycles = n;
-      outside = pos (outsideTotal b t xs);
+      end = ending (courseOf p) s (length xs);
+      counted = counted (courseOf p) s (length xs);
+      cycles = cyclesIn p xs;
+      outside = pos (outsideTotal p xs);
       passed = passed;
-      drawn = energy s (countedIn b t xs);
-      weighted = weightedBy E n (energies b t xs) (distances b t xs);
-      range = rangeBy E n (energies b t xs) (distances b t xs);
-      ac = rechargeBy E n (energies b t xs) (distances b t xs) (a .after) (a .charge);
+      drawn = energy (courseOf p .share) s (closedIn p xs);
+      weighted = weightedBy E (cyclesIn p xs) (energies p xs) (distances p xs);
+      range = rangeBy E (cyclesIn p xs) (energies p xs) (distances p xs);
+      ac = rechargeBy E (cyclesIn p xs) (energies p xs) (distances p xs) (a .after) (a .charge);
     }

@@ -23,7 +23,7 @@ use Rattle.edges.proofs.Got.{the-type as got-type}
 use Rattle.desk.specs.declared.Desk.{Desk}
 use Rattle.desk.specs.declared.Outcome.{Outcome}
 use Rattle.desk.specs.declared.Outcome.the-variants.{More, Refused as refused}
-use Rattle.desk.specs.Feeding.{Laid, Taken, laidOf, emptyDesk, feedOf, longest}
+use Rattle.desk.specs.Feeding.{Laid, Consumed, laidOf, emptyDesk, feedOf, longest}
 use Rattle.prints.specs.Printed.{Prints, refuseText, closeText}
 use Rattle.prints.proofs.Texts.{as-text}
 use Rattle.intake.specs.declared.Intake.{Intake}
@@ -31,7 +31,7 @@ use Rattle.intake.specs.declared.Turn.{Turn}
 use Rattle.intake.specs.declared.Turned.{Turned}
 use Rattle.intake.proofs.Turned.{the-type as turned}
 use Rattle.intake.specs.declared.Turned.the-variants.{On, Ended, Failed, Refused}
-use Rattle.intake.specs.Turns.{turnedBy, heldBy, turnOf, bufferBy, bufferAfter, isOn, isFailed, Goes, Came, none, part, outcomeBy, placeOf, stoppedAt, placeBy, onwards, Stood, textOf, textBy, intakeOf, linesOf, Recorded, Unread}
+use Rattle.intake.specs.Turns.{turnedBy, heldBy, bufferBy, isOn, isFailed, Goes, Came, none, part, outcomeBy, placeOf, placeAfter, stoppedAt, placeBy, onwards, Stood, textOf, textBy, intakeOf, linesOf, Recorded, Unread}
 use Rattle.desk.proofs.Onward.{feed-used}
 use Rattle.desk.proofs.LeftOver.{feed-short}
 
@@ -126,7 +126,7 @@ module _ (x₀ : Laid) (most : ℕ) (desk : Desk) (held left : ℕ) (b₀ room :
 
   -- n bytes came, behind those held, and went to the desk with them
   module _ (n : ℕ) (fits : held + n ≤ length b) (few : n ≤ left) where
-    abbrev fed : Taken
+    abbrev fed : Consumed
     fed = feedOf (laidOf desk room l m) (take (held + n) b)
 
     came-new : List ℕ
@@ -148,7 +148,7 @@ module _ (x₀ : Laid) (most : ℕ) (desk : Desk) (held left : ℕ) (b₀ room :
     front-held More u h e = (to-the-front u (held + n) b h fits, omega (arith, length-drop u (take (held + n) b), length-take-le (held + n) b fits))
     front-held (refused k) u h e = absurd (false≢true cc)
 
-    digested : Stood x₀ most (placeOf (turnOf fed (held + n) (left - n)) (bufferAfter fed (held + n) b) (fed .laid .room) (fed .laid .ledger) (fed .laid .map))
+    digested : Stood x₀ most (placeAfter fed (held + n) (left - n) b)
     digested = record {
       bytes = s .bytes ++ came-new;
       rest = drop (fed .used) (take (held + n) b);

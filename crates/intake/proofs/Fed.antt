@@ -1,4 +1,4 @@
--- Laws of a turn: what is moved to the front was not overwritten before, and what the turn leaves of the buffer.
+-- Laws of a turn: what is moved to the front was not overwritten before, and what the turn leaves.
 -- Assumes nothing.
 use mathlib.Core.List.{List}
 use mathlib.Core.Path.{_≡_, sym, ap, _∙_}
@@ -8,13 +8,11 @@ use native.Mathlib.Numerals.{add-one}
 use native.Mathlib.Omega.{arith}
 use lib.ListN.{length, getD, set, drop}
 use lib.Seq.{paste, paste-suc, drop-paste, getD-drop}
-use Rattle.desk.specs.declared.Fed.{Fed}
 use Rattle.desk.specs.declared.Outcome.{Outcome}
-use Rattle.desk.specs.declared.Outcome.the-variants.{More, Refused as refused}
-use Rattle.desk.specs.Feeding.{Taken, fedOf}
-use Rattle.intake.specs.declared.Turn.{Turn}
-use Rattle.intake.specs.declared.Turned.the-variants.{On, Refused}
-use Rattle.intake.specs.Turns.{turnedBy, heldBy, turnOf, bufferBy, bufferAfter}
+use Rattle.desk.specs.declared.Outcome.the-variants.{More}
+use Rattle.desk.specs.Feeding.{Consumed}
+use Rattle.intake.specs.declared.Turned.the-variants.{On}
+use Rattle.intake.specs.Turns.{placeAfter}
 
 -- the bytes from place `from` on are copied to the front, k of them so far: the next one is still as it was
 pub moved : (d : List ℕ) (from k : ℕ) → k ≤ length d → k ≤ length (drop from d) → getD (paste d 0 (drop from d) k) (from + k) 0 ≡ getD (drop from d) k 0
@@ -36,24 +34,18 @@ moved-more d from k h g =
     ∙ paste-suc d 0 (drop from d) k 0 (omega arith) g
     ∙ ap (paste d 0 (drop from d)) (sym (add-one k))
 
--- ---- the desk answered f, which is what y says
-module _ (y : Taken) (f : Fed) (e : f ≡ fedOf y) (upto left : ℕ) (buffer : List ℕ) where
-  by : (o : Outcome) → f .outcome ≡ o → o ≡ y .outcome
-  by o p = sym p ∙ ap (λ (x : Fed). x .outcome) e
-
-  -- with a refusal: nothing is held, and nothing moves
-  pub refused-turn : (k : ℕ) → f .outcome ≡ refused k
-      → (_≡_ {A = Turn} (record { turned = Refused k; desk = f .desk; held = 0; left = left }) (turnOf y upto left)) × (buffer ≡ bufferAfter y upto buffer)
-  refused-turn k p = (
-    (λ i. record { turned = turnedBy (by (refused k) p i); desk = e i .desk; held = heldBy (by (refused k) p i) (e i .used) upto; left = left }),
-    (λ i. bufferBy (by (refused k) p i) (e i .used) upto buffer),
-  )
+-- ---- the desk took what y says, which is z
+module _ {y z : Consumed} (e : y ≡ z) (upto left : ℕ) (buffer : List ℕ) where
+  -- by what became of it: with a refusal nothing is held, and nothing moves
+  pub fed-turn : (o : Outcome) → y .outcome ≡ o → placeAfter (record { laid = y .laid; used = y .used; outcome = o }) upto left buffer ≡ placeAfter z upto left buffer
+  fed-turn o p =
+      ap (λ (o : Outcome). placeAfter (record { laid = y .laid; used = y .used; outcome = o }) upto left buffer) (sym p)
+      ∙ ap (λ (x : Consumed). placeAfter x upto left buffer) e
 
   -- else the rest is held, at the front
-  pub more-turn : f .outcome ≡ More → (h : ℕ) (b : List ℕ) → h ≡ upto - f .used → b ≡ paste buffer 0 (drop (f .used) buffer) (upto - f .used)
-      → (_≡_ {A = Turn} (record { turned = On; desk = f .desk; held = h; left = left }) (turnOf y upto left)) × (b ≡ bufferAfter y upto buffer)
-  more-turn p h b q r = (
-    (λ i. record { turned = On; desk = f .desk; held = q i; left = left })
-        ∙ (λ i. record { turned = turnedBy (by More p i); desk = e i .desk; held = heldBy (by More p i) (e i .used) upto; left = left }),
-    r ∙ (λ i. bufferBy (by More p i) (e i .used) upto buffer),
-  )
+  pub more-turn : {h : ℕ} {b : List ℕ} → y .outcome ≡ More → h ≡ upto - y .used → b ≡ paste buffer 0 (drop (y .used) buffer) (upto - y .used)
+      → record { turn = record { turned = On; desk = y .laid .desk; held = h; left = left }; buffer = b; room = y .laid .room; memory = y .laid .memory }
+      ≡ placeAfter z upto left buffer
+  more-turn p q r =
+      (λ i. record { turn = record { turned = On; desk = y .laid .desk; held = q i; left = left }; buffer = r i; room = y .laid .room; memory = y .laid .memory })
+      ∙ fed-turn More p

@@ -14,7 +14,7 @@ use Rattle.sheet.specs.Laid.{laid}
 use Rattle.sheet.specs.Text.{mostSheet}
 use Rattle.desk.specs.declared.Outcome.{Outcome}
 use Rattle.desk.specs.declared.Outcome.the-variants.{More, Refused}
-use Rattle.desk.specs.Feeding.{Laid, Taken, laidOf, feedOf}
+use Rattle.desk.specs.Feeding.{Laid, Consumed, laidOf, feedOf}
 use Rattle.desk.proofs.Arriving.{Arrived, arrived-none, arrived-more}
 use Rattle.prints.specs.Printed.{printed}
 use Rattle.prints.proofs.Texts.{text-is}
@@ -32,7 +32,7 @@ module _ (lent : Lent) where
       arrived : Arrived lent w x rest
       arrived = came-arrived lent h refl
 
-      y : Taken
+      y : Consumed
       y = feedOf x (rest ++ new)
 
       go : (o : Outcome) → y .outcome ≡ o → textOf o (y .laid) (length (drop (y .used) (rest ++ new))) ≡ printed (sheetOf (w ++ new))

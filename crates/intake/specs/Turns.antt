@@ -10,6 +10,7 @@ use lib.IntN.{ℤ}
 use lib.ListN.{length, take, drop}
 use lib.Seq.{paste}
 use Rattle.numbers.specs.Tests.{unless}
+use Rattle.state.specs.State.{Memory, lent}
 use Rattle.sheet.specs.Laid.{laid}
 use Rattle.sheet.specs.Text.{mostSheet}
 use Rattle.prints.specs.Printed.{refuseText, closeText}
@@ -19,31 +20,11 @@ use Rattle.desk.specs.declared.Desk.{Desk}
 use Rattle.desk.specs.declared.Outcome.{Outcome}
 use Rattle.desk.specs.declared.Outcome.the-variants.{More}
 use Rattle.desk.specs.declared.Outcome.the-variants as outcome
-use Rattle.desk.specs.Feeding.{Laid, Taken, laidOf, feedOf, longest}
+use Rattle.desk.specs.Feeding.{Laid, Consumed, laidOf, feedOf, longest}
 use Rattle.intake.specs.declared.Intake.{Intake}
 use Rattle.intake.specs.declared.Turn.{Turn}
 use Rattle.intake.specs.declared.Turned.{Turned}
 use Rattle.intake.specs.declared.Turned.the-variants.{On, Ended, Failed, Refused}
-
--- a turn in which the desk was fed the first upto bytes of the buffer and took what x says: what became of it, and how many bytes are held
-abbrev pub turnedBy : Outcome → Turned
-turnedBy More = On
-turnedBy (outcome.Refused k) = Refused k
-
-abbrev pub heldBy : Outcome → ℕ → ℕ → ℕ
-heldBy More used upto = upto - used
-heldBy (outcome.Refused k) used upto = 0
-
-abbrev pub turnOf : Taken → ℕ → ℕ → Turn
-turnOf x upto left = record { turned = turnedBy (x .outcome); desk = x .laid .desk; held = heldBy (x .outcome) (x .used) upto; left = left }
-
--- what the desk did not take, an unfinished field, moves to the front
-abbrev pub bufferBy : Outcome → ℕ → ℕ → List ℕ → List ℕ
-bufferBy More used upto buffer = paste buffer 0 (drop used buffer) (upto - used)
-bufferBy (outcome.Refused k) used upto buffer = buffer
-
-abbrev pub bufferAfter : Taken → ℕ → List ℕ → List ℕ
-bufferAfter x upto buffer = bufferBy (x .outcome) (x .used) upto buffer
 
 -- another turn follows
 abbrev pub isOn : Turned → Bool
@@ -91,22 +72,49 @@ pub record Place : Type 0 where
   pub turn : Turn
   pub buffer : List ℕ
   pub room : List ℕ
-  pub ledger : List ℤ
-  pub map : List ℕ
+  pub memory : Memory
 
 abbrev pub placeOf : Turn → List ℕ → List ℕ → List ℤ → List ℕ → Place
-placeOf t buffer room l m = record { turn = t; buffer = buffer; room = room; ledger = l; map = m }
+placeOf t buffer room l m = record { turn = t; buffer = buffer; room = room; memory = lent l m }
+
+-- the desk there, on its memory
+abbrev pub laidAt : Place → Laid
+laidAt p = record { desk = p .turn .desk; room = p .room; memory = p .memory }
+
+-- a turn in which the desk took what y says of the first upto bytes of the buffer: what became of it, how many bytes are held, and the buffer: what the
+-- desk did not take, an unfinished field, moves to the front
+abbrev pub turnedBy : Outcome → Turned
+turnedBy More = On
+turnedBy (outcome.Refused k) = Refused k
+
+abbrev pub heldBy : Outcome → ℕ → ℕ → ℕ
+heldBy More used upto = upto - used
+heldBy (outcome.Refused k) used upto = 0
+
+abbrev pub bufferBy : Outcome → ℕ → ℕ → List ℕ → List ℕ
+bufferBy More used upto buffer = paste buffer 0 (drop used buffer) (upto - used)
+bufferBy (outcome.Refused k) used upto buffer = buffer
+
+abbrev pub placeAfter : Consumed → ℕ → ℕ → List ℕ → Place
+placeAfter y upto left buffer = record {
+  turn = record { turned = turnedBy (y .outcome); desk = y .laid .desk; held = heldBy (y .outcome) (y .used) upto; left = left };
+  buffer = bufferBy (y .outcome) (y .used) upto buffer;
+  room = y .laid .room;
+  memory = y .laid .memory;
+}
+
+-- a turn in which the desk x is fed those bytes
+abbrev pub placeFed : Laid → ℕ → ℕ → List ℕ → Place
+placeFed x upto left buffer = placeAfter (feedOf x (take upto buffer)) upto left buffer
 
 -- nothing came
 abbrev pub stoppedAt : Got → Laid → ℕ → ℕ → List ℕ → Place
 stoppedAt g x held left buffer =
-    placeOf (record { turned = stoppedBy g; desk = x .desk; held = held; left = left }) buffer (x .room) (x .ledger) (x .map)
+    record { turn = record { turned = stoppedBy g; desk = x .desk; held = held; left = left }; buffer = buffer; room = x .room; memory = x .memory }
 
 -- what a reading makes of a turn, with so many bytes held and left: the bytes that came go to the desk with those held; without bytes the turn stops
 abbrev pub placeBy : Got → Laid → ℕ → ℕ → List ℕ → Place
-placeBy (got.Bytes n) x held left buffer =
-    let y = feedOf x (take (held + n) buffer) in
-    placeOf (turnOf y (held + n) (left - n)) (bufferAfter y (held + n) buffer) (y .laid .room) (y .laid .ledger) (y .laid .map)
+placeBy (got.Bytes n) x held left buffer = placeFed x (held + n) (left - n) buffer
 placeBy got.End x held left buffer = stoppedAt got.End x held left buffer
 placeBy got.Again x held left buffer = stoppedAt got.Again x held left buffer
 placeBy got.Failed x held left buffer = stoppedAt got.Failed x held left buffer
@@ -119,7 +127,7 @@ onwards desk held left = record { turned = On; desk = desk; held = held; left = 
 pub record Stood (x₀ : Laid) (most : ℕ) (p : Place) : Type 0 where
   pub bytes : List ℕ
   pub rest : List ℕ
-  pub came : Came x₀ bytes (laidOf (p .turn .desk) (p .room) (p .ledger) (p .map)) rest (outcomeBy (p .turn .turned))
+  pub came : Came x₀ bytes (laidAt p) rest (outcomeBy (p .turn .turned))
   pub held : outcomeBy (p .turn .turned) ≡ More → (rest ≡ take (p .turn .held) (p .buffer)) × (length rest ≡ p .turn .held)
   pub all : length bytes + p .turn .left ≡ most
 

@@ -10,6 +10,7 @@ use parts::has_failed;
 use parts::read_through;
 use prints::close;
 use prints::refuse;
+use rules::limits::MOST_BYTES;
 ghost use mathlib.Core.Path.{_≡_};
 ghost use Prim.Native.Nat.{_≤_, _<_};
 ghost use lib.ListN.{length};
@@ -17,8 +18,8 @@ ghost use Rattle.desk.specs.Feeding.{laidOf, emptyDesk, longest};
 ghost use Rattle.prints.specs.Printed.{Prints};
 ghost use Rattle.intake.specs.Turns.{textBy, intakeOf, linesOf, Recorded, Unread};
 
-// The buffer holds the longest field: tag, length and a cycle of 4,811 bytes.
-const LONGEST: usize = 4814;
+// The buffer holds the longest field: tag, length and the longest cycle.
+const LONGEST: usize = 3 + MOST_BYTES;
 
 // What became of a turn: bytes were taken, the input ended, reading failed, or a field was refused.
 pub enum Turned {
@@ -45,7 +46,9 @@ pub struct Intake {
 
 // What is printed of a record that was read, to its end or to a refused field.
 fn print_record(t: Turn, room: &[u8], ledger: &[i64], map: &[u64], lines: &mut [u8]) -> usize
-    ensures { λ r. ⌜ Prints (textBy t (laidOf (t .desk) (now (room .entry)) (now (ledger .entry)) (now (map .entry)))) (now (lines .entry)) r (now (lines .exit)) ⌝ }
+    ensures { λ r. ⌜
+        Prints (textBy t (laidOf (t .desk) (now (room .entry)) (now (ledger .entry)) (now (map .entry)))) (now (lines .entry)) r (now (lines .exit))
+        ⌝ }
 {
     let desk = t.desk;
     let turned = t.turned;
@@ -85,7 +88,10 @@ fn read_record(
     lines: &mut [u8],
 ) -> Intake
     requires { ⌜ longest ≤ length (now buffer) ⌝ }
-    ensures { λ r. ⌜ Recorded (laidOf emptyDesk (now (room .entry)) (now (ledger .entry)) (now (map .entry))) most (now (lines .entry)) r (now (room .exit)) (now (ledger .exit)) (now (map .exit)) (now (lines .exit)) ⌝ }
+    ensures { λ r. ⌜
+        Recorded (laidOf emptyDesk (now (room .entry)) (now (ledger .entry)) (now (map .entry))) most (now (lines .entry))
+        r (now (room .exit)) (now (ledger .exit)) (now (map .exit)) (now (lines .exit))
+        ⌝ }
 {
     let t = read_through(most, &mut *buffer, &mut *room, &mut *ledger, &mut *map);
     answer_to(t, &room[..], &ledger[..], &map[..], &mut *lines)
@@ -100,8 +106,16 @@ pub fn take_record(
     map: &mut [u64],
     lines: &mut [u8],
 ) -> Intake
-    ensures { λ r. ⌜ (longest ≤ length (now (buffer .entry)) → Recorded (laidOf emptyDesk (now (room .entry)) (now (ledger .entry)) (now (map .entry))) most (now (lines .entry)) r (now (room .exit)) (now (ledger .exit)) (now (map .exit)) (now (lines .exit))) ⌝ }
-    ensures { λ r. ⌜ (length (now (buffer .entry)) < longest → Unread (laidOf emptyDesk (now (room .entry)) (now (ledger .entry)) (now (map .entry))) most (now (lines .entry)) r (now (room .exit)) (now (ledger .exit)) (now (map .exit)) (now (lines .exit))) ⌝ }
+    ensures { λ r. ⌜
+        (longest ≤ length (now (buffer .entry))
+        → Recorded (laidOf emptyDesk (now (room .entry)) (now (ledger .entry)) (now (map .entry))) most (now (lines .entry))
+        r (now (room .exit)) (now (ledger .exit)) (now (map .exit)) (now (lines .exit)))
+        ⌝ }
+    ensures { λ r. ⌜
+        (length (now (buffer .entry)) < longest
+        → Unread (laidOf emptyDesk (now (room .entry)) (now (ledger .entry)) (now (map .entry))) most (now (lines .entry))
+        r (now (room .exit)) (now (ledger .exit)) (now (map .exit)) (now (lines .exit)))
+        ⌝ }
     ensures { λ _. ⌜ (length (now (buffer .entry)) < longest → now (buffer .exit) ≡ now (buffer .entry)) ⌝ }
 {
     if buffer.len() < LONGEST {

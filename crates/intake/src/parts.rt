@@ -9,11 +9,11 @@ use edges::Got;
 use edges::fill;
 ghost use mathlib.Core.Path.{_≡_};
 ghost use Prim.Native.Nat.{_-_, _≤_, _<_, min};
-ghost use lib.ListN.{length, take, drop};
+ghost use lib.ListN.{length, drop};
 ghost use lib.Seq.{paste};
-ghost use Rattle.desk.specs.Feeding.{laidOf, emptyDesk, feedOf, longest, Steady};
+ghost use Rattle.desk.specs.Feeding.{laidOf, emptyDesk, longest, Steady};
 ghost use Rattle.edges.specs.Answers.{Within};
-ghost use Rattle.intake.specs.Turns.{turnOf, bufferAfter, isOn, isFailed, stoppedBy, placeBy, Goes, placeOf, onwards, Stood, Leads};
+ghost use Rattle.intake.specs.Turns.{isOn, isFailed, stoppedBy, placeOf, placeFed, placeBy, Goes, onwards, Stood, Leads};
 
 // The smaller of the two.
 pub fn at_most(space: usize, left: u64) -> usize
@@ -51,11 +51,10 @@ fn digest(
     map: &mut [u64],
 ) -> Turn
     requires { ⌜ (upto ≤ length (now buffer)) × Steady (laidOf desk (now room) (now ledger) (now map)) ⌝ }
-    ensures { λ r. ⌜ r ≡ turnOf (feedOf (laidOf desk (now (room .entry)) (now (ledger .entry)) (now (map .entry))) (take upto (now (buffer .entry)))) upto left ⌝ }
-    ensures { λ _. ⌜ now (buffer .exit) ≡ bufferAfter (feedOf (laidOf desk (now (room .entry)) (now (ledger .entry)) (now (map .entry))) (take upto (now (buffer .entry)))) upto (now (buffer .entry)) ⌝ }
-    ensures { λ _. ⌜ now (room .exit) ≡ feedOf (laidOf desk (now (room .entry)) (now (ledger .entry)) (now (map .entry))) (take upto (now (buffer .entry))) .laid .room ⌝ }
-    ensures { λ _. ⌜ now (ledger .exit) ≡ feedOf (laidOf desk (now (room .entry)) (now (ledger .entry)) (now (map .entry))) (take upto (now (buffer .entry))) .laid .ledger ⌝ }
-    ensures { λ _. ⌜ now (map .exit) ≡ feedOf (laidOf desk (now (room .entry)) (now (ledger .entry)) (now (map .entry))) (take upto (now (buffer .entry))) .laid .map ⌝ }
+    ensures { λ r. ⌜
+        placeOf r (now (buffer .exit)) (now (room .exit)) (now (ledger .exit)) (now (map .exit))
+        ≡ placeFed (laidOf desk (now (room .entry)) (now (ledger .entry)) (now (map .entry))) upto left (now (buffer .entry))
+        ⌝ }
 {
     let x = feed_on(desk, &buffer[..upto], &mut *room, &mut *ledger, &mut *map);
     let on = x.desk;
@@ -100,8 +99,13 @@ fn turn_by(
     ledger: &mut [i64],
     map: &mut [u64],
 ) -> Turn
-    requires { ⌜ (held ≤ length (now buffer)) × Within (length (now buffer) - held) got × Within left got × Steady (laidOf desk (now room) (now ledger) (now map)) ⌝ }
-    ensures { λ r. ⌜ placeOf r (now (buffer .exit)) (now (room .exit)) (now (ledger .exit)) (now (map .exit)) ≡ placeBy got (laidOf desk (now (room .entry)) (now (ledger .entry)) (now (map .entry))) held left (now (buffer .entry)) ⌝ }
+    requires { ⌜
+        (held ≤ length (now buffer)) × Within (length (now buffer) - held) got × Within left got × Steady (laidOf desk (now room) (now ledger) (now map))
+        ⌝ }
+    ensures { λ r. ⌜
+        placeOf r (now (buffer .exit)) (now (room .exit)) (now (ledger .exit)) (now (map .exit))
+        ≡ placeBy got (laidOf desk (now (room .entry)) (now (ledger .entry)) (now (map .entry))) held left (now (buffer .entry))
+        ⌝ }
 {
     let Got::Bytes(n) = got else {
         return Turn {
@@ -134,7 +138,10 @@ fn read_once(
 ) -> Turn
     requires { ⌜ (held < longest) × (longest ≤ length (now buffer)) × (1 ≤ left) × Steady (laidOf desk (now room) (now ledger) (now map)) ⌝ }
     ensures { λ r. ⌜ Goes left r ⌝ }
-    ensures { λ r. ⌜ Leads (placeOf (onwards desk held left) (now (buffer .entry)) (now (room .entry)) (now (ledger .entry)) (now (map .entry))) (placeOf r (now (buffer .exit)) (now (room .exit)) (now (ledger .exit)) (now (map .exit))) ⌝ }
+    ensures { λ r. ⌜
+        Leads (placeOf (onwards desk held left) (now (buffer .entry)) (now (room .entry)) (now (ledger .entry)) (now (map .entry)))
+        (placeOf r (now (buffer .exit)) (now (room .exit)) (now (ledger .exit)) (now (map .exit)))
+        ⌝ }
 {
     let space = buffer.len() - held;
     let end = held + at_most(space, left);
@@ -184,7 +191,10 @@ pub fn read_through(
     map: &mut [u64],
 ) -> Turn
     requires { ⌜ longest ≤ length (now buffer) ⌝ }
-    ensures { λ r. ⌜ Stood (laidOf emptyDesk (now (room .entry)) (now (ledger .entry)) (now (map .entry))) most (placeOf r (now (buffer .exit)) (now (room .exit)) (now (ledger .exit)) (now (map .exit))) ⌝ }
+    ensures { λ r. ⌜
+        Stood (laidOf emptyDesk (now (room .entry)) (now (ledger .entry)) (now (map .entry))) most
+        (placeOf r (now (buffer .exit)) (now (room .exit)) (now (ledger .exit)) (now (map .exit)))
+        ⌝ }
 {
     let mut desk = empty();
     let mut held = 0;

@@ -9,54 +9,54 @@ use lib.IntN.{ℤ, pos, _+ℤ_}
 use Rattle.numbers.proofs.Order.{side}
 use Rattle.numbers.proofs.Range.{fold-same}
 use Rattle.numbers.proofs.Sums.{sum-pos}
-use Rattle.rules.specs.declared.Sample.{Sample}
-use Rattle.rules.specs.declared.Tolerances.{Tolerances}
-use Rattle.rules.specs.Run.{phaseDistance, cycleEnergy, cycleDistance, energy, over, most, counted, judged}
-use Rattle.rules.specs.Shown.{figure, ledgerNumbers}
-use Rattle.rules.proofs.Figures.{distance-phases, energy-phases, energy-cycles}
+use Rattle.rules.specs.declared.Moment.{Moment}
+use Rattle.rules.specs.Bench.{mostCycles, mostPhases}
+use Rattle.rules.specs.Course.{Course, judged, closed}
+use Rattle.rules.specs.Parts.{rowPart, phasePart, partEnergy, partDistance, energy}
+use Rattle.rules.specs.Shown.{ledgerNumbers, figure}
+use Rattle.rules.proofs.Facts.{Orderly}
+use Rattle.rules.proofs.Gathered.{closed-most}
 use Rattle.rules.proofs.NineNumbers.{energy-figure, distance-figure, outside-figure}
-use Rattle.rules.proofs.Sound.{Sound}
-use Rattle.rules.proofs.Tally.{counted-le}
+use Rattle.rules.proofs.Total.{energy-phases, distance-phases, energies-add-up}
 use Rattle.ledger.specs.Row.{at, energyIn, distanceIn, energyAll}
 use Rattle.judge.proofs.LedgerShows.{LedgerShows}
 
-module _ (b : List ℕ) (t : Tolerances) (s : ℕ → Sample) (l₀ : List ℤ) (n : ℕ) (l : List ℤ)
-    (h : LedgerShows b t s l₀ (counted b t s n) (judged b t s n) l) where
-  -- number a of cycle c
-  of-nine : (c a : ℕ) → c < 64 → a < 9 → at l (9 * c + a) ≡ figure b t s n (9 * c + a)
+module _ (y : Course) (s : ℕ → Moment) (l₀ : List ℤ) (n : ℕ) (l : List ℤ) (h : LedgerShows y s l₀ (closed y s n) (judged y s n) l) where
+  -- number a of row c
+  of-nine : (c a : ℕ) → c < mostCycles → a < 9 → at l (9 * c + a) ≡ figure y s n (9 * c + a)
   of-nine c a g f =
-      ⊎-elim (λ e. h .energies c a g e ∙ sym (energy-figure b t s n c a e))
+      ⊎-elim (λ e. h .energies c a g e ∙ sym (energy-figure y s n c a e))
       (λ (e : 4 < suc a). ⊎-elim
       (λ (k : a < 8).
       let q : a ≡ 4 + (a - 4) = omega arith in
-      rw q (h .distances c (a - 4) g (omega arith) ∙ sym (distance-figure b t s n c (a - 4) (omega arith))))
+      rw q (h .distances c (a - 4) g (omega arith) ∙ sym (distance-figure y s n c (a - 4) (omega arith))))
       (λ (k : 8 < suc a).
       let q : a ≡ 8 = omega arith in
-      rw q (h .outsides c g ∙ sym (outside-figure b t s n c)))
+      rw q (h .outsides c g ∙ sym (outside-figure y s n c)))
       (side (suc a) 8))
       (side (suc a) 4)
 
-  pub number-is : (i : ℕ) → i < ledgerNumbers → at l i ≡ figure b t s n i
+  pub number-is : (i : ℕ) → i < ledgerNumbers → at l i ≡ figure y s n i
   number-is i g =
       let q : 9 * (i / 9) + i % 9 ≡ i = omega arith in
-      subst (λ (j : ℕ). at l j ≡ figure b t s n j) q (of-nine (i / 9) (i % 9) (omega arith) (omega arith))
+      subst (λ (j : ℕ). at l j ≡ figure y s n j) q (of-nine (i / 9) (i % 9) (omega arith) (omega arith))
 
-  -- a cycle's energy and distance
-  pub cycle-energy-is : Sound b → (c : ℕ) → c < 64 → energyIn l c ≡ cycleEnergy b s c (counted b t s n)
-  cycle-energy-is o c g = fold-same _+ℤ_ (pos 0) _ _ 4 (λ k f. h .energies c k g f) ∙ energy-phases b s o (counted b t s n) c
+  module _ (o : Orderly (y .layout)) where
+    -- a cycle's energy and distance
+    pub cycle-energy-is : (c : ℕ) → c < mostCycles → energyIn l c ≡ partEnergy (y .share) s (rowPart (y .layout) c) (closed y s n)
+    cycle-energy-is c g = fold-same _+ℤ_ (pos 0) _ _ mostPhases (λ k f. h .energies c k g f) ∙ energy-phases o (y .share) s (closed y s n) c
 
-  pub cycle-distance-is : Sound b → (c : ℕ) → c < 64 → distanceIn l c ≡ pos (cycleDistance b s c (counted b t s n))
-  cycle-distance-is o c g =
-      fold-same _+ℤ_ (pos 0) _ _ 4
-      (λ k f.
-      let q : 9 * c + 4 + k ≡ 9 * c + (4 + k) = omega arith in
-      ap (at l) q ∙ h .distances c k g f)
-      ∙ sum-pos (λ k. phaseDistance b s c k (counted b t s n)) 4
-      ∙ ap pos (distance-phases b s o (counted b t s n) c)
+    pub cycle-distance-is : (c : ℕ) → c < mostCycles → distanceIn l c ≡ pos (partDistance (y .share) s (rowPart (y .layout) c) (closed y s n))
+    cycle-distance-is c g =
+        fold-same _+ℤ_ (pos 0) _ _ mostPhases
+        (λ k f.
+        let q : 9 * c + 4 + k ≡ 9 * c + (4 + k) = omega arith in
+        ap (at l) q ∙ h .distances c k g f)
+        ∙ sum-pos (λ k. partDistance (y .share) s (phasePart (y .layout) c k) (closed y s n)) mostPhases
+        ∙ ap pos (distance-phases o (y .share) s (closed y s n) c)
 
-  -- the ledger's energies add up to the energy of the counted samples
-  pub energies-are : Sound b → energyAll l ≡ energy s (counted b t s n)
-  energies-are o =
-      let m = counted b t s n in
-      fold-same _+ℤ_ (pos 0) _ _ 64 (λ c g. cycle-energy-is o c g)
-      ∙ energy-cycles b s o m (counted-le (over b t s) (most b) n .1)
+    -- the ledger's energies add up to the energy of the shares closed, where its rows are all that there are
+    pub energies-are : y .layout .rows ≡ mostCycles → energyAll l ≡ energy (y .share) s (closed y s n)
+    energies-are e =
+        fold-same _+ℤ_ (pos 0) _ _ mostCycles (λ c g. cycle-energy-is c g)
+        ∙ rw e at (energies-add-up o (y .share) s (closed y s n) (closed-most y s n))

@@ -9,33 +9,42 @@ use native.Mathlib.Nat.{le-refl, le-trans}
 use native.Mathlib.Omega.{arith}
 use lib.Dec.{ltb}
 use borrow.Author.Tests.{ltb-true, ltb-false, lt-ltb, le-leb, eq-eqb}
-use Rattle.numbers.proofs.Firsts.{first-le}
 use Rattle.rules.specs.declared.End.the-variants.{None as none, Stop as stop, Limit as limit}
 use Rattle.rules.specs.Cycle.{phases, phaseEnd}
-use Rattle.rules.specs.Tally.{room, counted, stopped, ending}
+use Rattle.rules.specs.declared.Moment.{Moment}
+use Rattle.rules.specs.Course.{Course, ends, counted, stopped, closed, ending}
+use Rattle.rules.specs.Tally.{room}
+use Rattle.rules.proofs.Next.{closed-own}
+use Rattle.rules.proofs.Tally.{counted-le}
 use Rattle.rules.proofs.Sound.{Sound, rising}
 use Rattle.rules.specs.Bench.{mostSeconds}
 use Rattle.state.specs.State.{endOrZero, endsOf, isProgress}
 
-pub progress-is : (ends : ℕ → Bool) (most n : ℕ) → isProgress (ending ends most n) most n (counted ends most n) ≡ true
+-- where a sample closes its own share
+pub progress-is : (c : Course) (s : ℕ → Moment) → c .share .ahead ≡ 0 → (n : ℕ) → isProgress (ending c s n) (c .layout .most) n (counted c s n) ≡ true
 unfolding isProgress
-progress-is ends most n = go (stopped ends most n) (ltb (counted ends most n) most) refl refl
+progress-is c s own n = go (stopped c s n) (ltb (closed c s n) most) refl refl
   where
     m : ℕ
-    m = counted ends most n
+    m = counted c s n
 
-    go : (x y : Bool) → stopped ends most n ≡ x → ltb m most ≡ y → isProgress (cond x stop (cond y none limit)) most n m ≡ true
+    most : ℕ
+    most = c .layout .most
+
+    go : (x y : Bool) → stopped c s n ≡ x → ltb (closed c s n) most ≡ y → isProgress (cond x stop (cond y none limit)) most n m ≡ true
     go true y e f =
         let h = ltb-true m (room most n) e in
         simp (lt-ltb m n (omega arith), lt-ltb m most (omega arith))
     go false true e f =
         let h = ltb-false m (room most n) e in
-        let g = ltb-true m most f in
-        simp (eq-eqb m n (omega (arith, first-le ends (room most n))), lt-ltb m most g)
+        let g = ltb-true (closed c s n) most f in
+        let all = counted-le (ends c s) most n in
+        simp (eq-eqb m n (omega (arith, closed-own c s own n)), lt-ltb m most (omega (arith, closed-own c s own n)))
     go false false e f =
         let h = ltb-false m (room most n) e in
-        let g = ltb-false m most f in
-        simp (eq-eqb m most (omega (arith, first-le ends (room most n))), le-leb most n (omega (arith, first-le ends (room most n))))
+        let g = ltb-false (closed c s n) most f in
+        let all = counted-le (ends c s) most n in
+        simp (eq-eqb m most (omega (arith, closed-own c s own n)), le-leb most n (omega (arith, closed-own c s own n)))
 
 -- the ends of a cycle's phases
 pub record Low (b : List ℕ) : Type 0 where

@@ -1,21 +1,23 @@
 -- What the bounds of the ledger's 576 numbers say of each, and of their sums.
 -- Assumes nothing.
-use mathlib.Core.Path.{_≡_, sym, _∙_}
+use mathlib.Core.Path.{_≡_, sym, ap, _∙_}
 use mathlib.Core.Bool.{Bool, true, false, cond}
 use mathlib.Core.List.{List}
 use Prim.Native.Nat.{ℕ, _+_, _*_, _%_, _≤_, _<_}
 use native.Mathlib.Omega.{arith}
 use borrow.Author.Tests.{leb-true, le-leb, lt-ltb, le-ltb}
 use lib.Dec.{leb, ltb, lit≤}
-use lib.IntN.{ℤ, pos, negℤ}
+use lib.IntN.{ℤ, pos, negℤ, _+ℤ_}
 use lib.ListN.{length}
+use Rattle.numbers.specs.Range.{sumℤ}
 use Rattle.numbers.specs.Whole.{between, Sized}
+use Rattle.numbers.proofs.Range.{fold-same}
 use Rattle.numbers.proofs.Sums.{sized-sum, between-sum}
 use Rattle.numbers.proofs.Tests.{both, all-at, all-by}
 use Rattle.numbers.proofs.Whole.{weaken, sized-between, sized-upto}
 use Rattle.rules.specs.Shown.{inBounds, mostEnergy, mostDistance, mostOutside, ledgerNumbers}
 use Rattle.rules.specs.Bench.{mostPhases, mostCycles}
-use Rattle.ledger.specs.Row.{at, bounded, energyIn, distanceIn, energyAll}
+use Rattle.ledger.specs.Row.{at, bounded, sumBy, energyIn, distanceIn, energyAll}
 
 -- by its place among the nine
 pub bounds-energy : (i : ℕ) (z : ℤ) → i % 9 < 4 → inBounds i z ≡ between (negℤ (pos mostEnergy)) (pos mostEnergy) z
@@ -61,15 +63,19 @@ module _ (l : List ℤ) (b : bounded l ≡ true) where
     bounded-sized = in-bounds-sized i (at l i) bounded-at
 
   -- the sums of a cycle
-  module _ (c : ℕ) (h : c < 64) where
+  module _ (c : ℕ) (h : c < mostCycles) where
     pub distance-natural : between (pos 0) (pos (mostPhases * mostDistance)) (distanceIn l c) ≡ true
     distance-natural =
-        between-sum mostDistance (λ k. at l (9 * c + 4 + k)) 4
+        between-sum mostDistance (λ k. at l (9 * c + 4 + k)) mostPhases
         (λ k g. sym (bounds-distance (9 * c + 4 + k) (at l (9 * c + 4 + k)) (omega arith) (omega arith)) ∙ bounded-at (9 * c + 4 + k) (omega arith))
 
     pub energy-sized : Sized (mostPhases * mostEnergy) (energyIn l c)
-    energy-sized = sized-sum mostEnergy (λ k. at l (9 * c + k)) 4 (λ k g. bounded-sized (9 * c + k) (omega arith))
+    energy-sized = sized-sum mostEnergy (λ k. at l (9 * c + k)) mostPhases (λ k g. bounded-sized (9 * c + k) (omega arith))
 
   -- and of all cycles
   pub energy-all-sized : Sized (mostCycles * (mostPhases * mostEnergy)) (energyAll l)
   energy-all-sized = sized-sum (mostPhases * mostEnergy) (energyIn l) mostCycles energy-sized
+
+-- a sum by strides, where its places are these
+pub sum-by-is : (l : List ℤ) (a d n : ℕ) (place : ℕ → ℕ) → ((k : ℕ) → k < n → a + d * k ≡ place k) → sumBy l a d n ≡ sumℤ (λ k. at l (place k)) n
+sum-by-is l a d n place h = fold-same _+ℤ_ (pos 0) _ _ n (λ k g. ap (at l) (h k g))

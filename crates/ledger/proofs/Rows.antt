@@ -16,6 +16,7 @@ use Rattle.numbers.specs.Lists.{plus}
 use Rattle.numbers.specs.Whole.{Sized, Small}
 use Rattle.numbers.proofs.Lists.{put-set, put-getD}
 use Rattle.numbers.proofs.Whole.{of-nat, weaken, small-plus}
+use Rattle.rules.specs.declared.Moment.{Moment}
 use Rattle.ledger.specs.Row.{at, outsideAdded, isOver, sampleAdded}
 
 -- ---- one number
@@ -39,12 +40,19 @@ pub small-outside : {n : ℕ} (a : ℕ) (l : List ℤ) (out : Bool) → Small n 
 small-outside a l true s j = small-plus l (a + 8) s (of-nat (le-refl 1)) j
 small-outside a l false s j = weaken (omega arith) (s j)
 
-module _ (a : ℕ) (l : List ℤ) (k : ℕ) (e d : ℤ) (out : Bool) (al : ℕ) where
-  pub added-over : isOver a l out al ≡ true → sampleAdded a l k e d out al ≡ outsideAdded a l out
+module _ (a : ℕ) (l : List ℤ) (k : ℕ) (x : Moment) (out : Bool) (al : ℕ) where
+  -- what it adds
+  abbrev e : ℤ
+  e = x .energy
+
+  abbrev d : ℤ
+  d = pos (x .speed)
+
+  pub added-over : isOver a l out al ≡ true → sampleAdded a l k x out al ≡ outsideAdded a l out
   unfolding sampleAdded
   added-over o = rw o
 
-  pub added-not-over : isOver a l out al ≡ false → sampleAdded a l k e d out al ≡ plus (plus (outsideAdded a l out) (a + k) e) (a + (4 + k)) d
+  pub added-not-over : isOver a l out al ≡ false → sampleAdded a l k x out al ≡ plus (plus (outsideAdded a l out) (a + k) e) (a + (4 + k)) d
   unfolding sampleAdded
   added-not-over o = rw o
 
@@ -56,7 +64,7 @@ module _ (a : ℕ) (l : List ℤ) (k : ℕ) (e d : ℤ) (out : Bool) (al : ℕ) 
   l₂ = plus l₁ (a + k) e
 
   -- what holds of both outcomes holds of the one that is
-  added-either : (P : List ℤ → Type 0) → P l₁ → P (plus l₂ (a + (4 + k)) d) → P (sampleAdded a l k e d out al)
+  added-either : (P : List ℤ → Type 0) → P l₁ → P (plus l₂ (a + (4 + k)) d) → P (sampleAdded a l k x out al)
   unfolding sampleAdded
   added-either P p q = go (isOver a l out al)
     where
@@ -64,7 +72,7 @@ module _ (a : ℕ) (l : List ℤ) (k : ℕ) (e d : ℤ) (out : Bool) (al : ℕ) 
       go true = p
       go false = q
 
-  pub length-added : length (sampleAdded a l k e d out al) ≡ length l
+  pub length-added : length (sampleAdded a l k x out al) ≡ length l
   length-added =
       let one : length l₁ ≡ length l = length-outside a l out in
       added-either (λ x. length x ≡ length l) one (length-plus l₂ (a + (4 + k)) d ∙ length-plus l₁ (a + k) e ∙ one)
@@ -94,11 +102,17 @@ module _ (a n : ℕ) (xs : List ℤ) (nine : n ≡ 9) (h : a + 9 ≤ length xs) 
       (sym (put-getD a n xs (omega arith) (outsideAdded 0 part out) 8 (pos 0) (omega (arith, part-length, length-outside 0 part out)))
       ∙ ap (λ (l : List ℤ). at l (a + 8)) (put-outside out))
 
-  pub put-added : (k : ℕ) (e d : ℤ) (out : Bool) (al : ℕ) → k < 4
-      → putMid a n xs (sampleAdded 0 (midOf a n xs) k e d out al) ≡ sampleAdded a xs k e d out al
+  pub put-added : (k : ℕ) (m : Moment) (out : Bool) (al : ℕ) → k < 4
+      → putMid a n xs (sampleAdded 0 (midOf a n xs) k m out al) ≡ sampleAdded a xs k m out al
   unfolding sampleAdded
-  put-added k e d out al g = rw (over-part out al) (go (isOver a xs out al))
+  put-added k m out al g = rw (over-part out al) (go (isOver a xs out al))
     where
+      e : ℤ
+      e = m .energy
+
+      d : ℤ
+      d = pos (m .speed)
+
       p₁ : List ℤ
       p₁ = outsideAdded 0 part out
 

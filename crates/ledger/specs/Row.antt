@@ -2,7 +2,7 @@
 -- Assumes nothing.
 use mathlib.Core.Bool.{Bool, cond, _&&_}
 use mathlib.Core.List.{List}
-use Prim.Native.Nat.{ℕ, _+_, _*_}
+use Prim.Native.Nat.{ℕ, _+_, _*_, _<_}
 use lib.Dec.{leb}
 use lib.IntN.{ℤ, pos}
 use lib.ListN.{length, getD}
@@ -10,7 +10,8 @@ use lib.Signed.{ltZ}
 use Rattle.numbers.specs.Lists.{plus}
 use Rattle.numbers.specs.Range.{sumℤ}
 use Rattle.numbers.specs.Tests.{allBelow}
-use Rattle.rules.specs.Bench.{mostOffered, mostShareEnergy, mostShareDistance}
+use Rattle.rules.specs.declared.Moment.{Moment}
+use Rattle.rules.specs.Bench.{mostCycles, mostPhases, mostOffered, mostShareEnergy, mostShareDistance}
 use Rattle.rules.specs.Shown.{ledgerNumbers, mostEnergy, inBounds}
 
 -- what one sample adds to a number at most, and what the numbers can come to while samples are taken
@@ -37,28 +38,32 @@ module _ (a : ℕ) (l : List ℤ) where
   abbrev pub isOver : Bool → ℕ → Bool
   isOver out allowance = ltZ (pos allowance) (at (outsideAdded out) (a + 8))
 
--- a judged sample of phase k, with energy e and distance d: one that stops the run is only counted as outside
-unfoldable pub sampleAdded : ℕ → List ℤ → ℕ → ℤ → ℤ → Bool → ℕ → List ℤ
-sampleAdded a l k e d out allowance =
+-- a judged sample of phase k: one that stops the run is only counted as outside
+unfoldable pub sampleAdded : ℕ → List ℤ → ℕ → Moment → Bool → ℕ → List ℤ
+sampleAdded a l k x out allowance =
     let marked = outsideAdded a l out in
-    cond (isOver a l out allowance) marked (plus (plus marked (a + k) e) (a + (4 + k)) d)
+    cond (isOver a l out allowance) marked (plus (plus marked (a + k) (x .energy)) (a + (4 + k)) (pos (x .speed)))
 
--- the sum of the four numbers from place a
-abbrev pub fourFrom : List ℤ → ℕ → ℤ
-fourFrom l a = sumℤ (λ k. at l (a + k)) 4
+-- the sum of n numbers, the first at place a, each d places behind the one before
+abbrev pub sumBy : List ℤ → ℕ → ℕ → ℕ → ℤ
+sumBy l a d n = sumℤ (λ k. at l (a + d * k)) n
+
+-- these are numbers of the ledger
+pub record Within (a d n : ℕ) : Type 0 where
+  pub within : (k : ℕ) → k < n → a + d * k < ledgerNumbers
 
 -- energy, distance and outside count of cycle c; energy and outside count of all 64
 abbrev pub energyIn : List ℤ → ℕ → ℤ
-energyIn l c = fourFrom l (9 * c)
+energyIn l c = sumℤ (λ k. at l (9 * c + k)) mostPhases
 
 abbrev pub distanceIn : List ℤ → ℕ → ℤ
-distanceIn l c = fourFrom l (9 * c + 4)
+distanceIn l c = sumℤ (λ k. at l (9 * c + 4 + k)) mostPhases
 
 abbrev pub outsideIn : List ℤ → ℕ → ℤ
 outsideIn l c = at l (9 * c + 8)
 
 abbrev pub energyAll : List ℤ → ℤ
-energyAll l = sumℤ (energyIn l) 64
+energyAll l = sumℤ (energyIn l) mostCycles
 
 abbrev pub outsideAll : List ℤ → ℤ
-outsideAll l = sumℤ (outsideIn l) 64
+outsideAll l = sumℤ (outsideIn l) mostCycles

@@ -1,20 +1,21 @@
 // Sums over the ledger's numbers, where they are in bounds.
 use rules::limits::MOST_CYCLES;
+use rules::limits::MOST_PHASES;
 ghost use mathlib.Core.Path.{_≡_};
 ghost use mathlib.Core.Bool.{true};
-ghost use Prim.Native.Nat.{_+_, _≤_, _<_};
-ghost use Rattle.rules.specs.Shown.{ledgerNumbers};
-ghost use Rattle.ledger.specs.Row.{bounded, fourFrom, energyIn, distanceIn, energyAll, outsideAll};
+ghost use Prim.Native.Nat.{_≤_, _<_};
+ghost use Rattle.rules.specs.Bench.{mostCycles};
+ghost use Rattle.ledger.specs.Row.{bounded, sumBy, Within, energyIn, distanceIn, energyAll, outsideAll};
 
-// The sum of the four numbers from place a.
-fn four_from(ledger: &[i64], a: usize) -> i64
-    requires { ⌜ (bounded (now ledger) ≡ true) × (a + 4 ≤ ledgerNumbers) ⌝ }
-    ensures { λ r. ⌜ r ≡ fourFrom (now (ledger .entry)) a ⌝ }
+// The sum of n numbers, the first at place a, each d places behind the one before.
+fn sum_by(ledger: &[i64], a: usize, d: usize, n: usize) -> i64
+    requires { ⌜ (bounded (now ledger) ≡ true) × (n ≤ mostCycles) × Within a d n ⌝ }
+    ensures { λ r. ⌜ r ≡ sumBy (now (ledger .entry)) a d n ⌝ }
 {
     let mut sum: i64 = 0;
-    let mut k: usize = 0;
-    while k < 4 {
-        sum += ledger[a + k];
+    let mut k = 0;
+    while k < n {
+        sum += ledger[a + d * k];
         k += 1;
     }
     sum
@@ -22,18 +23,18 @@ fn four_from(ledger: &[i64], a: usize) -> i64
 
 // The energy of cycle c.
 pub fn energy_in(ledger: &[i64], c: usize) -> i64
-    requires { ⌜ (bounded (now ledger) ≡ true) × (c < 64) ⌝ }
+    requires { ⌜ (bounded (now ledger) ≡ true) × (c < mostCycles) ⌝ }
     ensures { λ r. ⌜ r ≡ energyIn (now (ledger .entry)) c ⌝ }
 {
-    four_from(ledger, 9 * c)
+    sum_by(ledger, 9 * c, 1, MOST_PHASES)
 }
 
 // The distance of cycle c.
 pub fn distance_in(ledger: &[i64], c: usize) -> i64
-    requires { ⌜ (bounded (now ledger) ≡ true) × (c < 64) ⌝ }
+    requires { ⌜ (bounded (now ledger) ≡ true) × (c < mostCycles) ⌝ }
     ensures { λ r. ⌜ r ≡ distanceIn (now (ledger .entry)) c ⌝ }
 {
-    four_from(ledger, 9 * c + 4)
+    sum_by(ledger, 9 * c + 4, 1, MOST_PHASES)
 }
 
 // The energy of all cycles.
@@ -55,11 +56,5 @@ pub fn outside_all(ledger: &[i64]) -> i64
     requires { ⌜ bounded (now ledger) ≡ true ⌝ }
     ensures { λ r. ⌜ r ≡ outsideAll (now (ledger .entry)) ⌝ }
 {
-    let mut sum: i64 = 0;
-    let mut c: usize = 0;
-    while c < MOST_CYCLES {
-        sum += ledger[9 * c + 8];
-        c += 1;
-    }
-    sum
+    sum_by(ledger, 8, 9, MOST_CYCLES)
 }

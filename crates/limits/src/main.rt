@@ -5,7 +5,9 @@ use rules::Charge;
 use rules::End;
 use rules::Tolerances;
 use state::Ends;
+use state::Progress;
 use state::Run;
+use state::Track;
 
 // T = 2, one phase, points of 100.
 const CYCLE: [u8; 9] = [1, 0, 2, 0, 100, 0, 100, 0, 100];
@@ -42,21 +44,25 @@ fn finished(n: u32) -> Run {
     let end = if n < 64 { End::None } else { End::Limit };
     let counted = if n < 64 { 40 * n } else { 2560 };
     Run {
-        seconds: 2,
-        ends: Ends {
-            first: 2,
-            second: 0,
-            third: 0,
-            fourth: 0,
+        track: Track {
+            seconds: 2,
+            ends: Ends {
+                first: 2,
+                second: 0,
+                third: 0,
+                fourth: 0,
+            },
+            tolerances: Tolerances {
+                speed: 30,
+                time: 20,
+                allowance: 300,
+            },
         },
-        tolerances: Tolerances {
-            speed: 30,
-            time: 20,
-            allowance: 300,
+        progress: Progress {
+            offered: counted,
+            counted,
+            end,
         },
-        offered: counted,
-        counted,
-        end,
     }
 }
 

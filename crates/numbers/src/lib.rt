@@ -2,7 +2,7 @@
 ghost use mathlib.Core.Path.{_≡_};
 ghost use Prim.Native.Nat.{_+_, _-_, _*_, _<_, min, max};
 ghost use lib.ListN.{length};
-ghost use mir.Syntax.{w64};
+ghost use mir.Syntax.{w16, w64};
 ghost use mir.Val.{toZ};
 ghost use Rattle.numbers.specs.Bytes.{be};
 
@@ -59,6 +59,16 @@ pub fn read64(b: &[u8], i: usize) -> u64
     ensures { λ r. ⌜ r ≡ be 8 (now (b .entry)) i ⌝ }
 {
     4_294_967_296 * (read32(b, i) as u64) + (read32(b, i + 4) as u64)
+}
+
+// Two bytes as a number of either sign, two's complement.
+pub fn signed16(x: u16) -> i16
+    ensures { λ r. ⌜ r ≡ toZ w16 x ⌝ }
+{
+    if x < 32768 {
+        return x as i16;
+    }
+    -((65535 - x) as i16) - 1
 }
 
 // Eight bytes as a number of either sign, two's complement.

@@ -2,13 +2,15 @@
 -- Assumes nothing.
 use mathlib.Core.Bool.{Bool, _&&_}
 use mathlib.Core.List.{List, _++_}
-use Prim.Native.Nat.{ℕ}
+use Prim.Native.Nat.{ℕ, _+_}
 use lib.Dec.{leb}
 use lib.IntN.{ℤ}
 use lib.ListN.{length, take, drop, replicate}
 use Rattle.numbers.specs.Tests.{unless, settled}
 use Rattle.rules.specs.Cycle.{mostBytes}
+use Rattle.state.specs.State.{Memory, lent}
 use Rattle.state.specs.Refusals.{startRefusal}
+use Rattle.step.specs.Step.{startOf}
 use Rattle.fields.specs.Values.{isNumber}
 use Rattle.opening.specs.Opening.{Begun, Opened, openWhole, openAt}
 use Rattle.opening.specs.declared.OpenStep.{OpenStep}
@@ -65,8 +67,28 @@ abbrev pub openAnswer : Opened Held → OpenAnswer
 openAnswer x = record { step = x .step; opening = openingOf (x .begun) }
 
 -- the memory, set to zero where the run starts
-abbrev pub memoryAfter : {A : Type 0} → OpenStep → A → A → A
+abbrev pub memoryAfter : OpenStep → Memory → Memory → Memory
 memoryAfter (opening.Taken n) new old = old
 memoryAfter (opening.Started n r) new old = new
 memoryAfter opening.Incomplete new old = old
 memoryAfter (opening.Refused n) new old = old
+
+-- what a call until the start leaves: its answer, the room, and ledger and map
+pub record OpenLeft : Type 0 where
+  pub answer : OpenAnswer
+  pub room : List ℕ
+  pub memory : Memory
+
+abbrev pub openLeft : OpenAnswer → List ℕ → List ℤ → List ℕ → OpenLeft
+openLeft a room l m = record { answer = a; room = room; memory = lent l m }
+
+-- on the memory l and m
+abbrev pub openedOn : List ℤ → List ℕ → Opened Held → OpenLeft
+openedOn l m x = record { answer = openAnswer x; room = x .begun .kept .room; memory = memoryAfter (x .step) (startOf l m .memory) (lent l m) }
+
+-- what a whole field leaves, and a call of `open`
+abbrev pub fieldOpened : Opening → List ℕ → List ℤ → List ℕ → ℕ → List ℕ → OpenLeft
+fieldOpened o room l m tag v = openedOn l m (openField o room l m tag v (3 + length v))
+
+abbrev pub frontOpened : Opening → List ℕ → List ℤ → List ℕ → List ℕ → OpenLeft
+frontOpened o room l m i = openedOn l m (openOf o room l m i)

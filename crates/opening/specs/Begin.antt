@@ -6,7 +6,9 @@ use lib.IntN.{ℤ}
 use lib.ListN.{length, take}
 use Rattle.numbers.specs.Tests.{unless, settled}
 use Rattle.rules.specs.Cycle.{valid}
+use Rattle.state.specs.State.{lent, Left}
 use Rattle.state.specs.Refusals.{startRefusal, started}
+use Rattle.step.specs.Step.{startOf}
 use Rattle.fields.specs.Values.{isNumber, tolerancesIn}
 use Rattle.opening.specs.declared.Opening.{Opening}
 use Rattle.opening.specs.declared.OpenAnswer.{OpenAnswer}
@@ -37,3 +39,7 @@ startAnswer o room l m v n =
       opening = record { fields = o .fields + 1; vehicle = o .vehicle; cycle = o .cycle };
     })
     (refusedAt o (startNumber o room l m v))
+
+-- what it leaves, with ledger and map
+abbrev pub startOpened : Opening → List ℕ → List ℤ → List ℕ → List ℕ → ℕ → Left OpenAnswer
+startOpened o room l m v n = record { answer = startAnswer o room l m v n; memory = settled (startNumber o room l m v) (startOf l m .memory) (lent l m) }

@@ -11,13 +11,13 @@ ghost use mathlib.Core.Path.{_≡_};
 ghost use mathlib.Core.Bool.{true};
 ghost use Prim.Native.Nat.{_+_, _≤_};
 ghost use lib.ListN.{length};
-ghost use Rattle.numbers.specs.Tests.{unless, settled};
+ghost use Rattle.numbers.specs.Tests.{unless};
 ghost use Rattle.rules.specs.Cycle.{valid};
-ghost use Rattle.step.specs.Step.{startOf};
+ghost use Rattle.state.specs.State.{left};
 ghost use Rattle.fields.specs.Fields.{isLength};
 ghost use Rattle.fields.specs.Values.{tolerancesIn};
-ghost use Rattle.opening.specs.Answers.{isOpening, openGround, written, openAnswer, openField, memoryAfter};
-ghost use Rattle.opening.specs.Begin.{numberAnswer, cycleAnswer, startNumber, startAnswer};
+ghost use Rattle.opening.specs.Answers.{isOpening, openGround, written, openLeft, fieldOpened};
+ghost use Rattle.opening.specs.Begin.{numberAnswer, cycleAnswer, startOpened};
 
 // Until the start: how many of the first four fields are accepted, the vehicle, and how many bytes the cycle in the room has.
 pub struct Opening {
@@ -171,9 +171,10 @@ fn open_start(
     n: usize,
 ) -> OpenAnswer
     requires { ⌜ (o .fields ≤ 3) × (o .cycle ≤ length (now room)) × (6 ≤ length (now v)) ⌝ }
-    ensures { λ r. ⌜ r ≡ startAnswer o (now (room .entry)) (now (ledger .entry)) (now (map .entry)) (now (v .entry)) n ⌝ }
-    ensures { λ _. ⌜ now (ledger .exit) ≡ settled (startNumber o (now (room .entry)) (now (ledger .entry)) (now (map .entry)) (now (v .entry))) (startOf (now (ledger .entry)) (now (map .entry)) .ledger) (now (ledger .entry)) ⌝ }
-    ensures { λ _. ⌜ now (map .exit) ≡ settled (startNumber o (now (room .entry)) (now (ledger .entry)) (now (map .entry)) (now (v .entry))) (startOf (now (ledger .entry)) (now (map .entry)) .map) (now (map .entry)) ⌝ }
+    ensures { λ r. ⌜
+        left r (now (ledger .exit)) (now (map .exit))
+        ≡ startOpened o (now (room .entry)) (now (ledger .entry)) (now (map .entry)) (now (v .entry)) n
+        ⌝ }
 {
     let size = o.cycle;
     let answer = start(&room[..size], tolerances_of(v), &mut *ledger, &mut *map);
@@ -196,10 +197,10 @@ pub fn open_whole(
     v: &[u8],
 ) -> OpenAnswer
     requires { ⌜ (isLength tag (length (now v)) ≡ true) × (openGround o (now room) ≡ 0) ⌝ }
-    ensures { λ r. ⌜ r ≡ openAnswer (openField o (now (room .entry)) (now (ledger .entry)) (now (map .entry)) tag (now (v .entry)) (3 + length (now (v .entry)))) ⌝ }
-    ensures { λ _. ⌜ now (room .exit) ≡ openField o (now (room .entry)) (now (ledger .entry)) (now (map .entry)) tag (now (v .entry)) (3 + length (now (v .entry))) .begun .kept .room ⌝ }
-    ensures { λ _. ⌜ now (ledger .exit) ≡ memoryAfter (openField o (now (room .entry)) (now (ledger .entry)) (now (map .entry)) tag (now (v .entry)) (3 + length (now (v .entry))) .step) (startOf (now (ledger .entry)) (now (map .entry)) .ledger) (now (ledger .entry)) ⌝ }
-    ensures { λ _. ⌜ now (map .exit) ≡ memoryAfter (openField o (now (room .entry)) (now (ledger .entry)) (now (map .entry)) tag (now (v .entry)) (3 + length (now (v .entry))) .step) (startOf (now (ledger .entry)) (now (map .entry)) .map) (now (map .entry)) ⌝ }
+    ensures { λ r. ⌜
+        openLeft r (now (room .exit)) (now (ledger .exit)) (now (map .exit))
+        ≡ fieldOpened o (now (room .entry)) (now (ledger .entry)) (now (map .entry)) tag (now (v .entry))
+        ⌝ }
 {
     let n = 3 + v.len();
     if tag as u32 != o.fields + 1 {

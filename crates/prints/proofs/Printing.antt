@@ -13,19 +13,18 @@ use Rattle.numbers.proofs.Tests.{not-refused}
 use Rattle.reader.specs.declared.Ending.{Ending}
 use Rattle.reader.specs.declared.Ending.the-variants as ending
 use Rattle.reading.specs.declared.Reading.{Reading}
-use Rattle.reading.specs.Answers.{isReading, readGround}
+use Rattle.reading.specs.Answers.{planOf, isReading, readGround}
 use Rattle.reader.specs.Answers.{endingOf}
 use Rattle.records.specs.Records.{sheetOf}
 use Rattle.records.proofs.Calls.{Lent}
 use Rattle.sheet.specs.Text.{sheetText, refusalText}
 use Rattle.figures.specs.declared.Found.{Found}
-use Rattle.figures.specs.Figured.{figuresBy}
 use Rattle.figures.proofs.OfRun.{figures-of-run}
 use Rattle.desk.specs.declared.Outcome.the-variants.{Refused}
-use Rattle.desk.specs.Feeding.{Laid, cycleOf, feedOf, mostFields}
+use Rattle.desk.specs.Feeding.{Laid, lentCycle, feedOf, mostFields}
 use Rattle.desk.proofs.Feeds.{stands-few, stands-on}
 use Rattle.desk.proofs.Arriving.{Arrived, stands-ground, arrived-refused}
-use Rattle.prints.specs.Printed.{nextField, refuseText, foundOn, textBy, closeText, printed}
+use Rattle.prints.specs.Printed.{nextField, refuseText, textBy, closeText, printed}
 use Rattle.prints.proofs.Texts.{by-ending}
 
 -- the number of the next field, of which there are not too many
@@ -46,8 +45,7 @@ module _ (lent : Lent) where
     sheet-printed e =
         let y = h .ends-whole e in
         let r = x .desk .reading in
-        let found : foundOn x ≡ record { refusal = 0; figures = figuresBy (r .vehicle) (r .passed) (r .amounts) (cycleOf x) (r .run .tolerances) (y .samples) } =
-        figures-of-run (cycleOf x) (r .run .tolerances) (lent .l₀) (lent .m₀) r (y .reached) (reading-in-limits r (cycleOf x) (x .ledger) (x .map) (y .ground)) in
+        let found = figures-of-run (planOf r (lentCycle x)) (lent .l₀) (lent .m₀) r (y .reached) (reading-in-limits r (lentCycle x) (x .memory .ledger) (x .memory .map) (y .ground)) in
         ap (λ (f : Found). sheetText (f .figures)) found ∙ ap printed (sym (y .tells))
 
     -- "Every figure equals the rules of document 01": where the input ends, the bytes printed are those that the rules give for the bytes read

@@ -10,12 +10,13 @@ use Rattle.numbers.specs.Tests.{unless, settled}
 use Rattle.reader.specs.declared.Ending.{Ending}
 use Rattle.reader.specs.declared.Ending.the-variants as ending
 use Rattle.reader.specs.Answers.{endingOf}
-use Rattle.records.specs.Records.{Sheet, told, refused}
+use Rattle.records.specs.Records.{Told, Sheet, told, refused, planTold}
+use Rattle.sheet.specs.declared.Figures.{Figures}
 use Rattle.sheet.specs.Laid.{laid}
 use Rattle.sheet.specs.Text.{mostSheet, sheetText, refusalText}
 use Rattle.figures.specs.declared.Found.{Found}
 use Rattle.figures.specs.Figured.{foundOf, figuresBy}
-use Rattle.desk.specs.Feeding.{Laid, cycleOf, deskGround}
+use Rattle.desk.specs.Feeding.{Laid, lentCycle, deskGround}
 
 -- the text stands at the front of the lines out, where they are long enough, and r is its length
 abbrev pub Prints : List ℕ → List ℕ → ℕ → List ℕ → Type 0
@@ -33,7 +34,7 @@ refuseText x number = refusalText number (nextField (x .desk .fields))
 
 -- the figures of the reading on the desk
 abbrev pub foundOn : Laid → Found
-foundOn x = foundOf (x .desk .reading) (cycleOf x) (x .ledger) (x .map)
+foundOn x = foundOf (x .desk .reading) (lentCycle x) (x .memory .ledger) (x .memory .map)
 
 -- by whether the input may end here
 abbrev pub textBy : Ending → Laid → List ℕ
@@ -46,6 +47,10 @@ closeText x left = settled (deskGround x) (textBy (endingOf (x .desk .started) l
 
 -- ---- of a record, by the rules alone
 
+-- the figures of what is told
+abbrev pub figuresTold : Told → Figures
+figuresTold x = figuresBy (x .vehicle) (x .tale .passed) (x .tale .amounts) (planTold x) (x .tale .run)
+
 abbrev pub printed : Sheet → List ℕ
-printed (told x) = sheetText (figuresBy (x .vehicle) (x .tale .passed) (x .tale .amounts) (x .cycle) (x .tolerances) (x .tale .run))
+printed (told x) = sheetText (figuresTold x)
 printed (refused number field) = refusalText number field

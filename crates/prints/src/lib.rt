@@ -30,7 +30,10 @@ fn next_field(fields: u64) -> u64
 // A refused field.
 pub fn refuse(desk: Desk, number: u32, out: &mut [u8]) -> usize
     ensures { λ r. ⌜ r ≡ unless 0 (leb mostSheet (length (now (out .entry)))) (length (refusalText number (nextField (desk .fields)))) ⌝ }
-    ensures { λ _. ⌜ now (out .exit) ≡ unless (now (out .entry)) (leb mostSheet (length (now (out .entry)))) (laid (now (out .entry)) 0 (refusalText number (nextField (desk .fields)))) ⌝ }
+    ensures { λ _. ⌜
+        now (out .exit)
+        ≡ unless (now (out .entry)) (leb mostSheet (length (now (out .entry)))) (laid (now (out .entry)) 0 (refusalText number (nextField (desk .fields))))
+        ⌝ }
 {
     refusal_line(number, next_field(desk.fields), &mut *out)
 }
@@ -38,8 +41,15 @@ pub fn refuse(desk: Desk, number: u32, out: &mut [u8]) -> usize
 // A record that was read to its end.
 fn print_run(desk: Desk, room: &[u8], ledger: &[i64], map: &[u64], out: &mut [u8]) -> usize
     requires { ⌜ desk .opening .cycle ≤ length (now room) ⌝ }
-    ensures { λ r. ⌜ r ≡ unless 0 (leb mostSheet (length (now (out .entry)))) (length (textBy Whole (laidOf desk (now (room .entry)) (now (ledger .entry)) (now (map .entry))))) ⌝ }
-    ensures { λ _. ⌜ now (out .exit) ≡ unless (now (out .entry)) (leb mostSheet (length (now (out .entry)))) (laid (now (out .entry)) 0 (textBy Whole (laidOf desk (now (room .entry)) (now (ledger .entry)) (now (map .entry))))) ⌝ }
+    ensures { λ r. ⌜
+        r ≡ unless 0 (leb mostSheet (length (now (out .entry))))
+        (length (textBy Whole (laidOf desk (now (room .entry)) (now (ledger .entry)) (now (map .entry)))))
+        ⌝ }
+    ensures { λ _. ⌜
+        now (out .exit)
+        ≡ unless (now (out .entry)) (leb mostSheet (length (now (out .entry))))
+        (laid (now (out .entry)) 0 (textBy Whole (laidOf desk (now (room .entry)) (now (ledger .entry)) (now (map .entry)))))
+        ⌝ }
 {
     let opening = desk.opening;
     let reading = desk.reading;
@@ -57,8 +67,15 @@ pub fn close(
     map: &[u64],
     out: &mut [u8],
 ) -> usize
-    ensures { λ r. ⌜ r ≡ unless 0 (leb mostSheet (length (now (out .entry)))) (length (closeText (laidOf desk (now (room .entry)) (now (ledger .entry)) (now (map .entry))) left)) ⌝ }
-    ensures { λ _. ⌜ now (out .exit) ≡ unless (now (out .entry)) (leb mostSheet (length (now (out .entry)))) (laid (now (out .entry)) 0 (closeText (laidOf desk (now (room .entry)) (now (ledger .entry)) (now (map .entry))) left)) ⌝ }
+    ensures { λ r. ⌜
+        r ≡ unless 0 (leb mostSheet (length (now (out .entry))))
+        (length (closeText (laidOf desk (now (room .entry)) (now (ledger .entry)) (now (map .entry))) left))
+        ⌝ }
+    ensures { λ _. ⌜
+        now (out .exit)
+        ≡ unless (now (out .entry)) (leb mostSheet (length (now (out .entry))))
+        (laid (now (out .entry)) 0 (closeText (laidOf desk (now (room .entry)) (now (ledger .entry)) (now (map .entry))) left))
+        ⌝ }
 {
     let refusal = desk_refusal(desk, room, ledger, map);
     if refusal != 0 {

@@ -2,45 +2,44 @@
 -- Assumes nothing.
 use mathlib.Core.Bool.{true, _&&_}
 use mathlib.Core.List.{List}
-use mathlib.Core.Path.{_≡_, refl, sym, ap, subst, subst⁻¹, _∙_}
+use mathlib.Core.Path.{_≡_, sym, ap, subst⁻¹, _∙_}
 use Prim.Native.Nat.{ℕ, _≤_}
 use native.Mathlib.Omega.{arith}
 use lib.Dec.{leb}
 use lib.IntN.{ℤ}
 use lib.ListN.{length}
-use Rattle.numbers.proofs.Tests.{both, not-refused, settled-taken, settled-refused}
-use Rattle.rules.specs.Bench.{mostPassed}
+use Rattle.numbers.proofs.Tests.{both, not-refused, settled-taken, settled-answer}
+use Rattle.rules.specs.Bench.{mostPassed, mostTimeTolerance}
 use Rattle.rules.specs.Closing.{areAmounts}
 use Rattle.rules.specs.Cycle.{valid, seconds}
 use Rattle.rules.specs.declared.Tolerances.{Tolerances}
-use Rattle.step.specs.Step.{State}
-use Rattle.numbers.specs.Tests.{settled}
-use Rattle.judge.proofs.Calls.{kept-ground}
+use Rattle.state.specs.State.{Left, left}
 use Rattle.state.proofs.Checked.{Ground, ground-passed}
+use Rattle.step.specs.Step.{State}
+use Rattle.judge.proofs.Calls.{kept-ground}
 use Rattle.fields.specs.Values.{isNumber}
 use Rattle.reading.specs.declared.Along.{Along}
 use Rattle.reading.specs.declared.Passage.{Passage}
-use Rattle.reader.specs.declared.ReadAnswer.{ReadAnswer}
-use Rattle.reader.specs.declared.AllAnswer.{AllAnswer}
 use Rattle.reading.specs.declared.Reading.{Reading}
 use Rattle.reading.specs.declared.Step.the-variants.{Refused}
 use Rattle.reading.specs.declared.Stepped.{Stepped}
 use Rattle.reading.specs.Reading.{Answered, Read}
-use Rattle.reading.specs.Answers.{isReading, readGround, readOf, readAllOf}
-use Rattle.reader.specs.Answers.{readAnswer, allAnswer}
-use Rattle.reading.specs.Along.{alongAt, withAlong, frontAs, allAs, Ready}
-use Rattle.reading.proofs.Taking.{Took, Passed}
+use Rattle.reading.specs.Answers.{taleOf, readingOf, planOf, isReading, readGround, readOf, readAllOf}
+use Rattle.reading.specs.Along.{alongAt, withAlong, steppedLeft, passageLeft, frontTaken, allTaken, Ready}
+use Rattle.reader.specs.declared.ReadAnswer.{ReadAnswer}
+use Rattle.reader.specs.declared.AllAnswer.{AllAnswer}
+use Rattle.reader.specs.Answers.{readLeft, allLeft}
 
--- the answer a and the memory are those of x, for one field and for all
-abbrev pub ReadBy : Reading → Answered State → ReadAnswer → List ℤ → List ℕ → Type 0
-ReadBy r x a l m = (a ≡ readAnswer r x) × ((l ≡ x .tale .run .ledger) × (m ≡ x .tale .run .map))
+-- as the answer of a call, with the reading y, for one field and for all
+abbrev asRead : Reading → Left Stepped → Left ReadAnswer
+asRead y x = record { answer = record { step = x .answer .step; reading = y }; memory = x .memory }
 
-abbrev pub AllBy : Reading → Read State → AllAnswer → List ℤ → List ℕ → Type 0
-AllBy r x a l m = (a ≡ allAnswer r x) × ((l ≡ x .tale .run .ledger) × (m ≡ x .tale .run .map))
+abbrev asAll : Reading → Left Passage → Left AllAnswer
+asAll y x = record { answer = record { reading = y; fields = x .answer .fields; used = x .answer .used; last = x .answer .last }; memory = x .memory }
 
 module _ (r : Reading) (b : List ℕ) (l : List ℤ) (m : List ℕ) where
   abbrev t : Tolerances
-  t = r .run .tolerances
+  t = r .run .track .tolerances
 
   -- ---- the tests passed
   module _ (e : readGround r b l m ≡ 0) where
@@ -52,43 +51,41 @@ module _ (r : Reading) (b : List ℕ) (l : List ℤ) (m : List ℕ) where
     unfolding readGround isReading
     valid-number = both (leb (r .place) 4 && leb (r .passed) mostPassed && areAmounts (r .amounts)) _ (not-refused 0 (isReading r) _ e .0) .1
 
-    pub along-asked : (valid b ≡ true) × (seconds b ≡ r .run .seconds) × (r .run .tolerances .time ≤ 40)
+    pub along-asked : (valid b ≡ true) × (seconds b ≡ r .run .track .seconds) × (t .time ≤ mostTimeTolerance)
     along-asked = (grounded .sound, grounded .same-seconds, grounded .limits .tolerated .time)
 
-    pub ready-at : length (r .vehicle) ≡ 17 → (k : Along) → k ≡ alongAt r b → Ready (r .vehicle) b t k l m
-    ready-at h k p =
-        subst⁻¹ (λ (y : Along). Ready (r .vehicle) b t y l m) p
-        (record { number = omega arith; valid = valid-number; kept = kept-ground (r .run) b l m grounded; few = grounded .limits .offered })
+    module _ {k : Along} (p : k ≡ alongAt r b) where
+      pub ready-at : length (r .vehicle) ≡ 17 → Ready (r .vehicle) (planOf r b) (left k l m)
+      ready-at h =
+          subst⁻¹ (λ (y : Along). Ready (r .vehicle) (planOf r b) (left y l m)) p
+          (record { number = omega arith; valid = valid-number; kept = kept-ground (r .run) b l m grounded; few = grounded .limits .offered })
 
-    -- what is read from k on is what the call reads
-    called : {X : Type 0} (f : Along → X) (k : Along) → k ≡ alongAt r b → (refused : X) → f k ≡ settled (readGround r b l m) (f (alongAt r b)) refused
-    called f k p refused = ap f p ∙ sym (settled-taken _ e)
+      -- what is read from k on is what the call reads
+      module _ (i : List ℕ) {y : Reading} where
+        pub read-taken : {x : Left Stepped} → x ≡ frontTaken b t k l m (r .vehicle) i → y ≡ withAlong r (x .answer .along) → asRead y x ≡ readLeft r b l m i
+        unfolding readOf
+        read-taken {x} h q =
+            ap (λ (z : Reading). asRead z x) q
+            ∙ ap (λ (z : Left Stepped). asRead (withAlong r (z .answer .along)) z)
+            (h ∙ ap (λ (z : Along). frontTaken b t z l m (r .vehicle) i) p ∙ ap (steppedLeft (planOf r b)) (sym (settled-taken _ e)))
 
-    module _ (i : List ℕ) (k : Along) (p : k ≡ alongAt r b) {l′ : List ℤ} {m′ : List ℕ} (y : Reading) where
-      pub read-taken : (x : Stepped) → Took b (t .time) (frontAs b t k l m (r .vehicle) i) x l′ m′ → y ≡ withAlong r (x .along)
-          → ReadBy r (readOf r b l m i) (record { step = x .step; reading = y }) l′ m′
-      unfolding readOf
-      read-taken x h q =
-          let g = subst (λ (z : Answered State). Took b (t .time) z x l′ m′) (called (λ z. frontAs b t z l m (r .vehicle) i) k p _) h in
-          ((λ j. record { step = g .0 j .step; reading = (q ∙ ap (λ (z : Stepped). withAlong r (z .along)) (g .0)) j }), g .1)
-
-      pub all-taken : (x : Passage) → Passed b (t .time) (allAs b t k l m (r .vehicle) i) x l′ m′ → y ≡ withAlong r (x .along)
-          → AllBy r (readAllOf r b l m i) (record { reading = y; fields = x .fields; used = x .used; last = x .last }) l′ m′
-      unfolding readAllOf
-      all-taken x h q =
-          let g = subst (λ (z : Read State). Passed b (t .time) z x l′ m′) (called (λ z. allAs b t z l m (r .vehicle) i) k p _) h in
-          ((λ j. record { reading = (q ∙ ap (λ (z : Passage). withAlong r (z .along)) (g .0)) j; fields = g .0 j .fields; used = g .0 j .used; last = g .0 j .last }), g .1)
+        pub all-taken : {x : Left Passage} → x ≡ allTaken b t k l m (r .vehicle) i → y ≡ withAlong r (x .answer .along) → asAll y x ≡ allLeft r b l m i
+        unfolding readAllOf
+        all-taken {x} h q =
+            ap (λ (z : Reading). asAll z x) q
+            ∙ ap (λ (z : Left Passage). asAll (withAlong r (z .answer .along)) z)
+            (h ∙ ap (λ (z : Along). allTaken b t z l m (r .vehicle) i) p ∙ ap (passageLeft (planOf r b)) (sym (settled-taken _ e)))
 
   -- ---- a test refuses
-  module _ (i : List ℕ) (x : ℕ) (e : x ≡ readGround r b l m) (some : x ≡ 0 → ⊥) where
-    pub read-refuses : ReadBy r (readOf r b l m i) (record { step = Refused x; reading = r }) l m
+  module _ (i : List ℕ) {x : ℕ} (e : x ≡ readGround r b l m) (some : x ≡ 0 → ⊥) where
+    pub read-refuses : left (record { step = Refused x; reading = r }) l m ≡ readLeft r b l m i
     unfolding readOf
     read-refuses =
-        subst⁻¹ (λ (y : Answered State). ReadBy r y (record { step = Refused x; reading = r }) l m) (settled-refused _ (λ z. some (e ∙ z)))
-        ((λ j. record { step = Refused (e j); reading = r }), (refl, refl))
+        ap (λ (y : Answered State). asRead (readingOf r (y .tale)) (steppedLeft (planOf r b) y))
+        (settled-answer (λ k. record { step = Refused k; tale = taleOf r l m }) _ e some)
 
-    pub all-refuses : AllBy r (readAllOf r b l m i) (record { reading = r; fields = 0; used = 0; last = Refused x }) l m
+    pub all-refuses : left (record { reading = r; fields = 0; used = 0; last = Refused x }) l m ≡ allLeft r b l m i
     unfolding readAllOf
     all-refuses =
-        subst⁻¹ (λ (y : Read State). AllBy r y (record { reading = r; fields = 0; used = 0; last = Refused x }) l m) (settled-refused _ (λ z. some (e ∙ z)))
-        ((λ j. record { reading = r; fields = 0; used = 0; last = Refused (e j) }), (refl, refl))
+        ap (λ (y : Read State). asAll (readingOf r (y .tale)) (passageLeft (planOf r b) y))
+        (settled-answer (λ k. record { tale = taleOf r l m; fields = 0; used = 0; last = Refused k }) _ e some)

@@ -10,10 +10,10 @@ use rules::Amounts;
 use rules::Charge;
 use state::Run;
 ghost use mathlib.Core.Path.{_≡_};
-ghost use Rattle.step.specs.Step.{startOf};
-ghost use Rattle.opening.specs.Answers.{nothing, openOf, openAnswer, memoryAfter};
-ghost use Rattle.reading.specs.Answers.{startedReading, readGround, readOf, readAllOf};
-ghost use Rattle.reader.specs.Answers.{readAnswer, allAnswer, endingOf};
+ghost use Rattle.state.specs.State.{left};
+ghost use Rattle.opening.specs.Answers.{nothing, openLeft, frontOpened};
+ghost use Rattle.reading.specs.Answers.{startedReading, readGround};
+ghost use Rattle.reader.specs.Answers.{readLeft, allLeft, endingOf};
 
 // Whether the input may end here.
 pub enum Ending {
@@ -53,10 +53,10 @@ pub fn open(
     ledger: &mut [i64],
     map: &mut [u64],
 ) -> OpenAnswer
-    ensures { λ r. ⌜ r ≡ openAnswer (openOf opening (now (room .entry)) (now (ledger .entry)) (now (map .entry)) (now (input .entry))) ⌝ }
-    ensures { λ _. ⌜ now (room .exit) ≡ openOf opening (now (room .entry)) (now (ledger .entry)) (now (map .entry)) (now (input .entry)) .begun .kept .room ⌝ }
-    ensures { λ _. ⌜ now (ledger .exit) ≡ memoryAfter (openOf opening (now (room .entry)) (now (ledger .entry)) (now (map .entry)) (now (input .entry)) .step) (startOf (now (ledger .entry)) (now (map .entry)) .ledger) (now (ledger .entry)) ⌝ }
-    ensures { λ _. ⌜ now (map .exit) ≡ memoryAfter (openOf opening (now (room .entry)) (now (ledger .entry)) (now (map .entry)) (now (input .entry)) .step) (startOf (now (ledger .entry)) (now (map .entry)) .map) (now (map .entry)) ⌝ }
+    ensures { λ r. ⌜
+        openLeft r (now (room .exit)) (now (ledger .exit)) (now (map .exit))
+        ≡ frontOpened opening (now (room .entry)) (now (ledger .entry)) (now (map .entry)) (now (input .entry))
+        ⌝ }
 {
     let a = opening::open_refusal(opening, &room[..]);
     if a != 0 {
@@ -106,9 +106,10 @@ pub fn read(
     ledger: &mut [i64],
     map: &mut [u64],
 ) -> ReadAnswer
-    ensures { λ r. ⌜ r ≡ readAnswer reading (readOf reading (now (cycle .entry)) (now (ledger .entry)) (now (map .entry)) (now (input .entry))) ⌝ }
-    ensures { λ _. ⌜ now (ledger .exit) ≡ readOf reading (now (cycle .entry)) (now (ledger .entry)) (now (map .entry)) (now (input .entry)) .tale .run .ledger ⌝ }
-    ensures { λ _. ⌜ now (map .exit) ≡ readOf reading (now (cycle .entry)) (now (ledger .entry)) (now (map .entry)) (now (input .entry)) .tale .run .map ⌝ }
+    ensures { λ r. ⌜
+        left r (now (ledger .exit)) (now (map .exit))
+        ≡ readLeft reading (now (cycle .entry)) (now (ledger .entry)) (now (map .entry)) (now (input .entry))
+        ⌝ }
 {
     let a = reading::read_refusal(reading, cycle, &ledger[..], &map[..]);
     if a != 0 {
@@ -119,7 +120,7 @@ pub fn read(
     }
     let me = reading.vehicle;
     let run = reading.run;
-    let t = run.tolerances;
+    let t = run.track.tolerances;
     let k = reading::along_at(reading, cycle);
     let x = reading::one_field(&me[..], cycle, t, k, &mut *ledger, &mut *map, input);
     let on = x.along;
@@ -139,13 +140,14 @@ pub fn read_fields(
     map: &mut [u64],
 ) -> AllAnswer
     requires { ⌜ readGround reading (now cycle) (now ledger) (now map) ≡ 0 ⌝ }
-    ensures { λ r. ⌜ r ≡ allAnswer reading (readAllOf reading (now (cycle .entry)) (now (ledger .entry)) (now (map .entry)) (now (input .entry))) ⌝ }
-    ensures { λ _. ⌜ now (ledger .exit) ≡ readAllOf reading (now (cycle .entry)) (now (ledger .entry)) (now (map .entry)) (now (input .entry)) .tale .run .ledger ⌝ }
-    ensures { λ _. ⌜ now (map .exit) ≡ readAllOf reading (now (cycle .entry)) (now (ledger .entry)) (now (map .entry)) (now (input .entry)) .tale .run .map ⌝ }
+    ensures { λ r. ⌜
+        left r (now (ledger .exit)) (now (map .exit))
+        ≡ allLeft reading (now (cycle .entry)) (now (ledger .entry)) (now (map .entry)) (now (input .entry))
+        ⌝ }
 {
     let me = reading.vehicle;
     let run = reading.run;
-    let t = run.tolerances;
+    let t = run.track.tolerances;
     let k = reading::along_at(reading, cycle);
     let x = reading::all_fields(&me[..], cycle, t, k, &mut *ledger, &mut *map, input);
     let on = x.along;
@@ -166,9 +168,10 @@ pub fn read_all(
     ledger: &mut [i64],
     map: &mut [u64],
 ) -> AllAnswer
-    ensures { λ r. ⌜ r ≡ allAnswer reading (readAllOf reading (now (cycle .entry)) (now (ledger .entry)) (now (map .entry)) (now (input .entry))) ⌝ }
-    ensures { λ _. ⌜ now (ledger .exit) ≡ readAllOf reading (now (cycle .entry)) (now (ledger .entry)) (now (map .entry)) (now (input .entry)) .tale .run .ledger ⌝ }
-    ensures { λ _. ⌜ now (map .exit) ≡ readAllOf reading (now (cycle .entry)) (now (ledger .entry)) (now (map .entry)) (now (input .entry)) .tale .run .map ⌝ }
+    ensures { λ r. ⌜
+        left r (now (ledger .exit)) (now (map .exit))
+        ≡ allLeft reading (now (cycle .entry)) (now (ledger .entry)) (now (map .entry)) (now (input .entry))
+        ⌝ }
 {
     let a = reading::read_refusal(reading, cycle, &ledger[..], &map[..]);
     if a != 0 {

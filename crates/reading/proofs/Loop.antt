@@ -1,45 +1,46 @@
 -- All fields of an input, one after another, by a reading on its lent memory: what every turn of the loop keeps.
 -- Assumes nothing.
 use mathlib.Core.List.{List}
-use mathlib.Core.Path.{_≡_, refl, sym, ap, subst, subst⁻¹, _∙_}
-use Prim.Native.Nat.{ℕ, suc, _+_, _-_, _≤_}
+use mathlib.Core.Path.{_≡_, refl, sym, ap, subst, _∙_}
+use Prim.Native.Nat.{ℕ, suc, _+_, _-_, _≤_, zero-le}
 use native.Mathlib.Nat.{add-assoc, add-zero}
 use native.Mathlib.Omega.{arith}
-use lib.IntN.{ℤ}
 use lib.ListN.{length, take, drop, length-drop}
 use lib.Seq.{drop-drop, drop-length}
 use Rattle.numbers.proofs.Lists.{part-rest}
-use Rattle.rules.specs.declared.Tolerances.{Tolerances}
 use Rattle.rules.specs.Bench.{mostOffered}
+use Rattle.rules.specs.Regular.{Plan, courseOf}
+use Rattle.state.specs.State.{Left, left}
 use Rattle.step.specs.declared.Going.{Going}
-use Rattle.step.specs.Step.{State, Kept, goingOf}
-use Rattle.blocks.specs.Blocks.{samplesIn, sampleAt}
-use Rattle.blocks.proofs.Bytes.{samples-at}
-use Rattle.step.proofs.Keeping.{kept-steps, steps-offered}
+use Rattle.step.specs.Step.{State, Kept, leftAt}
+use Rattle.step.proofs.Keeping.{kept-all, all-offered}
+use Rattle.blocks.specs.Blocks.{samplesIn, momentAt}
+use Rattle.blocks.proofs.Bytes.{moments-at}
 use Rattle.fields.specs.Fields.{valueIn}
 use Rattle.fields.specs.Values.{samplesOf}
 use Rattle.contents.specs.declared.Content.{Content}
 use Rattle.contents.specs.declared.Content.the-variants.{Own, Foreign, Before, After, Recharge, Refused}
+use Rattle.contents.proofs.Brought.{Says, says}
 use Rattle.reading.specs.declared.Step.{Step}
 use Rattle.reading.specs.declared.Step.the-variants as step
-use Rattle.reading.specs.Reading.{Tale, Answered, Read, bytesOf, runAfter, brought, fieldAt, fieldsOf, ends}
-use Rattle.reading.specs.Answers.{offeredOf, takeBlock}
 use Rattle.reading.specs.declared.Along.{Along}
+use Rattle.reading.specs.declared.Passage.{Passage}
 use Rattle.reading.specs.declared.Stepped.{Stepped}
-use Rattle.reading.specs.Along.{taleAlong, passageOf, frontAs, allAs, Ready}
-use Rattle.reading.proofs.Accepted.{no-bytes}
-use Rattle.contents.proofs.Brought.{Says, says}
-use Rattle.reading.proofs.Cuts.{behind, field-size, unrolled, first-then}
-use Rattle.reading.proofs.Onwards.{Uses, Ends, by-front, by-step}
-use Rattle.reading.proofs.Taking.{Took, Passed}
+use Rattle.reading.specs.Reading.{Tale, Answered, Read, bytesOf, runAfter, brought, fieldAt, fieldsOf, onwards, ends}
+use Rattle.reading.specs.Answers.{offeredOf, takeBlock}
+use Rattle.reading.specs.Along.{taleAlong, steppedLeft, passageLeft, Ready}
+use Rattle.reading.proofs.Accepted.{no-bytes, none-alone}
+use Rattle.reading.proofs.Cuts.{behind, none-before, field-size, field-ends, first-then}
+use Rattle.reading.proofs.Onwards.{Uses, Ends, by-front}
+use Rattle.reading.proofs.Taking.{Took, Passed, along-is}
 
 -- ---- an answer and how many bytes it uses
 
-uses-bytes : (s : Step) → (bytesOf s ≡ 0 → ⊥) → Uses s (bytesOf s)
-uses-bytes (step.Taken n) h = refl
-uses-bytes (step.Passed n) h = refl
-uses-bytes step.Incomplete h = h refl
-uses-bytes (step.Refused x) h = h refl
+uses-bytes : (s : Step) {n : ℕ} → n ≡ bytesOf s → (n ≡ 0 → ⊥) → Uses s n
+uses-bytes (step.Taken n) e h = sym e
+uses-bytes (step.Passed n) e h = sym e
+uses-bytes step.Incomplete e h = h e
+uses-bytes (step.Refused x) e h = h e
 
 bytes-used : (s : Step) (m : ℕ) → Uses s m → bytesOf s ≡ m
 bytes-used (step.Taken n) m u = u
@@ -47,19 +48,40 @@ bytes-used (step.Passed n) m u = u
 bytes-used step.Incomplete m u = absurd u
 bytes-used (step.Refused x) m u = absurd u
 
-module _ (me b : List ℕ) (t : Tolerances) where
+-- ---- a reading with its memory
+
+-- as what has been read
+abbrev tale : Left Along → Tale State
+tale y = taleAlong (y .answer) (y .memory .ledger) (y .memory .map)
+
+-- after the answer to a field
+abbrev next : Left Stepped → Left Along
+next x = record { answer = x .answer .along; memory = x .memory }
+
+-- as the answer to f fields of u bytes, the last answered by s
+abbrev passed : Left Along → ℕ → ℕ → Step → Left Passage
+passed y f u s = record { answer = record { along = y .answer; fields = f; used = u; last = s }; memory = y .memory }
+
+module _ (me : List ℕ) (p : Plan) where
+  -- the field at the front of the input, and all of its whole fields
+  abbrev at : Left Along → List ℕ → Answered State
+  at y = fieldAt offeredOf (takeBlock p) me (tale y)
+
+  abbrev all : Left Along → List ℕ → Read State
+  all y = fieldsOf offeredOf (takeBlock p) me (tale y)
+
   -- ---- what every field keeps
   record Stands (s : State) : Type 0 where
-    kept : Kept b t (goingOf b (t .time) s) (s .ledger) (s .map)
-    few : s .offered ≤ mostOffered
+    kept : Kept p (leftAt p s)
+    few : s .progress .offered ≤ mostOffered
 
-  stands-after : (s : State) (passed tag : ℕ) (v : List ℕ) (c : Content) → Says me passed (s .offered) tag v c → Stands s
-      → Stands (runAfter offeredOf (takeBlock b t) s v c)
+  stands-after : (s : State) (passed tag : ℕ) (v : List ℕ) (c : Content) → Says me passed (s .progress .offered) tag v c → Stands s
+      → Stands (runAfter offeredOf (takeBlock p) s v c)
   stands-after s passed tag v Own o h =
       let q = samplesOf v in
       record {
-        kept = kept-steps b t s (sampleAt q) (samplesIn q) (h .kept) (samples-at q (samplesIn q) (o .1 .samples));
-        few = omega (arith, steps-offered b t s (sampleAt q) (samplesIn q), o .1 .room);
+        kept = kept-all p s (momentAt q) (samplesIn q) (h .kept) (moments-at q (samplesIn q) (o .1 .samples));
+        few = omega (arith, all-offered (courseOf p) s (momentAt q) (samplesIn q), o .1 .room);
       }
   stands-after s passed tag v Foreign o h = h
   stands-after s passed tag v (Before e) o h = h
@@ -67,116 +89,89 @@ module _ (me b : List ℕ) (t : Tolerances) where
   stands-after s passed tag v (Recharge w) o h = h
   stands-after s passed tag v (Refused x) o h = h
 
-  stands-field : (k : Tale State) (i : List ℕ) → Stands (k .run) → Stands (fieldAt offeredOf (takeBlock b t) me k i .tale .run)
+  stands-field : (k : Tale State) (i : List ℕ) → Stands (k .run) → Stands (fieldAt offeredOf (takeBlock p) me k i .tale .run)
   stands-field k i h =
-      by-front offeredOf (takeBlock b t) me (λ (x : Answered State). Stands (x .tale .run)) k i (λ _ _. h)
+      by-front offeredOf (takeBlock p) me (λ (x : Answered State). Stands (x .tale .run)) k i (λ _ _. h)
       (λ tag n _.
       let v = valueIn i n in
-      stands-after (k .run) (k .passed) tag v (brought offeredOf (takeBlock b t) me k tag v) (says me (k .passed) (k .run .offered) tag v (k .place)) h)
+      stands-after (k .run) (k .passed) tag v (brought offeredOf (takeBlock p) me k tag v) (says me (k .passed) (k .run .progress .offered) tag v (k .place)) h)
 
-  module _ (k : Along) (l : List ℤ) (m : List ℕ) (i : List ℕ) (r : Stepped) (l′ : List ℤ) (m′ : List ℕ) (h : Took b (t .time) (frontAs b t k l m me i) r l′ m′) where
-    -- what has been read, on the memory as it is left
-    tale-is : taleAlong (r .along) l′ m′ ≡ frontAs b t k l m me i .tale
-    tale-is = λ j. taleAlong (h .0 j .along) (h .1 .0 j) (h .1 .1 j)
+  ready-after : (y : Left Along) (i : List ℕ) → Ready me p y → Ready me p (next (steppedLeft p (at y i)))
+  ready-after y i h =
+      let here = subst (λ (g : Going). Kept p (left g (y .memory .ledger) (y .memory .map))) (h .kept .stands) (h .kept) in
+      let z = stands-field (tale y) i (record { kept = here; few = h .few }) in
+      record { number = h .number; valid = h .valid; kept = z .kept; few = z .few }
 
-    step-is : r .step ≡ frontAs b t k l m me i .step
-    step-is = ap (λ (x : Stepped). x .step) (h .0)
+  -- ---- from y₀ on, f fields of the first u bytes are taken: what y has to read of the rest is what is left to read
+  pub record Past (y₀ : Left Along) (input : List ℕ) (f u : ℕ) (y : Left Along) : Type 0 where
+    pub within : u ≤ length input
+    pub fewer : f ≤ u
+    pub ready : Ready me p y
+    pub rest : all y₀ input ≡ behind f u (all y (drop u input))
 
-    pub ready-on : Ready me b t k l m → Ready me b t (r .along) l′ m′
-    ready-on y =
-        let a = y .kept in
-        let z = stands-field (taleAlong k l m) i (record { kept = subst (λ (g : Going). Kept b t g l m) (a .stands) a; few = y .few }) in
-        let going : r .along .going ≡ goingOf b (t .time) (frontAs b t k l m me i .tale .run) = ap (λ (x : Stepped). x .along .going) (h .0) in
-        record {
-          number = y .number;
-          valid = y .valid;
-          kept =
-              subst⁻¹ (λ (g : Going). Kept b t g l′ m′) going
-              (subst⁻¹ (λ (x : List ℤ). Kept b t (goingOf b (t .time) (frontAs b t k l m me i .tale .run)) x m′) (h .1 .0)
-              (subst⁻¹ (λ (x : List ℕ). Kept b t (goingOf b (t .time) (frontAs b t k l m me i .tale .run)) (frontAs b t k l m me i .tale .run .ledger) x) (h .1 .1) (z .kept)));
-          few = omega (arith, ap (λ (g : Going). g .offered) going, z .few);
-        }
+  pub past-none : (y : Left Along) (input : List ℕ) → Ready me p y → Past y input 0 0 y
+  past-none y input h = record { within = zero-le; fewer = zero-le; ready = h; rest = none-before (all y input) }
 
-    -- ---- the answer accepts a field
-    module _ (some : bytesOf (r .step) ≡ 0 → ⊥) where
-      uses : Uses (frontAs b t k l m me i .step) (bytesOf (r .step))
-      uses = subst (λ (s : Step). Uses s (bytesOf (r .step))) step-is (uses-bytes (r .step) some)
+  -- all is read
+  ended : {y : Left Along} {x : Read State} {f u : ℕ} {s : Step} → Ready me p y → x ≡ behind f u (ends offeredOf (takeBlock p) (tale y) s) → Passed p x (passed y f u s)
+  ended {y} {f = f} {u = u} {s = s} h e =
+      (λ j. passed (record { answer = along-is (y .answer) (h .kept) j; memory = y .memory }) (sym (add-zero f) j) (sym (add-zero u) j) s) ∙ ap (passageLeft p) (sym e)
 
-      pub size : (3 ≤ bytesOf (r .step)) × (bytesOf (r .step) ≤ length i)
-      size = field-size offeredOf (takeBlock b t) me (taleAlong k l m) i (bytesOf (r .step)) uses
+  module _ {y₀ y : Left Along} {input : List ℕ} {f u : ℕ} (h : Past y₀ input f u y) where
+    pub nothing-left : u ≡ length input → Passed p (all y₀ input) (passed y f u step.Incomplete)
+    nothing-left e =
+        ended (h .ready)
+        (h .rest
+        ∙ ap (λ (i : List ℕ). behind f u (all y i)) (ap (λ (d : ℕ). drop d input) e ∙ drop-length input)
+        ∙ ap (behind f u) (no-bytes offeredOf (takeBlock p) me (tale y)))
 
-      all-step : allAs b t k l m me i ≡ behind 1 (bytesOf (r .step)) (allAs b t (r .along) l′ m′ me (drop (bytesOf (r .step)) i))
-      all-step =
-          first-then offeredOf (takeBlock b t) me (taleAlong k l m) i (bytesOf (r .step)) uses
-          ∙ (λ j. record {
-            tale = rest (sym tale-is j) .tale;
-            fields = one (rest (sym tale-is j) .fields) j;
-            used = bytesOf (r .step) + rest (sym tale-is j) .used;
-            last = rest (sym tale-is j) .last;
-          })
-        where
-          rest : Tale State → Read State
-          rest x = fieldsOf offeredOf (takeBlock b t) me x (drop (bytesOf (r .step)) i)
+    -- a turn of the loop: x answers the field after them, as it is lent on, and accepts n bytes
+    module _ {x : Left Stepped} (q : Took p (at y (take (length input - u) (drop u input))) x) {n : ℕ} (e : n ≡ bytesOf (x .answer .step)) where
+      abbrev i : List ℕ
+      i = drop u input
 
-          one : (n : ℕ) → suc n ≡ 1 + n
-          one n = omega arith
+      here : steppedLeft p (at y i) ≡ x
+      here = sym (q ∙ ap (λ (j : List ℕ). steppedLeft p (at y j)) (part-rest u input))
 
-    -- it accepts none
-    pub all-end : bytesOf (r .step) ≡ 0 → allAs b t k l m me i ≡ ends offeredOf (takeBlock b t) (taleAlong (r .along) l′ m′) (r .step)
-    all-end e =
-        let none : Ends (frontAs b t k l m me i .step) = λ n u.
-        let z = field-size offeredOf (takeBlock b t) me (taleAlong k l m) i n u .0 in
-        omega (arith, bytes-used (frontAs b t k l m me i .step) n u, ap bytesOf step-is) in
-        unrolled offeredOf (takeBlock b t) me (taleAlong k l m) i
-        ∙ by-step offeredOf (takeBlock b t) (λ (x : Read State). x ≡ ends offeredOf (takeBlock b t) (frontAs b t k l m me i .tale) (frontAs b t k l m me i .step))
-        (frontAs b t k l m me i .step) (frontAs b t k l m me i .tale) _ (λ _. refl) (λ n u. absurd (none n u))
-        ∙ (λ j. ends offeredOf (takeBlock b t) (sym tale-is j) (sym step-is j))
+      bytes-is : n ≡ bytesOf (at y i .step)
+      bytes-is = e ∙ sym (ap (λ (z : Left Stepped). bytesOf (z .answer .step)) here)
 
-  -- ---- a turn of the loop: the field after the first u bytes of the input, as they are lent on
-  module _ (k : Along) (l : List ℤ) (m input : List ℕ) (u : ℕ) (r : Stepped) (l′ : List ℤ) (m′ : List ℕ)
-      (h : Took b (t .time) (frontAs b t k l m me (take (length input - u) (drop u input))) r l′ m′) (n : ℕ) (e : n ≡ bytesOf (r .step)) where
-    here : Took b (t .time) (frontAs b t k l m me (drop u input)) r l′ m′
-    here = subst (λ (i : List ℕ). Took b (t .time) (frontAs b t k l m me i) r l′ m′) (part-rest u input) h
+      ready-next : Ready me p (next x)
+      ready-next = subst (λ (z : Left Stepped). Ready me p (next z)) here (ready-after y i (h .ready))
 
-    pub turn-ready : Ready me b t k l m → Ready me b t (r .along) l′ m′
-    turn-ready = ready-on k l m (drop u input) r l′ m′ here
+      module _ (some : n ≡ 0 → ⊥) where
+        uses : Uses (at y i .step) n
+        uses = uses-bytes (at y i .step) bytes-is some
 
-    pub turn-size : (n ≡ 0 → ⊥) → u ≤ length input → (3 ≤ n) × (u + n ≤ length input)
-    turn-size some g =
-        let (low, high) = size k l m (drop u input) r l′ m′ here (λ z. some (e ∙ z)) in
-        (omega arith, omega (arith, length-drop u input))
+        pub turn-size : (3 ≤ n) × (u + n ≤ length input)
+        turn-size =
+            let (low, high) = field-size offeredOf (takeBlock p) me (tale y) i n uses in
+            (low, omega (arith, length-drop u input, h .within))
 
-    pub turn : (n ≡ 0 → ⊥) → (f : ℕ) → behind f u (allAs b t k l m me (drop u input)) ≡ behind (f + 1) (u + n) (allAs b t (r .along) l′ m′ me (drop (u + n) input))
-    turn some f =
-        let y : ℕ → Read State = λ d. allAs b t (r .along) l′ m′ me (drop d input) in
-        ap (behind f u) (all-step k l m (drop u input) r l′ m′ here (λ z. some (e ∙ z)))
-        ∙ ap (λ (j : ℕ). behind f u (behind 1 j (allAs b t (r .along) l′ m′ me (drop j (drop u input))))) (sym e)
-        ∙ ap (λ (i : List ℕ). behind f u (behind 1 n (allAs b t (r .along) l′ m′ me i))) (drop-drop n u input)
-        ∙ (λ j. record {
-          tale = y (u + n) .tale;
-          fields = sym (add-assoc f 1 (y (u + n) .fields)) j;
-          used = sym (add-assoc u n (y (u + n) .used)) j;
-          last = y (u + n) .last;
-        })
+        pub turn : Past y₀ input (f + 1) (u + n) (next x)
+        turn =
+            let (low, high) = turn-size in
+            let z = all (next x) (drop (u + n) input) in
+            let one : f + suc (z .fields) ≡ f + 1 + z .fields = omega arith in
+            record {
+              within = high;
+              fewer = omega (arith, h .fewer);
+              ready = ready-next;
+              rest =
+                  h .rest
+                  ∙ ap (behind f u) (first-then offeredOf (takeBlock p) me (tale y) i n uses)
+                  ∙ (λ j. behind f u (onwards offeredOf (takeBlock p) n (all (next (here j)) (drop-drop n u input j))))
+                  ∙ (λ j. record { tale = z .tale; fields = one j; used = sym (add-assoc u n (z .used)) j; last = z .last });
+            }
 
-    pub turn-end : n ≡ 0 → (f : ℕ) → behind f u (allAs b t k l m me (drop u input)) ≡ record { tale = taleAlong (r .along) l′ m′; fields = f; used = u; last = r .step }
-    turn-end none f =
-        ap (behind f u) (all-end k l m (drop u input) r l′ m′ here (sym e ∙ none))
-        ∙ (λ j. record { tale = taleAlong (r .along) l′ m′; fields = add-zero f j; used = add-zero u j; last = r .step })
-
-  -- no bytes are left
-  pub nothing-left : (k : Along) (l : List ℤ) (m input : List ℕ) (u : ℕ) → u ≡ length input → (f : ℕ)
-      → behind f u (allAs b t k l m me (drop u input)) ≡ record { tale = taleAlong k l m; fields = f; used = u; last = step.Incomplete }
-  nothing-left k l m input u e f =
-      ap (λ (i : List ℕ). behind f u (allAs b t k l m me i)) (ap (λ (d : ℕ). drop d input) e ∙ drop-length input)
-      ∙ ap (behind f u) (no-bytes offeredOf (takeBlock b t) me (taleAlong k l m))
-      ∙ (λ j. record { tale = taleAlong k l m; fields = add-zero f j; used = add-zero u j; last = step.Incomplete })
-
--- after the last: the reading and its memory are those of x
-pub passage : (me b : List ℕ) (t : Tolerances) (x : Read State) (k : Along) (l : List ℤ) (m : List ℕ) (f u : ℕ) (s : Step) → Ready me b t k l m
-    → x ≡ record { tale = taleAlong k l m; fields = f; used = u; last = s }
-    → Passed b (t .time) x (record { along = k; fields = f; used = u; last = s }) l m
-passage me b t x k l m f u s h e = (
-  (λ j. record { along = record { place = k .place; passed = k .passed; amounts = k .amounts; going = h .kept .stands j }; fields = f; used = u; last = s }) ∙ sym (ap (passageOf b (t .time)) e),
-  (sym (ap (λ (y : Read State). y .tale .run .ledger) e), sym (ap (λ (y : Read State). y .tale .run .map) e)),
-)
+      -- it accepts none
+      pub turn-end : n ≡ 0 → Passed p (all y₀ input) (passed (next x) f u (x .answer .step))
+      turn-end none =
+          let no-field : Ends (at y i .step) = λ m w.
+          omega (arith, field-size offeredOf (takeBlock p) me (tale y) i m w .0, bytes-used (at y i .step) m w, bytes-is) in
+          ended ready-next
+          (h .rest
+          ∙ ap (behind f u)
+          (none-alone offeredOf (takeBlock p) me (tale y) i _ refl no-field
+          ∙ ap (λ (k : Tale State). ends offeredOf (takeBlock p) k (at y i .step)) (sym (field-ends offeredOf (takeBlock p) me (tale y) i no-field))
+          ∙ (λ j. ends offeredOf (takeBlock p) (tale (next (here j))) (here j .answer .step))))

@@ -9,7 +9,9 @@ use lib.ListN.{length}
 use Rattle.rules.specs.declared.Amounts.{Amounts}
 use Rattle.rules.specs.declared.Tolerances.{Tolerances}
 use Rattle.rules.specs.Bench.{mostOffered, mostPassed}
-use Rattle.step.specs.Step.{State, Kept, held, standing, goingOf, withGoing}
+use Rattle.rules.specs.Regular.{Plan, plan}
+use Rattle.state.specs.State.{Left, left}
+use Rattle.step.specs.Step.{State, Kept, held, standing, leftAt, withProgress}
 use Rattle.blocks.specs.Blocks.{samplesIn, areSamples}
 use Rattle.fields.specs.Values.{isNumber, samplesOf}
 use Rattle.contents.specs.declared.Content.{Content}
@@ -23,24 +25,27 @@ pub use Rattle.reading.specs.declared.Passage.{Passage}
 
 -- where a reading of the cycle b stands, and the reading taken on to where it stands now
 abbrev pub alongAt : Reading → List ℕ → Along
-alongAt r b = record { place = r .place; passed = r .passed; amounts = r .amounts; going = standing b (r .run .tolerances .time) (r .run .offered) (r .run .counted) (r .run .end) }
+alongAt r b = record { place = r .place; passed = r .passed; amounts = r .amounts; going = standing b (r .run .track .tolerances .time) (r .run .progress) }
 
 abbrev pub withAlong : Reading → Along → Reading
-withAlong r k = record { vehicle = r .vehicle; place = k .place; passed = k .passed; amounts = k .amounts; run = withGoing (r .run) (k .going) }
+withAlong r k = record { vehicle = r .vehicle; place = k .place; passed = k .passed; amounts = k .amounts; run = withProgress (r .run) (k .going .progress) }
 
--- as what has been read, on the memory l and m; and back, for the cycle b and the time tolerance w
+-- as what has been read, on the memory l and m; and back
 abbrev pub taleAlong : Along → List ℤ → List ℕ → Tale State
 taleAlong k l m = record { place = k .place; passed = k .passed; amounts = k .amounts; run = held (k .going) l m }
 
-abbrev pub alongOf : List ℕ → ℕ → Tale State → Along
-alongOf b w x = record { place = x .place; passed = x .passed; amounts = x .amounts; going = goingOf b w (x .run) }
+abbrev pub alongOf : Plan → Tale State → Along
+alongOf p x = record { place = x .place; passed = x .passed; amounts = x .amounts; going = leftAt p (x .run) .answer }
 
--- the answer to a field, and to all
-abbrev pub steppedOf : List ℕ → ℕ → Answered State → Stepped
-steppedOf b w x = record { step = x .step; along = alongOf b w (x .tale) }
+-- the answer to a field, and to all, with the memory that is left
+abbrev pub steppedLeft : Plan → Answered State → Left Stepped
+steppedLeft p x = record { answer = record { step = x .step; along = alongOf p (x .tale) }; memory = x .tale .run .memory }
 
-abbrev pub passageOf : List ℕ → ℕ → Read State → Passage
-passageOf b w x = record { along = alongOf b w (x .tale); fields = x .fields; used = x .used; last = x .last }
+abbrev pub passageLeft : Plan → Read State → Left Passage
+passageLeft p x = record {
+  answer = record { along = alongOf p (x .tale); fields = x .fields; used = x .used; last = x .last };
+  memory = x .tale .run .memory;
+}
 
 -- a block is passed over; an amount is brought, and moves the place in the order
 abbrev pub withPassed : Along → Along
@@ -51,31 +56,31 @@ withAmounts k place a = record { place = place; passed = k .passed; amounts = a;
 
 module _ (b : List ℕ) (t : Tolerances) (k : Along) (l : List ℤ) (m : List ℕ) where
   -- the content c of the value v, in a field of n bytes
-  abbrev pub takenAs : List ℕ → Content → ℕ → Answered State
-  takenAs v c n = record { step = stepOf c n; tale = taleAfter offeredOf (takeBlock b t) (taleAlong k l m) v c }
+  abbrev pub contentTaken : List ℕ → Content → ℕ → Left Stepped
+  contentTaken v c n = steppedLeft (plan b t) (record { step = stepOf c n; tale = taleAfter offeredOf (takeBlock (plan b t)) (taleAlong k l m) v c })
 
   -- a whole field, of the vehicle me
-  abbrev pub wholeAs : List ℕ → ℕ → List ℕ → Answered State
-  wholeAs me tag v = takenAs v (brought offeredOf (takeBlock b t) me (taleAlong k l m) tag v) (3 + length v)
+  abbrev pub wholeTaken : List ℕ → ℕ → List ℕ → Left Stepped
+  wholeTaken me tag v = contentTaken v (brought offeredOf (takeBlock (plan b t)) me (taleAlong k l m) tag v) (3 + length v)
 
   -- the field at the front of the input, and all of its whole fields
-  abbrev pub frontAs : List ℕ → List ℕ → Answered State
-  frontAs me i = fieldAt offeredOf (takeBlock b t) me (taleAlong k l m) i
+  abbrev pub frontTaken : List ℕ → List ℕ → Left Stepped
+  frontTaken me i = steppedLeft (plan b t) (fieldAt offeredOf (takeBlock (plan b t)) me (taleAlong k l m) i)
 
-  abbrev pub allAs : List ℕ → List ℕ → Read State
-  allAs me i = fieldsOf offeredOf (takeBlock b t) me (taleAlong k l m) i
+  abbrev pub allTaken : List ℕ → List ℕ → Left Passage
+  allTaken me i = passageLeft (plan b t) (fieldsOf offeredOf (takeBlock (plan b t)) me (taleAlong k l m) i)
 
 -- what the content c of the value v brings may be taken
-pub record Brought (b : List ℕ) (t : Tolerances) (k : Along) (l : List ℤ) (m : List ℕ) (v : List ℕ) (c : Content) : Type 0 where
-  pub kept : Kept b t (k .going) l m
+pub record Brought (p : Plan) (y : Left Along) (v : List ℕ) (c : Content) : Type 0 where
+  pub kept : Kept p (left (y .answer .going) (y .memory .ledger) (y .memory .map))
   pub long : c ≡ Own → 21 ≤ length v
-  pub room : c ≡ Own → k .going .offered + samplesIn (samplesOf v) ≤ mostOffered
+  pub room : c ≡ Own → y .answer .going .progress .offered + samplesIn (samplesOf v) ≤ mostOffered
   pub samples : c ≡ Own → areSamples (samplesOf v) (samplesIn (samplesOf v)) ≡ true
-  pub count : c ≡ Foreign → k .passed + 1 ≤ mostPassed
+  pub count : c ≡ Foreign → y .answer .passed + 1 ≤ mostPassed
 
 -- what holds of a reading while fields are taken
-pub record Ready (me : List ℕ) (b : List ℕ) (t : Tolerances) (k : Along) (l : List ℤ) (m : List ℕ) : Type 0 where
+pub record Ready (me : List ℕ) (p : Plan) (y : Left Along) : Type 0 where
   pub number : 17 ≤ length me
   pub valid : isNumber me ≡ true
-  pub kept : Kept b t (k .going) l m
-  pub few : k .going .offered ≤ mostOffered
+  pub kept : Kept p (left (y .answer .going) (y .memory .ledger) (y .memory .map))
+  pub few : y .answer .going .progress .offered ≤ mostOffered

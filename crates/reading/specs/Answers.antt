@@ -8,13 +8,13 @@ use lib.IntN.{ℤ, pos}
 use Rattle.numbers.specs.Tests.{unless, settled}
 use Rattle.rules.specs.declared.Amounts.{Amounts}
 use Rattle.rules.specs.declared.Charge.the-variants.{Absent as absent}
-use Rattle.rules.specs.declared.Tolerances.{Tolerances}
 use Rattle.rules.specs.Bench.{mostPassed}
+use Rattle.rules.specs.Regular.{Plan, plan, courseOf}
 use Rattle.rules.specs.Closing.{areAmounts}
 use Rattle.state.specs.declared.Run.{Run}
 use Rattle.state.specs.State.{ground}
-use Rattle.step.specs.Step.{State, steps, stateOf, runOf}
-use Rattle.blocks.specs.Blocks.{sampleAt, samplesIn}
+use Rattle.step.specs.Step.{State, samplesTaken, stateOf, withProgress}
+use Rattle.blocks.specs.Blocks.{momentAt, samplesIn}
 use Rattle.fields.specs.Values.{isNumber}
 use Rattle.reading.specs.Reading.{Tale, Answered, Read, fieldAt, fieldsOf}
 use Rattle.reading.specs.declared.Reading.{Reading}
@@ -30,17 +30,21 @@ startedReading v r = record { vehicle = v; place = 0; passed = 0; amounts = noAm
 
 -- how many samples the judge was offered, and a block's samples, taken by it
 abbrev pub offeredOf : State → ℕ
-offeredOf a = a .offered
+offeredOf a = a .progress .offered
 
-abbrev pub takeBlock : List ℕ → Tolerances → State → List ℕ → State
-takeBlock b t a q = steps b t a (sampleAt q) (samplesIn q)
+abbrev pub takeBlock : Plan → State → List ℕ → State
+takeBlock p a q = samplesTaken (courseOf p) a (momentAt q) (samplesIn q)
 
 -- a reading on its lent memory, and the reading that is left
 abbrev pub taleOf : Reading → List ℤ → List ℕ → Tale State
 taleOf r l m = record { place = r .place; passed = r .passed; amounts = r .amounts; run = stateOf (r .run) l m }
 
 abbrev pub readingOf : Reading → Tale State → Reading
-readingOf r k = record { vehicle = r .vehicle; place = k .place; passed = k .passed; amounts = k .amounts; run = runOf (r .run) (k .run) }
+readingOf r k = record { vehicle = r .vehicle; place = k .place; passed = k .passed; amounts = k .amounts; run = withProgress (r .run) (k .run .progress) }
+
+-- the plan of its run, on the cycle b
+abbrev pub planOf : Reading → List ℕ → Plan
+planOf r b = plan b (r .run .track .tolerances)
 
 -- no number of the reader's own is beyond its limits (the run's are tested with its memory)
 unfoldable pub isReading : Reading → Bool
@@ -55,11 +59,11 @@ unfoldable pub readOf : Reading → List ℕ → List ℤ → List ℕ → List 
 readOf r b l m i =
     let x = readGround r b l m in
     let k = taleOf r l m in
-    settled x (fieldAt offeredOf (takeBlock b (r .run .tolerances)) (r .vehicle) k i) (record { step = step.Refused x; tale = k })
+    settled x (fieldAt offeredOf (takeBlock (planOf r b)) (r .vehicle) k i) (record { step = step.Refused x; tale = k })
 
 -- a call of `read_all`
 unfoldable pub readAllOf : Reading → List ℕ → List ℤ → List ℕ → List ℕ → Read State
 readAllOf r b l m i =
     let x = readGround r b l m in
     let k = taleOf r l m in
-    settled x (fieldsOf offeredOf (takeBlock b (r .run .tolerances)) (r .vehicle) k i) (record { tale = k; fields = 0; used = 0; last = step.Refused x })
+    settled x (fieldsOf offeredOf (takeBlock (planOf r b)) (r .vehicle) k i) (record { tale = k; fields = 0; used = 0; last = step.Refused x })

@@ -12,7 +12,7 @@ use rules::limits::MOST_PASSED;
 use state::Run;
 use state::ground_refusal;
 use step::Going;
-use step::place;
+use step::going_at;
 use step::with_going;
 use values::are_amounts;
 ghost use mathlib.Core.Path.{_≡_};
@@ -20,11 +20,13 @@ ghost use mathlib.Core.Bool.{true};
 ghost use Prim.Native.Nat.{_+_, _≤_};
 ghost use lib.ListN.{length};
 ghost use Rattle.rules.specs.Cycle.{valid, seconds};
-ghost use Rattle.rules.specs.Bench.{mostPassed};
+ghost use Rattle.rules.specs.Bench.{mostTimeTolerance, mostPassed};
 ghost use Rattle.fields.specs.Fields.{isLength};
 ghost use Rattle.reading.specs.Reading.{bytesOf};
 ghost use Rattle.reading.specs.Answers.{isReading, readGround};
-ghost use Rattle.reading.specs.Along.{alongAt, withAlong, steppedOf, passageOf, withPassed, withAmounts, takenAs, wholeAs, frontAs, allAs, Brought, Ready};
+ghost use Rattle.rules.specs.Regular.{plan};
+ghost use Rattle.state.specs.State.{left};
+ghost use Rattle.reading.specs.Along.{alongAt, withAlong, withPassed, withAmounts, contentTaken, wholeTaken, frontTaken, allTaken, Brought, Ready};
 
 // After the start. Place in the order: 0 after the tolerances, 1 after a 6 before, 2 after an own block, 3 after a 6 after, 4 after a 7.
 pub struct Reading {
@@ -96,7 +98,11 @@ pub fn read_refusal(r: Reading, cycle: &[u8], ledger: &[i64], map: &[u64]) -> u3
 
 // Where the reading stands.
 pub fn along_at(r: Reading, cycle: &[u8]) -> Along
-    requires { ⌜ (valid (now cycle) ≡ true) × (seconds (now cycle) ≡ r .run .seconds) × (r .run .tolerances .time ≤ 40) ⌝ }
+    requires { ⌜
+        (valid (now cycle) ≡ true)
+        × (seconds (now cycle) ≡ r .run .track .seconds)
+        × (r .run .track .tolerances .time ≤ mostTimeTolerance)
+        ⌝ }
     ensures { λ x. ⌜ x ≡ alongAt r (now (cycle .entry)) ⌝ }
 {
     let run = r.run;
@@ -105,7 +111,7 @@ pub fn along_at(r: Reading, cycle: &[u8]) -> Along
         place: r.place,
         passed: r.passed,
         amounts,
-        going: place(cycle, run),
+        going: going_at(cycle, run),
     }
 }
 
@@ -169,10 +175,11 @@ fn take_content(
     c: Content,
     n: usize,
 ) -> Stepped
-    requires { ⌜ Brought (now cycle) t k (now ledger) (now map) (now v) c ⌝ }
-    ensures { λ r. ⌜ r ≡ steppedOf (now (cycle .entry)) (t .time) (takenAs (now (cycle .entry)) t k (now (ledger .entry)) (now (map .entry)) (now (v .entry)) c n) ⌝ }
-    ensures { λ _. ⌜ now (ledger .exit) ≡ takenAs (now (cycle .entry)) t k (now (ledger .entry)) (now (map .entry)) (now (v .entry)) c n .tale .run .ledger ⌝ }
-    ensures { λ _. ⌜ now (map .exit) ≡ takenAs (now (cycle .entry)) t k (now (ledger .entry)) (now (map .entry)) (now (v .entry)) c n .tale .run .map ⌝ }
+    requires { ⌜ Brought (plan (now cycle) t) (left k (now ledger) (now map)) (now v) c ⌝ }
+    ensures { λ r. ⌜
+        left r (now (ledger .exit)) (now (map .exit))
+        ≡ contentTaken (now (cycle .entry)) t k (now (ledger .entry)) (now (map .entry)) (now (v .entry)) c n
+        ⌝ }
 {
     let going = k.going;
     let amounts = k.amounts;
@@ -221,13 +228,14 @@ fn whole_field(
     tag: u8,
     v: &[u8],
 ) -> Stepped
-    requires { ⌜ Ready (now me) (now cycle) t k (now ledger) (now map) × (isLength tag (length (now v)) ≡ true) ⌝ }
-    ensures { λ r. ⌜ r ≡ steppedOf (now (cycle .entry)) (t .time) (wholeAs (now (cycle .entry)) t k (now (ledger .entry)) (now (map .entry)) (now (me .entry)) tag (now (v .entry))) ⌝ }
-    ensures { λ _. ⌜ now (ledger .exit) ≡ wholeAs (now (cycle .entry)) t k (now (ledger .entry)) (now (map .entry)) (now (me .entry)) tag (now (v .entry)) .tale .run .ledger ⌝ }
-    ensures { λ _. ⌜ now (map .exit) ≡ wholeAs (now (cycle .entry)) t k (now (ledger .entry)) (now (map .entry)) (now (me .entry)) tag (now (v .entry)) .tale .run .map ⌝ }
+    requires { ⌜ Ready (now me) (plan (now cycle) t) (left k (now ledger) (now map)) × (isLength tag (length (now v)) ≡ true) ⌝ }
+    ensures { λ r. ⌜
+        left r (now (ledger .exit)) (now (map .exit))
+        ≡ wholeTaken (now (cycle .entry)) t k (now (ledger .entry)) (now (map .entry)) (now (me .entry)) tag (now (v .entry))
+        ⌝ }
 {
     let going = k.going;
-    let c = content_of(me, k.place, k.passed, going.offered, tag, v);
+    let c = content_of(me, k.place, k.passed, going.progress.offered, tag, v);
     take_content(cycle, t, k, &mut *ledger, &mut *map, v, c, 3 + v.len())
 }
 
@@ -241,10 +249,11 @@ pub fn one_field(
     map: &mut [u64],
     input: &[u8],
 ) -> Stepped
-    requires { ⌜ Ready (now me) (now cycle) t k (now ledger) (now map) ⌝ }
-    ensures { λ r. ⌜ r ≡ steppedOf (now (cycle .entry)) (t .time) (frontAs (now (cycle .entry)) t k (now (ledger .entry)) (now (map .entry)) (now (me .entry)) (now (input .entry))) ⌝ }
-    ensures { λ _. ⌜ now (ledger .exit) ≡ frontAs (now (cycle .entry)) t k (now (ledger .entry)) (now (map .entry)) (now (me .entry)) (now (input .entry)) .tale .run .ledger ⌝ }
-    ensures { λ _. ⌜ now (map .exit) ≡ frontAs (now (cycle .entry)) t k (now (ledger .entry)) (now (map .entry)) (now (me .entry)) (now (input .entry)) .tale .run .map ⌝ }
+    requires { ⌜ Ready (now me) (plan (now cycle) t) (left k (now ledger) (now map)) ⌝ }
+    ensures { λ r. ⌜
+        left r (now (ledger .exit)) (now (map .exit))
+        ≡ frontTaken (now (cycle .entry)) t k (now (ledger .entry)) (now (map .entry)) (now (me .entry)) (now (input .entry))
+        ⌝ }
 {
     let front = front_of(input);
     match front {
@@ -293,10 +302,11 @@ pub fn all_fields(
     map: &mut [u64],
     input: &[u8],
 ) -> Passage
-    requires { ⌜ Ready (now me) (now cycle) t k (now ledger) (now map) ⌝ }
-    ensures { λ r. ⌜ r ≡ passageOf (now (cycle .entry)) (t .time) (allAs (now (cycle .entry)) t k (now (ledger .entry)) (now (map .entry)) (now (me .entry)) (now (input .entry))) ⌝ }
-    ensures { λ _. ⌜ now (ledger .exit) ≡ allAs (now (cycle .entry)) t k (now (ledger .entry)) (now (map .entry)) (now (me .entry)) (now (input .entry)) .tale .run .ledger ⌝ }
-    ensures { λ _. ⌜ now (map .exit) ≡ allAs (now (cycle .entry)) t k (now (ledger .entry)) (now (map .entry)) (now (me .entry)) (now (input .entry)) .tale .run .map ⌝ }
+    requires { ⌜ Ready (now me) (plan (now cycle) t) (left k (now ledger) (now map)) ⌝ }
+    ensures { λ r. ⌜
+        left r (now (ledger .exit)) (now (map .exit))
+        ≡ allTaken (now (cycle .entry)) t k (now (ledger .entry)) (now (map .entry)) (now (me .entry)) (now (input .entry))
+        ⌝ }
 {
     let size = input.len();
     let mut along = k;

@@ -18,7 +18,7 @@ use Rattle.opening.specs.Opening.{Begun, Opened, openAt}
 use Rattle.opening.specs.Answers.{Held, hold, cycleIn, nothing, begunOf, openingOf, openGround, openOf}
 use Rattle.opening.specs.declared.Opening.{Opening}
 use Rattle.reading.specs.declared.Reading.{Reading}
-use Rattle.reading.specs.Answers.{startedReading, offeredOf, takeBlock, taleOf, readingOf, readGround, readOf, readAllOf}
+use Rattle.reading.specs.Answers.{startedReading, offeredOf, takeBlock, taleOf, readingOf, readGround, readOf, readAllOf, planOf}
 use Rattle.reading.specs.declared.Step.the-variants as step
 use Rattle.opening.specs.declared.OpenStep.the-variants as opening
 use Rattle.reading.proofs.Onwards.{Uses, Ends}
@@ -50,12 +50,12 @@ module _ (lent : Lent) where
   -- after the start: the bytes taken, the cycle, how many fields were accepted, and the reading, the ledger and the map that the calls left
   pub data Since : List ℕ → List ℕ → ℕ → Reading → List ℤ → List ℕ → Type 0 where
     begun : {p : List ℕ} {o : Opening} {room : List ℕ} → Until p o room → (i : List ℕ) (n : ℕ) (r : Run) → openOf o room l₀ m₀ i .step ≡ opening.Started n r
-        → Since (p ++ take n i) (take (o .cycle) room) 4 (startedReading (o .vehicle) r) (startOf l₀ m₀ .ledger) (startOf l₀ m₀ .map)
+        → Since (p ++ take n i) (take (o .cycle) room) 4 (startedReading (o .vehicle) r) (startOf l₀ m₀ .memory .ledger) (startOf l₀ m₀ .memory .map)
     field : {p b : List ℕ} {n : ℕ} {r : Reading} {l : List ℤ} {m : List ℕ} → Since p b n r l m → (i : List ℕ) (k : ℕ) → Uses (readOf r b l m i .step) k
-        → Since (p ++ take k i) b (suc n) (readingOf r (readOf r b l m i .tale)) (readOf r b l m i .tale .run .ledger) (readOf r b l m i .tale .run .map)
+        → Since (p ++ take k i) b (suc n) (readingOf r (readOf r b l m i .tale)) (readOf r b l m i .tale .run .memory .ledger) (readOf r b l m i .tale .run .memory .map)
     all : {p b : List ℕ} {n : ℕ} {r : Reading} {l : List ℤ} {m : List ℕ} → Since p b n r l m → (i : List ℕ)
         → Since (p ++ take (readAllOf r b l m i .used) i) b (n + readAllOf r b l m i .fields) (readingOf r (readAllOf r b l m i .tale))
-        (readAllOf r b l m i .tale .run .ledger) (readAllOf r b l m i .tale .run .map)
+        (readAllOf r b l m i .tale .run .memory .ledger) (readAllOf r b l m i .tale .run .memory .map)
 
 -- ---- a call that accepts nothing is no step of a record
 
@@ -82,9 +82,9 @@ read-changes-nothing r b l m i = go (eqb (readGround r b l m) 0)
   where
     call : Bool → Answered State
     call t =
-        cond t (fieldAt offeredOf (takeBlock b (r .run .tolerances)) (r .vehicle) (taleOf r l m) i)
+        cond t (fieldAt offeredOf (takeBlock (planOf r b)) (r .vehicle) (taleOf r l m) i)
         (record { step = step.Refused (readGround r b l m); tale = taleOf r l m })
 
     go : (t : Bool) → Ends (call t .step) → call t .tale ≡ taleOf r l m
-    go true = field-ends offeredOf (takeBlock b (r .run .tolerances)) (r .vehicle) (taleOf r l m) i
+    go true = field-ends offeredOf (takeBlock (planOf r b)) (r .vehicle) (taleOf r l m) i
     go false = λ _. refl

@@ -6,7 +6,7 @@ use mathlib.Core.Path.{_≡_, refl, sym, ap, _∙_}
 use Prim.Native.Nat.{ℕ, suc, _+_, _-_, _≤_}
 use native.Mathlib.Omega.{arith}
 use lib.ListN.{length, drop, length-append}
-use Rattle.rules.specs.declared.Sample.{Sample}
+use Rattle.rules.specs.declared.Moment.{Moment}
 use Rattle.rules.specs.Bench.{mostPassed}
 use Rattle.fields.specs.declared.Front.the-variants.{Field as field}
 use Rattle.fields.specs.Fields.{valueIn, frontOf}
@@ -38,7 +38,7 @@ passed-longer : (p : List ℕ) (x : Told) (n : ℕ) → Tells p x n → (q : Lis
 unfolding passedIn
 passed-longer p x n h q =
     ap (λ (y : OpenRead (List ℕ)). passedBy (y .last) (fieldsIn (y .begun .vehicle) (drop (y .used) (p ++ q)) .tale .passed)) (opened-longer p x n h q)
-    ∙ ap (λ (y : Read (List Sample)). y .tale .passed) (read-longer p x n h q)
+    ∙ ap (λ (y : Read (List Moment)). y .tale .passed) (read-longer p x n h q)
 
 -- with one block more passed over: the count is one higher, and so is the number of a refused field
 abbrev pub oneMore : Sheet → Sheet
@@ -71,7 +71,7 @@ foreign-blocks-change-nothing p f q x n e place front size number other room =
     let fields-are : 4 + (w .fields + suc (y .fields)) ≡ suc (4 + (w .fields + y .fields)) = omega arith in
     let left-is : length (f ++ q) - (3 + n + y .used) ≡ length q - y .used = omega (arith, length-append f q) in
     sheet-longer p x (w .fields) (w .tells) (f ++ q)
-    ∙ ap (λ (z : Read (List Sample)). sheetBy (z .last) (withTale x (z .tale)) (4 + (w .fields + z .fields)) (length (f ++ q) - z .used))
+    ∙ ap (λ (z : Read (List Moment)). sheetBy (z .last) (withTale x (z .tale)) (4 + (w .fields + z .fields)) (length (f ++ q) - z .used))
     (foreign-changes-nothing length withBlock (x .vehicle) (x .tale) f n front number other place size q r)
     ∙ (λ j. sheetBy (y .last) (withTale x (morePassed (y .tale))) (fields-are j) (left-is j))
     ∙ one-more (y .last) (withTale x (y .tale)) (4 + (w .fields + y .fields)) (length q - y .used)

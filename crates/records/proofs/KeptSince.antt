@@ -11,12 +11,13 @@ use lib.IntN.{ℤ}
 use lib.ListN.{length, take, drop}
 use lib.Seq.{length-take-le}
 use Rattle.numbers.proofs.Tests.{pass, settled-taken}
-use Rattle.rules.specs.declared.Sample.{Sample}
+use Rattle.rules.specs.declared.Moment.{Moment}
 use Rattle.rules.specs.Closing.{areAmounts}
+use Rattle.rules.specs.Regular.{plan}
 use Rattle.state.specs.declared.Run.{Run}
-use Rattle.step.specs.Step.{State, startOf, runOf}
+use Rattle.step.specs.Step.{State, startOf, withProgress}
 use Rattle.state.specs.Refusals.{startRefusal}
-use Rattle.blocks.proofs.Bytes.{taken-by}
+use Rattle.blocks.proofs.Bytes.{accepted-by}
 use Rattle.judge.proofs.Runs as runs
 use Rattle.judge.proofs.Runs.{Reached}
 use Rattle.fields.specs.Values.{isNumber}
@@ -24,7 +25,7 @@ use Rattle.reading.specs.Reading.{Tale, Answered, Read, fieldAt, fieldsOf}
 use Rattle.opening.specs.Opening.{Begun, Opened}
 use Rattle.opening.specs.Answers.{Held, cycleIn, begunOf}
 use Rattle.reading.specs.declared.Reading.{Reading}
-use Rattle.reading.specs.Answers.{startedReading, offeredOf, takeBlock, taleOf, readingOf, isReading, readGround, readOf, readAllOf}
+use Rattle.reading.specs.Answers.{startedReading, offeredOf, takeBlock, taleOf, readingOf, isReading, readGround, readOf, readAllOf, planOf}
 use Rattle.records.specs.Records.{Told, withBlock, sheetBy, sheetOf}
 use Rattle.reading.specs.declared.Step.{Step}
 use Rattle.reading.specs.declared.Step.the-variants as step
@@ -42,39 +43,39 @@ use Rattle.records.proofs.Calls.Since.{begun as started-by, field as re
 use Rattle.records.proofs.KeptUntil.{Begins, call-is, begins-start, until-begins}
 
 -- what a reading and its samples tell
-abbrev pub toldOf : Reading → List ℕ → List Sample → Told
+abbrev pub toldOf : Reading → List ℕ → List Moment → Told
 toldOf r b xs = record {
   vehicle = r .vehicle;
   cycle = b;
-  tolerances = r .run .tolerances;
+  tolerances = r .run .track .tolerances;
   tale = record { place = r .place; passed = r .passed; amounts = r .amounts; run = xs };
 }
 
 -- a reading within its limits, whose memory is that of its run, has no 1 or 2
-module _ {b : List ℕ} {l₀ : List ℤ} {m₀ : List ℕ} {xs : List Sample} (r : Reading) (l : List ℤ) (m : List ℕ) (limits : InLimits (taleOf r l m)) (number : isNumber (r .vehicle) ≡ true)
-    (reached : Reached b (r .run .tolerances) l₀ m₀ xs (r .run) l m) where
+module _ {b : List ℕ} {l₀ : List ℤ} {m₀ : List ℕ} {xs : List Moment} (r : Reading) (l : List ℤ) (m : List ℕ) (limits : InLimits (taleOf r l m)) (number : isNumber (r .vehicle) ≡ true)
+    (reached : Reached (planOf r b) l₀ m₀ xs (r .run) l m) where
   is-reading : isReading r ≡ true
   unfolding isReading
   is-reading = rw (le-leb _ _ (limits .place), le-leb _ _ (limits .passed), limits .amounts, number)
 
   reached-ground : readGround r b l m ≡ 0
   unfolding readGround
-  reached-ground = sym (pass 1 is-reading (sym (runs.never-refused b (r .run .tolerances) l₀ m₀ reached 0)))
+  reached-ground = sym (pass 1 is-reading (sym (runs.never-refused (planOf r b) l₀ m₀ reached 0)))
 
 -- a run that has just started, on whatever memory granted it
 module _ (l : List ℤ) (m : List ℕ) (k : Begun Held) (i : List ℕ) (n : ℕ) (r : Run) (e : onRoom l m k i .step ≡ opening.Started n r) where
-  start-reached : Reached (cycleIn (k .kept)) (r .tolerances) l m [] r (startOf l m .ledger) (startOf l m .map)
+  start-reached : Reached (plan (cycleIn (k .kept)) (r .track .tolerances)) l m [] r (startOf l m .memory .ledger) (startOf l m .memory .map)
   start-reached =
       let w = starts _ _ (λ b t. startRefusal b t l m) k i n r e in
-      subst (λ (y : Run). Reached (cycleIn (k .kept)) (y .tolerances) l m [] y (startOf l m .ledger) (startOf l m .map)) (sym (w .run))
+      subst (λ (y : Run). Reached (plan (cycleIn (k .kept)) (y .track .tolerances)) l m [] y (startOf l m .memory .ledger) (startOf l m .memory .map)) (sym (w .run))
       (runs.Reached.start (w .granted))
 
-  start-limits : InLimits (taleOf (startedReading (k .vehicle) r) (startOf l m .ledger) (startOf l m .map))
+  start-limits : InLimits (taleOf (startedReading (k .vehicle) r) (startOf l m .memory .ledger) (startOf l m .memory .map))
   unfolding areAmounts
   start-limits = record { place = zero-le; passed = zero-le; amounts = refl }
 
   -- has no 1 or 2
-  pub start-ground : isNumber (k .vehicle) ≡ true → readGround (startedReading (k .vehicle) r) (cycleIn (k .kept)) (startOf l m .ledger) (startOf l m .map) ≡ 0
+  pub start-ground : isNumber (k .vehicle) ≡ true → readGround (startedReading (k .vehicle) r) (cycleIn (k .kept)) (startOf l m .memory .ledger) (startOf l m .memory .map) ≡ 0
   start-ground number = reached-ground _ _ _ start-limits number start-reached
 
 module _ (lent : Lent) where
@@ -86,11 +87,11 @@ module _ (lent : Lent) where
 
   -- the bytes p tell what the reading holds, and the run is that of their samples
   pub record Holds (p b : List ℕ) (n : ℕ) (r : Reading) (l : List ℤ) (m : List ℕ) : Type 0 where
-    pub samples : List Sample
+    pub samples : List Moment
     pub fields : ℕ
     pub count : n ≡ 4 + fields
     pub tells : Tells p (toldOf r b samples) fields
-    pub reached : Reached b (r .run .tolerances) l₀ m₀ samples (r .run) l m
+    pub reached : Reached (planOf r b) l₀ m₀ samples (r .run) l m
     pub limits : InLimits (taleOf r l m)
     pub number : isNumber (r .vehicle) ≡ true
 
@@ -99,11 +100,11 @@ module _ (lent : Lent) where
     ground-passed = reached-ground r l m (h .limits) (h .number) (h .reached)
 
     -- the run of the state a is that of the samples xs
-    Ran : State → List Sample → Type 0
-    Ran a xs = Reached b (r .run .tolerances) l₀ m₀ xs (runOf (r .run) a) (a .ledger) (a .map)
+    Ran : State → List Moment → Type 0
+    Ran a xs = Reached (planOf r b) l₀ m₀ xs (withProgress (r .run) (a .progress)) (a .memory .ledger) (a .memory .map)
 
     abbrev taking : State → List ℕ → State
-    taking = takeBlock b (r .run .tolerances)
+    taking = takeBlock (planOf r b)
 
     abbrev read : List ℕ → Read State
     read = fieldsOf offeredOf taking (r .vehicle) (taleOf r l m)
@@ -113,16 +114,16 @@ module _ (lent : Lent) where
     unfolding Ran
     same q =
         same-fields offeredOf taking length withBlock Ran
-        (λ a xs g. runs.run-shows b (r .run .tolerances) l₀ m₀ g .offered)
+        (λ a xs g. runs.run-shows (planOf r b) l₀ m₀ g .offered)
         (λ a xs g q block room samples.
-        runs.Reached.block g (a .offered) q
-        (taken-by (runOf (r .run) a) b (a .ledger) (a .map) (a .offered) q
-        (record { ground = runs.never-refused b (r .run .tolerances) l₀ m₀ g 0; block = block; first = refl; room = room; samples = samples })))
+        runs.Reached.block g (a .progress .offered) q
+        (accepted-by (withProgress (r .run) (a .progress)) b (a .memory .ledger) (a .memory .map) (a .progress .offered) q
+        (record { ground = runs.never-refused (planOf r b) l₀ m₀ g 0; block = block; first = refl; room = room; samples = samples })))
         (r .vehicle) (taleOf r l m) _ q (record { place = refl; passed = refl; amounts = refl; run = h .reached })
 
     -- the whole fields q more, as y was read of them
     abbrev Then : List ℕ → Read State → Type 0
-    Then q y = Holds (p ++ q) b (n + y .fields) (readingOf r (y .tale)) (y .tale .run .ledger) (y .tale .run .map)
+    Then q y = Holds (p ++ q) b (n + y .fields) (readingOf r (y .tale)) (y .tale .run .memory .ledger) (y .tale .run .memory .map)
 
     holds-read : (q : List ℕ) → read q .used ≡ length q → read q .last ≡ step.Incomplete → Then q (read q)
     unfolding Ran
@@ -130,7 +131,7 @@ module _ (lent : Lent) where
         let x = toldOf r b (h .samples) in
         let s = same q in
         let y = further x q .tale in
-        let k : Tale (List Sample) = record { place = read q .tale .place; passed = read q .tale .passed; amounts = read q .tale .amounts; run = y .run } in
+        let k : Tale (List Moment) = record { place = read q .tale .place; passed = read q .tale .passed; amounts = read q .tale .amounts; run = y .run } in
         let d : further x q ≡ record { tale = k; fields = read q .fields; used = length q; last = step.Incomplete } =
         λ j. record {
           tale = record { place = sym (s .tale .place) j; passed = sym (s .tale .passed) j; amounts = sym (s .tale .amounts) j; run = y .run };
@@ -165,7 +166,7 @@ module _ (lent : Lent) where
 
     -- the samples are those before and those of the accepted blocks of i
     pub record SheetAfter (i : List ℕ) (y : Read State) : Type 0 where
-      pub samples : List Sample
+      pub samples : List Moment
       pub sheet : sheetOf (p ++ i) ≡ sheetBy (y .last) (toldOf (readingOf r (y .tale)) b samples) (n + y .fields) (length i - y .used)
 
     pub sheet-after : (i : List ℕ) → SheetAfter i (readAllOf r b l m i)
@@ -202,12 +203,12 @@ module _ (lent : Lent) where
     -- ---- after a call that accepts fields
 
     holds-field : (i : List ℕ) (k : ℕ) → Uses (readOf r b l m i .step) k
-        → Holds (p ++ take k i) b (suc n) (readingOf r (readOf r b l m i .tale)) (readOf r b l m i .tale .run .ledger) (readOf r b l m i .tale .run .map)
+        → Holds (p ++ take k i) b (suc n) (readingOf r (readOf r b l m i .tale)) (readOf r b l m i .tale .run .memory .ledger) (readOf r b l m i .tale .run .memory .map)
     holds-field i k u =
         let c = field-is i in
         let v = subst (λ (x : Answered State). Uses (x .step) k) c u in
         let s = field-size offeredOf taking (r .vehicle) (taleOf r l m) i k v in
-        subst (λ (x : Answered State). Holds (p ++ take k i) b (suc n) (readingOf r (x .tale)) (x .tale .run .ledger) (x .tale .run .map)) (sym c)
+        subst (λ (x : Answered State). Holds (p ++ take k i) b (suc n) (readingOf r (x .tale)) (x .tale .run .memory .ledger) (x .tale .run .memory .map)) (sym c)
         (rw add-one at
         (holds-next (take k i) _ (one-alone offeredOf taking (r .vehicle) (taleOf r l m) i k v) (sym (length-take-le k i (s .1))) refl))
 
@@ -219,7 +220,7 @@ module _ (lent : Lent) where
         (sym (length-take-le (read i .used) i most)) refl)
 
   holds-start : (p : List ℕ) (k : Begun Held) → Begins lent p k → (i : List ℕ) (n : ℕ) (r : Run) → onRoom l₀ m₀ k i .step ≡ opening.Started n r
-      → Holds (p ++ take n i) (cycleIn (k .kept)) 4 (startedReading (k .vehicle) r) (startOf l₀ m₀ .ledger) (startOf l₀ m₀ .map)
+      → Holds (p ++ take n i) (cycleIn (k .kept)) 4 (startedReading (k .vehicle) r) (startOf l₀ m₀ .memory .ledger) (startOf l₀ m₀ .memory .map)
   holds-start p k h i n r e = record {
     samples = [];
     fields = 0;

@@ -97,7 +97,7 @@ module _ (lent : Lent) where
 
     -- the tolerances start the run
     pub begins-start : (i : List ℕ) (n : ℕ) (r : Run) → onRoom l₀ m₀ k i .step ≡ opening.Started n r
-        → Tells (p ++ take n i) (record { vehicle = k .vehicle; cycle = cycleIn (k .kept); tolerances = r .tolerances; tale = untold }) 0
+        → Tells (p ++ take n i) (record { vehicle = k .vehicle; cycle = cycleIn (k .kept); tolerances = r .track .tolerances; tale = untold }) 0
     begins-start i n r e =
         let s = step-is i ∙ e in
         let gone = drop-length (p ++ take n i) in

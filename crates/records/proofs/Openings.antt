@@ -119,8 +119,8 @@ module _ {C : Type 0} (keep : C → List ℕ → C) (cycle : C → List ℕ) (st
 
   -- "For starting a run, as field 4 does: 1, 2, 3": it met none of them
   pub granted-at-start : (n : ℕ) (k : Begun C) (i : List ℕ) (m : ℕ) (r : Run) → upto n k i .last ≡ step.Started m r
-      → startRefused (cycle (upto n k i .begun .kept)) (r .tolerances) ≡ 0
+      → startRefused (cycle (upto n k i .begun .kept)) (r .track .tolerances) ≡ 0
   granted-at-start =
-      at-start (λ r x. startRefused (cycle (x .kept)) (r .tolerances) ≡ 0) (λ k i m r e.
+      at-start (λ r x. startRefused (cycle (x .kept)) (r .track .tolerances) ≡ 0) (λ k i m r e.
       let w = starts keep cycle startRefused k i m r e in
-      (λ j. startRefused (cycle (w .begun j .kept)) (w .run j .tolerances)) ∙ w .granted)
+      (λ j. startRefused (cycle (w .begun j .kept)) (w .run j .track .tolerances)) ∙ w .granted)

@@ -11,10 +11,11 @@ use lib.ListN.{length, take}
 use lib.Seq.{take-length}
 use Rattle.numbers.specs.Range.{table}
 use Rattle.numbers.specs.Tests.{unless}
-use Rattle.rules.specs.declared.Sample.{Sample}
+use Rattle.rules.specs.declared.Moment.{Moment}
 use Rattle.rules.specs.declared.Tolerances.{Tolerances}
+use Rattle.rules.specs.Regular.{plan}
 use Rattle.step.specs.Step.{State}
-use Rattle.blocks.specs.Blocks.{sampleAt, samplesIn}
+use Rattle.blocks.specs.Blocks.{momentAt, samplesIn}
 use Rattle.blocks.proofs.Bytes.{samples-join}
 use Rattle.judge.proofs.Runs as runs
 use Rattle.judge.proofs.Runs.{Reached}
@@ -23,7 +24,7 @@ use Rattle.opening.specs.Opening.{Opened}
 use Rattle.opening.specs.Answers.{Held, begunOf, openGround, openOf}
 use Rattle.opening.specs.declared.Opening.{Opening}
 use Rattle.reading.specs.declared.Reading.{Reading}
-use Rattle.reading.specs.Answers.{taleOf, readingOf, readGround, readOf, readAllOf}
+use Rattle.reading.specs.Answers.{taleOf, readingOf, readGround, readOf, readAllOf, planOf}
 use Rattle.reader.specs.Answers.{endingOf}
 use Rattle.records.specs.Records.{Told, told, refused, withBlock, openingIn, sheetBy, sheetOf}
 use Rattle.reading.specs.declared.Step.{Step}
@@ -38,9 +39,9 @@ use Rattle.records.proofs.KeptUntil.{until-begins, call-longer, sheet-e
 use Rattle.records.proofs.KeptSince.{toldOf, since-holds, ground-passed, sheet-after, all-ends, all-longer}
 
 -- "The same accepted samples cut into other blocks": blocks of the bytes q and q′ one after the other bring the samples of one block of both
-pub blocks-join : (xs : List Sample) (q q′ : List ℕ) (k : ℕ) → length q ≡ 6 * k → withBlock (withBlock xs q) q′ ≡ withBlock xs (q ++ q′)
+pub blocks-join : (xs : List Moment) (q q′ : List ℕ) (k : ℕ) → length q ≡ 6 * k → withBlock (withBlock xs q) q′ ≡ withBlock xs (q ++ q′)
 blocks-join xs q q′ k e =
-    append-assoc xs (table (sampleAt q) (samplesIn q)) (table (sampleAt q′) (samplesIn q′)) ∙ ap (λ (ys : List Sample). xs ++ ys) (samples-join q q′ k e)
+    append-assoc xs (table (momentAt q) (samplesIn q)) (table (momentAt q′) (samplesIn q′)) ∙ ap (λ (ys : List Moment). xs ++ ys) (samples-join q q′ k e)
 
 -- the sheet where the last answer is a refusal, and where bytes of a field that is not finished are left
 refused-sheet : (s : Step) (y : Told) (n left x : ℕ) → s ≡ step.Refused x → sheetBy s y n left ≡ refused x (suc n)
@@ -101,9 +102,9 @@ module _ (lent : Lent) where
 
   -- what a reading, its cycle and its memory hold is what the bytes p tell, and the run is the run of their samples
   pub record Handed (p b : List ℕ) (r : Reading) (l : List ℤ) (m : List ℕ) : Type 0 where
-    pub samples : List Sample
+    pub samples : List Moment
     pub tells : sheetOf p ≡ told (toldOf r b samples)
-    pub reached : Reached b (r .run .tolerances) l₀ m₀ samples (r .run) l m
+    pub reached : Reached (planOf r b) l₀ m₀ samples (r .run) l m
     pub ground : readGround r b l m ≡ 0
 
   module _ {p b : List ℕ} {n : ℕ} {r : Reading} {l : List ℤ} {m : List ℕ} (h : Since lent p b n r l m) where
@@ -167,19 +168,19 @@ module _ (lent : Lent) where
 
   -- an input of which nothing is left over ends with a whole field: then the record is told
   pub all-whole : {p b : List ℕ} {n : ℕ} {r : Reading} {l : List ℤ} {m : List ℕ} → Since lent p b n r l m → (i : List ℕ) → readAllOf r b l m i .used ≡ length i
-      → Handed (p ++ i) b (readingOf r (readAllOf r b l m i .tale)) (readAllOf r b l m i .tale .run .ledger) (readAllOf r b l m i .tale .run .map)
+      → Handed (p ++ i) b (readingOf r (readAllOf r b l m i .tale)) (readAllOf r b l m i .tale .run .memory .ledger) (readAllOf r b l m i .tale .run .memory .map)
   all-whole {p} {b} {n} {r} {l} {m} h i u =
-      subst (λ (q : List ℕ). Handed (p ++ q) b (readingOf r (readAllOf r b l m i .tale)) (readAllOf r b l m i .tale .run .ledger) (readAllOf r b l m i .tale .run .map))
+      subst (λ (q : List ℕ). Handed (p ++ q) b (readingOf r (readAllOf r b l m i .tale)) (readAllOf r b l m i .tale .run .memory .ledger) (readAllOf r b l m i .tale .run .memory .map))
       (ap (λ (c : ℕ). take c i) u ∙ take-length i) (record-tells (all-by h i))
 
   -- the run that a told record reached
   told-reached : {p b : List ℕ} {n : ℕ} {r : Reading} {l : List ℤ} {m : List ℕ} → Since lent p b n r l m → (x : Told) → sheetOf p ≡ told x
-      → Reached (x .cycle) (x .tolerances) l₀ m₀ (x .tale .run) (r .run) l m
+      → Reached (plan (x .cycle) (x .tolerances)) l₀ m₀ (x .tale .run) (r .run) l m
   told-reached {b = b} {r = r} {l = l} {m = m} h x e =
       let k = record-tells h in
       let f = k .tells in
       let d : toldOf r b (k .samples) ≡ x = cc in
-      subst (λ (y : Told). Reached (y .cycle) (y .tolerances) l₀ m₀ (y .tale .run) (r .run) l m) d (k .reached)
+      subst (λ (y : Told). Reached (plan (y .cycle) (y .tolerances)) l₀ m₀ (y .tale .run) (r .run) l m) d (k .reached)
 
   -- "The same accepted samples cut into other blocks give the same run": two records that tell the same samples of the same cycle and tolerances,
   -- however they and their input are cut, have the same run, ledger and map
@@ -187,10 +188,10 @@ module _ (lent : Lent) where
       → (x x′ : Told) → sheetOf p ≡ told x → sheetOf p′ ≡ told x′ → x .cycle ≡ x′ .cycle → x .tolerances ≡ x′ .tolerances → x .tale .run ≡ x′ .tale .run
       → (r .run ≡ r′ .run) × (l ≡ l′) × (m ≡ m′)
   cut-otherwise-same-run {r = r} {l = l} {m = m} h g x x′ e e′ c t s =
-      runs.cut-otherwise-same-run (x′ .cycle) (x′ .tolerances) l₀ m₀
-      (subst (λ (z : List ℕ). Reached z (x′ .tolerances) l₀ m₀ (x′ .tale .run) (r .run) l m) c
-      (subst (λ (z : Tolerances). Reached (x .cycle) z l₀ m₀ (x′ .tale .run) (r .run) l m) t
-      (subst (λ (z : List Sample). Reached (x .cycle) (x .tolerances) l₀ m₀ z (r .run) l m) s
+      runs.cut-otherwise-same-run (plan (x′ .cycle) (x′ .tolerances)) l₀ m₀
+      (subst (λ (z : List ℕ). Reached (plan z (x′ .tolerances)) l₀ m₀ (x′ .tale .run) (r .run) l m) c
+      (subst (λ (z : Tolerances). Reached (plan (x .cycle) z) l₀ m₀ (x′ .tale .run) (r .run) l m) t
+      (subst (λ (z : List Moment). Reached (plan (x .cycle) (x .tolerances)) l₀ m₀ z (r .run) l m) s
       (told-reached h x e))))
       (told-reached g x′ e′)
 

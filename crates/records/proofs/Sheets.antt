@@ -12,11 +12,11 @@ use lib.Seq.{drop-append-le}
 use Rattle.numbers.specs.Range.{table}
 use Rattle.numbers.specs.Tests.{unless}
 use Rattle.numbers.proofs.Tests.{not-refused}
-use Rattle.rules.specs.declared.Sample.{Sample}
+use Rattle.rules.specs.declared.Moment.{Moment}
 use Rattle.rules.specs.Bench.{tolerable}
 use Rattle.rules.specs.Cycle.{valid}
 use Rattle.state.specs.declared.Run.{Run}
-use Rattle.blocks.specs.Blocks.{sampleAt, samplesIn}
+use Rattle.blocks.specs.Blocks.{momentAt, samplesIn}
 use Rattle.fields.specs.Fields.{valueIn}
 use Rattle.fields.specs.Values.{samplesOf}
 use Rattle.contents.specs.declared.Content.{Content}
@@ -37,11 +37,11 @@ use Rattle.reading.proofs.Cuts.{joined, cut-whole, used-most}
 use Rattle.reading.proofs.Accepted.{last-ends, no-bytes}
 
 -- what has been told, with another tale
-abbrev pub withTale : Told → Tale (List Sample) → Told
+abbrev pub withTale : Told → Tale (List Moment) → Told
 withTale x k = record { vehicle = x .vehicle; cycle = x .cycle; tolerances = x .tolerances; tale = k }
 
 -- what the bytes q add to what is told
-abbrev pub further : Told → List ℕ → Read (List Sample)
+abbrev pub further : Told → List ℕ → Read (List Moment)
 further x q = fieldsOf length withBlock (x .vehicle) (x .tale) q
 
 -- the whole fields p, of which the first four start the run and n follow, tell x
@@ -50,7 +50,7 @@ pub record Tells (p : List ℕ) (x : Told) (n : ℕ) : Type 0 where
   pub fourth : ℕ
   pub run : Run
   pub opened : openingIn p ≡ record { begun = record { fields = 4; vehicle = x .vehicle; kept = x .cycle }; used = four; last = opening.Started fourth run }
-  pub tolerances : run .tolerances ≡ x .tolerances
+  pub tolerances : run .track .tolerances ≡ x .tolerances
   pub short : four ≤ length p
   pub read : fieldsIn (x .vehicle) (drop four p) ≡ record { tale = x .tale; fields = n; used = length (drop four p); last = step.Incomplete }
 
@@ -69,9 +69,9 @@ module _ (p : List ℕ) (x : Told) (n : ℕ) (h : Tells p x n) (q : List ℕ) wh
       ≡ joined (record { tale = x .tale; fields = n; used = length (drop (h .four) p); last = step.Incomplete }) (further x q)
   read-longer =
       ap (fieldsIn (x .vehicle)) (drop-append-le (h .four) p q (h .short))
-      ∙ cut-whole length withBlock (x .vehicle) _ (drop (h .four) p) q (ap (λ (y : Read (List Sample)). y .last) (h .read))
-      (ap (λ (y : Read (List Sample)). y .used) (h .read))
-      ∙ ap (λ (y : Read (List Sample)). joined y (fieldsOf length withBlock (x .vehicle) (y .tale) q)) (h .read)
+      ∙ cut-whole length withBlock (x .vehicle) _ (drop (h .four) p) q (ap (λ (y : Read (List Moment)). y .last) (h .read))
+      (ap (λ (y : Read (List Moment)). y .used) (h .read))
+      ∙ ap (λ (y : Read (List Moment)). joined y (fieldsOf length withBlock (x .vehicle) (y .tale) q)) (h .read)
 
   length-longer : length (drop (h .four) (p ++ q)) ≡ length (drop (h .four) p) + length q
   length-longer = ap length (drop-append-le (h .four) p q (h .short)) ∙ length-append (drop (h .four) p) q
@@ -89,7 +89,7 @@ module _ (p : List ℕ) (x : Told) (n : ℕ) (h : Tells p x n) (q : List ℕ) wh
       ∙ ap (sheetBy (further x q .last) (withTale x (further x q .tale)) (4 + (n + further x q .fields))) left
 
   -- where q holds whole fields only
-  pub tells-longer : (k : Tale (List Sample)) (c : ℕ) → further x q ≡ record { tale = k; fields = c; used = length q; last = step.Incomplete }
+  pub tells-longer : (k : Tale (List Moment)) (c : ℕ) → further x q ≡ record { tale = k; fields = c; used = length q; last = step.Incomplete }
       → Tells (p ++ q) (withTale x k) (n + c)
   tells-longer k c e = record {
     four = h .four;
@@ -110,13 +110,13 @@ pub sheet-of : (p : List ℕ) (x : Told) (n : ℕ) → Tells p x n → sheetOf p
 unfolding endingOf unless
 sheet-of p x n h =
     ap sheetOf (sym (append-nil p)) ∙ sheet-longer p x n h []
-    ∙ ap (λ (y : Read (List Sample)). sheetBy (y .last) (withTale x (y .tale)) (4 + (n + y .fields)) (0 - y .used)) (no-bytes length withBlock (x .vehicle) (x .tale))
+    ∙ ap (λ (y : Read (List Moment)). sheetBy (y .last) (withTale x (y .tale)) (4 + (n + y .fields)) (0 - y .used)) (no-bytes length withBlock (x .vehicle) (x .tale))
 
 -- with one number of fields
 pub tells-one : (p : List ℕ) (x : Told) (n n′ : ℕ) → Tells p x n → Tells p x n′ → n ≡ n′
 tells-one p x n n′ h g =
     let f = ap (λ (y : OpenRead (List ℕ)). y .used) (sym (h .opened) ∙ g .opened) in
-    ap (λ (y : Read (List Sample)). y .fields) (sym (h .read) ∙ ap (λ (c : ℕ). fieldsIn (x .vehicle) (drop c p)) f ∙ g .read)
+    ap (λ (y : Read (List Moment)). y .fields) (sym (h .read) ∙ ap (λ (c : ℕ). fieldsIn (x .vehicle) (drop c p)) f ∙ g .read)
 
 closed : (left : ℕ) (x y : Told) (n : ℕ) → closedBy (endingOf true left) x n ≡ told y → (left ≡ 0) × (x ≡ y)
 unfolding endingOf unless
@@ -142,11 +142,11 @@ pub record TellsSome (p : List ℕ) (x : Told) : Type 0 where
 abbrev pub restIn : List ℕ → List ℕ
 restIn p = drop (openingIn p .used) p
 
-abbrev pub readIn : List ℕ → Read (List Sample)
+abbrev pub readIn : List ℕ → Read (List Moment)
 readIn p = fieldsIn (openingIn p .begun .vehicle) (restIn p)
 
 abbrev toldIn : List ℕ → Run → Told
-toldIn p r = record { vehicle = openingIn p .begun .vehicle; cycle = openingIn p .begun .kept; tolerances = r .tolerances; tale = readIn p .tale }
+toldIn p r = record { vehicle = openingIn p .begun .vehicle; cycle = openingIn p .begun .kept; tolerances = r .track .tolerances; tale = readIn p .tale }
 
 tells-all : (p : List ℕ) (m : ℕ) (r : Run) → openingIn p .last ≡ opening.Started m r → readIn p .last ≡ step.Incomplete
     → length (restIn p) - readIn p .used ≡ 0 → Tells p (toldIn p r) (readIn p .fields)
@@ -205,19 +205,19 @@ told-valid p x e =
 
 -- ---- with more bytes, a record that is told tells the samples that it told, and others behind them
 
-pub record Appends (xs zs : List Sample) : Type 0 where
-  pub added : List Sample
+pub record Appends (xs zs : List Moment) : Type 0 where
+  pub added : List Moment
   pub joins : zs ≡ xs ++ added
 
-module _ (xs : List Sample) (me : List ℕ) where
-  field-appends : (k : Tale (List Sample)) (i : List ℕ) → Appends xs (k .run) → Appends xs (fieldAt length withBlock me k i .tale .run)
+module _ (xs : List Moment) (me : List ℕ) where
+  field-appends : (k : Tale (List Moment)) (i : List ℕ) → Appends xs (k .run) → Appends xs (fieldAt length withBlock me k i .tale .run)
   field-appends k i h =
-      by-front length withBlock me (λ (y : Answered (List Sample)). Appends xs (y .tale .run)) k i (λ _ _. h) (λ tag n _. go (valueIn i n) (brought length withBlock me k tag (valueIn i n)))
+      by-front length withBlock me (λ (y : Answered (List Moment)). Appends xs (y .tale .run)) k i (λ _ _. h) (λ tag n _. go (valueIn i n) (brought length withBlock me k tag (valueIn i n)))
     where
       go : (v : List ℕ) (c : Content) → Appends xs (runAfter length withBlock (k .run) v c)
       go v Own =
-          let ys = table (sampleAt (samplesOf v)) (samplesIn (samplesOf v)) in
-          record { added = h .added ++ ys; joins = ap (λ (z : List Sample). z ++ ys) (h .joins) ∙ append-assoc xs (h .added) ys }
+          let ys = table (momentAt (samplesOf v)) (samplesIn (samplesOf v)) in
+          record { added = h .added ++ ys; joins = ap (λ (z : List Moment). z ++ ys) (h .joins) ∙ append-assoc xs (h .added) ys }
       go v Foreign = h
       go v (Before e) = h
       go v (After e) = h

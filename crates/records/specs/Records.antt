@@ -6,11 +6,12 @@ use Prim.Native.Nat.{ℕ, suc, _+_, _-_}
 use lib.ListN.{length, drop, replicate}
 use Rattle.numbers.specs.Range.{table}
 use Rattle.numbers.specs.Tests.{unless}
-use Rattle.rules.specs.declared.Sample.{Sample}
+use Rattle.rules.specs.declared.Moment.{Moment}
 use Rattle.rules.specs.declared.Tolerances.{Tolerances}
 use Rattle.rules.specs.Bench.{tolerable}
 use Rattle.rules.specs.Cycle.{valid}
-use Rattle.blocks.specs.Blocks.{sampleAt, samplesIn}
+use Rattle.rules.specs.Regular.{Plan, plan}
+use Rattle.blocks.specs.Blocks.{momentAt, samplesIn}
 use Rattle.reading.specs.Reading.{Tale, Read, fieldsOf}
 use Rattle.reading.specs.declared.Step.{Step}
 use Rattle.opening.specs.Opening.{Begun, OpenRead, openUpto}
@@ -27,15 +28,19 @@ pub record Told : Type 0 where
   pub vehicle : List ℕ
   pub cycle : List ℕ
   pub tolerances : Tolerances
-  pub tale : Tale (List Sample)
+  pub tale : Tale (List Moment)
+
+-- the plan of its run
+abbrev pub planTold : Told → Plan
+planTold x = plan (x .cycle) (x .tolerances)
 
 pub data Sheet : Type 0 where
   told : Told → Sheet
   refused : (number : ℕ) → (field : ℕ) → Sheet
 
 -- the samples of a block behind those before
-abbrev pub withBlock : List Sample → List ℕ → List Sample
-withBlock xs q = xs ++ table (sampleAt q) (samplesIn q)
+abbrev pub withBlock : List Moment → List ℕ → List Moment
+withBlock xs q = xs ++ table (momentAt q) (samplesIn q)
 
 -- "For starting a run, as field 4 does: .. 2, 3": of a record, on memory that is long enough
 abbrev pub startRefused : List ℕ → Tolerances → ℕ
@@ -50,10 +55,10 @@ abbrev pub openingIn : List ℕ → OpenRead (List ℕ)
 openingIn = openUpto (λ _ v. v) (λ b. b) startRefused 4 blank
 
 -- after it, before the first field; and with all whole fields, of the vehicle me
-abbrev pub untold : Tale (List Sample)
+abbrev pub untold : Tale (List Moment)
 untold = record { place = 0; passed = 0; amounts = noAmounts; run = [] }
 
-abbrev pub fieldsIn : List ℕ → List ℕ → Read (List Sample)
+abbrev pub fieldsIn : List ℕ → List ℕ → Read (List Moment)
 fieldsIn me = fieldsOf length withBlock me untold
 
 -- "K is the number of accepted fields, passed-over ones among them, plus one"
@@ -71,7 +76,7 @@ sheetBy (step.Refused y) x n left = refused y (suc n)
 abbrev pub begunBy : OpenStep → Begun (List ℕ) → List ℕ → Sheet
 begunBy (opening.Started m r) k rest =
     let x = fieldsIn (k .vehicle) rest in
-    sheetBy (x .last) (record { vehicle = k .vehicle; cycle = k .kept; tolerances = r .tolerances; tale = x .tale }) (4 + x .fields) (length rest - x .used)
+    sheetBy (x .last) (record { vehicle = k .vehicle; cycle = k .kept; tolerances = r .track .tolerances; tale = x .tale }) (4 + x .fields) (length rest - x .used)
 begunBy (opening.Refused y) k rest = refused y (suc (k .fields))
 begunBy opening.Incomplete k rest = refused 15 (suc (k .fields))
 begunBy (opening.Taken m) k rest = refused 15 (suc (k .fields))

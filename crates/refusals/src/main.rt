@@ -15,7 +15,9 @@ use reading::Step;
 use rules::End;
 use rules::Tolerances;
 use state::Ends;
+use state::Progress;
 use state::Run;
+use state::Track;
 
 // T = 2 and T = 3, one phase, points of 100.
 const CYCLE: [u8; 9] = [1, 0, 2, 0, 100, 0, 100, 0, 100];
@@ -29,21 +31,25 @@ const WIDE: [u8; 9] = [4, 0, 6, 0, 101, 0, 20, 1, 44];
 // A run of 64 finished cycles to which so many samples were offered.
 fn ended_run(offered: u32) -> Run {
     Run {
-        seconds: 2,
-        ends: Ends {
-            first: 2,
-            second: 0,
-            third: 0,
-            fourth: 0,
+        track: Track {
+            seconds: 2,
+            ends: Ends {
+                first: 2,
+                second: 0,
+                third: 0,
+                fourth: 0,
+            },
+            tolerances: Tolerances {
+                speed: 30,
+                time: 20,
+                allowance: 300,
+            },
         },
-        tolerances: Tolerances {
-            speed: 30,
-            time: 20,
-            allowance: 300,
+        progress: Progress {
+            offered,
+            counted: 2560,
+            end: End::Limit,
         },
-        offered,
-        counted: 2560,
-        end: End::Limit,
     }
 }
 

@@ -9,7 +9,9 @@ use rules::End;
 use rules::Sample;
 use rules::Tolerances;
 use state::Ends;
+use state::Progress;
 use state::Run;
+use state::Track;
 
 // T = 2, whose second phase ends where the first does.
 const BROKEN: [u8; 11] = [2, 0, 2, 0, 2, 0, 100, 0, 100, 0, 100];
@@ -30,17 +32,21 @@ fn tolerances(speed: u32) -> Tolerances {
 // A run that sample 3 has stopped, with so many samples offered.
 fn stopped(offered: u32) -> Run {
     Run {
-        seconds: 2,
-        ends: Ends {
-            first: 2,
-            second: 0,
-            third: 0,
-            fourth: 0,
+        track: Track {
+            seconds: 2,
+            ends: Ends {
+                first: 2,
+                second: 0,
+                third: 0,
+                fourth: 0,
+            },
+            tolerances: tolerances(30),
         },
-        tolerances: tolerances(30),
-        offered,
-        counted: 3,
-        end: End::Stop,
+        progress: Progress {
+            offered,
+            counted: 3,
+            end: End::Stop,
+        },
     }
 }
 

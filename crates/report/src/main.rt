@@ -2,13 +2,17 @@
 use edges::print;
 use edges::tell;
 use intake::take_record;
+use rules::limits::LEDGER_NUMBERS;
+use rules::limits::MAP_WORDS;
+use rules::limits::MOST_BYTES;
+use sheet::MOST_SHEET;
 
 fn main() {
     let mut buffer = [0u8; 4864];
-    let mut room = [0u8; 4811];
-    let mut ledger = [0i64; 576];
-    let mut map = [0u64; 750];
-    let mut lines = [0u8; 512];
+    let mut room = [0u8; MOST_BYTES];
+    let mut ledger = [0i64; LEDGER_NUMBERS];
+    let mut map = [0u64; MAP_WORDS];
+    let mut lines = [0u8; MOST_SHEET];
     let x = take_record(
         18_446_744_073_709_551_615,
         &mut buffer[..],

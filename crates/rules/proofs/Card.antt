@@ -7,9 +7,10 @@ use Rattle.numbers.specs.Tests.{allBelow, every, unless}
 use Rattle.rules.specs.Cycle.{valid}
 use Rattle.rules.specs.Band.{grid20, inside}
 use Rattle.rules.specs.Tally.{over}
+use Rattle.rules.specs.Parts.{cycles}
 use Rattle.rules.specs.Closing.{weighing, closingRefusal}
 use Rattle.rules.specs.Card.{card, holds}
 
 pub card-holds : T (every holds card)
-unfolding be fold gather first allBelow valid grid20 inside over weighing unless closingRefusal card holds
+unfolding be fold gather first allBelow valid grid20 inside over cycles weighing unless closingRefusal card holds
 card-holds = tt

@@ -3,10 +3,15 @@ pub mod Card
 pub mod Sound
 pub mod Band
 pub mod Tally
-pub mod Figures
-pub mod Wider
+pub mod Facts
+pub mod Gathered
 pub mod Longer
+pub mod Wider
+pub mod Total
 pub mod Bounds
+pub mod Maps
+pub mod Next
+pub mod Regular
 pub mod Weighing
 pub mod Closeness
 pub mod Recharge

@@ -1,111 +1,137 @@
--- Demand 3: samples added at the end move no stop given, and change no phase or cycle finished.
+-- Samples added at the end move no stop and change no finished part; after the end they change nothing.
 -- Assumes nothing.
-use mathlib.Core.Bool.{Bool, true, false, cond, false≢true}
+use mathlib.Core.Bool.{Bool, true, false, cond, _||_, false≢true}
 use mathlib.Core.List.{List, _++_}
 use mathlib.Core.Path.{_≡_, refl, sym, ap, _∙_}
 use Prim.Native.Nat.{ℕ, _+_, _≤_, _<_, min}
-use native.Mathlib.Nat.{le-trans, le-add-right, add-zero}
+use native.Mathlib.Nat.{le-trans, add-zero}
 use native.Mathlib.Omega.{arith}
-use borrow.Author.Tests.{le-ltb, ltb-true, ltb-false}
+use borrow.Author.Tests.{ltb-true, ltb-false, le-ltb}
 use lib.Dec.{T, ltb}
 use lib.IntN.{pos, _+ℤ_}
 use lib.ListN.{length, length-append, List·getD-append}
 use Rattle.numbers.specs.Tests.{bit}
 use Rattle.numbers.proofs.Range.{fold-same, gather-rest, gather-same}
 use Rattle.numbers.proofs.Tests.{true-T, T-true}
-use Rattle.rules.specs.Bench.{Sample, Tolerances, none, stop, limit, isOpen, drawn, distance}
-use Rattle.rules.specs.Run.{cycleOf, ofCycle, cycleEnergy, cycleDistance, energy, ending, phaseFinished, cycleFinished, out, outside, over, most, counted, stopped, judged, cycles, sampleOf}
-use Rattle.rules.proofs.Sound.{Sound}
+use Rattle.rules.specs.Bench.{Moment, none, stop, limit, isOpen}
 use Rattle.rules.proofs.Tally as tally
-use Rattle.rules.proofs.Figures.{PhaseKept, CycleKept, phase-kept, cycle-kept, cycle-past, finished-more}
+use Rattle.rules.specs.Course.{Course, out, outside, ends, counted, stopped, judged, closed, ending}
+use Rattle.rules.specs.Parts.{Part, rowPart, finished, cycles, partEnergy, partDistance, energy}
+use Rattle.rules.specs.Regular.{momentIn}
+use Rattle.rules.proofs.Facts.{Lawful}
+use Rattle.rules.proofs.Gathered.{Ends, row-ends, past-finished, cycles-more, PartKept, Alike, kept, closed-offered, closed-judged}
 
 -- the samples of a list, and more behind them
-module _ (xs ys : List Sample) where
+module _ (xs ys : List Moment) where
   pub more-samples : length xs ≤ length (xs ++ ys)
   more-samples = omega (arith, length-append xs ys)
 
-  pub same-samples : (j : ℕ) → j < length xs → sampleOf (xs ++ ys) j ≡ sampleOf xs j
+  pub same-samples : (j : ℕ) → j < length xs → momentIn (xs ++ ys) j ≡ momentIn xs j
   same-samples = List·getD-append xs ys _
 
 -- n samples of s, and n′ of s′ that begin with them
-module _ (b : List ℕ) (t : Tolerances) (s s′ : ℕ → Sample) (n n′ : ℕ) (more : n ≤ n′) (same : (j : ℕ) → j < n → s′ j ≡ s j) where
-  out-longer : (j : ℕ) → j < n → out b t s′ j ≡ out b t s j
-  out-longer j l = rw (same j l)
+module _ (c : Course) (f : Lawful c) (s s′ : ℕ → Moment) (n n′ : ℕ) (more : n ≤ n′) (same : (j : ℕ) → j < n → s′ j ≡ s j) where
+  out-longer : (j : ℕ) → j < n → out c s′ j ≡ out c s j
+  out-longer j l = ap (λ (x : Moment). c .rule .outside j (x .speed)) (same j l)
 
-  over-longer : (j : ℕ) → j < n → over b t s′ j ≡ over b t s j
-  over-longer = tally.over-longer (cycleOf b) (out b t s) (out b t s′) n out-longer (t .allowance)
+  ends-longer : (j : ℕ) → j < n → ends c s′ j ≡ ends c s j
+  ends-longer j l =
+      let h = f .back .halts-by (λ i. s i .speed) (λ i. s′ i .speed) j (λ i g. ap (λ (x : Moment). x .speed) (same i (omega arith))) in
+      let o = tally.over-longer (c .layout .row) (out c s) (out c s′) n out-longer (c .rule .allowance) j l in
+      λ i. h i || o i
 
-  pub counted-longer : counted b t s n ≤ counted b t s′ n′
-  counted-longer = tally.counted-longer (over b t s) (over b t s′) (most b) n n′ more over-longer
+  pub counted-longer : counted c s n ≤ counted c s′ n′
+  counted-longer = tally.counted-longer (ends c s) (ends c s′) (c .layout .most) n n′ more ends-longer
 
   -- a stop stays, at its sample
-  pub stop-longer : T (stopped b t s n) → T (stopped b t s′ n′) × (counted b t s′ n′ ≡ counted b t s n)
-  stop-longer = tally.stop-longer (over b t s) (over b t s′) (most b) n n′ more over-longer
+  pub stop-longer : T (stopped c s n) → T (stopped c s′ n′) × (counted c s′ n′ ≡ counted c s n)
+  stop-longer = tally.stop-longer (ends c s) (ends c s′) (c .layout .most) n n′ more ends-longer
 
-  pub cycles-longer : Sound b → cycles b t s n ≤ cycles b t s′ n′
-  cycles-longer o = finished-more b o _ _ counted-longer
+  pub closed-longer : closed c s n ≤ closed c s′ n′
+  closed-longer = omega (arith, counted-longer)
 
-  counted-in : (j : ℕ) → j < counted b t s n → j < n
-  counted-in j l = omega (arith, tally.counted-le (over b t s) (most b) n .0)
+  pub cycles-longer : cycles (c .layout) (closed c s n) ≤ cycles (c .layout) (closed c s′ n′)
+  cycles-longer = cycles-more (c .layout) _ _ closed-longer
 
-  -- a finished phase or cycle stays as it was
-  pub phase-longer : (c k : ℕ) → T (phaseFinished b c k (counted b t s n)) → PhaseKept b c k s s′ (counted b t s n) (counted b t s′ n′)
-  phase-longer = phase-kept b s s′ _ _ counted-longer (λ j l. same j (counted-in j l))
+  -- the shares closed are the same
+  alike : Alike (c .share) s s′ (closed c s n)
+  alike = record {
+    energies = λ j l. f .near .energy-by s s′ j (λ i g. same i (omega (arith, closed-offered c s n j l)));
+    distances = λ j l. f .near .distance-by s s′ j (λ i g. same i (omega (arith, closed-offered c s n j l)));
+  }
 
-  pub cycle-longer : Sound b → (c : ℕ) → T (cycleFinished b c (counted b t s n)) → CycleKept b c s s′ (counted b t s n) (counted b t s′ n′)
-  cycle-longer o c = cycle-kept b s s′ _ _ counted-longer (λ j l. same j (counted-in j l)) c o
+  -- a finished part stays as it was
+  pub part-longer : {p : Part} → Ends p → T (finished p (closed c s n)) → PartKept (c .share) p s s′ (closed c s n) (closed c s′ n′)
+  part-longer e = kept _ e alike closed-longer
 
-  pub outside-longer : Sound b → (c : ℕ) → T (cycleFinished b c (counted b t s n))
-      → outside b t s′ c (judged b t s′ n′) ≡ outside b t s c (judged b t s n)
-  outside-longer o c d =
-      let past = cycle-past b c (counted b t s n) o d in
-      gather-rest _+_ 0 add-zero _ _ _ past (judged b t s′ n′) (le-trans counted-longer (le-add-right _ _))
-      ∙ tally.outside-longer (cycleOf b) (out b t s) (out b t s′) n out-longer c (counted b t s n) (tally.counted-le (over b t s) (most b) n .0)
-      ∙ sym (gather-rest _+_ 0 add-zero _ _ _ past (judged b t s n) (le-add-right _ _))
+  pub outside-longer : (k : ℕ) → T (finished (rowPart (c .layout) k) (closed c s n))
+      → outside c s′ k (judged c s′ n′) ≡ outside c s k (judged c s n)
+  outside-longer k d =
+      let past = past-finished (row-ends (f .orderly) k) (closed c s n) d in
+      gather-rest _+_ 0 add-zero _ _ _ past (judged c s′ n′) (le-trans closed-longer (closed-judged c s′ n′))
+      ∙ tally.outside-longer (c .layout .row) (out c s) (out c s′) n out-longer k (closed c s n) (omega arith)
+      ∙ sym (gather-rest _+_ 0 add-zero _ _ _ past (judged c s n) (closed-judged c s n))
 
-  -- after an end the samples added change nothing that is counted: no cycle's energy or distance, nor the energy of all
-  pub record Stays : Type 0 where
-    pub counted-same : counted b t s′ n′ ≡ counted b t s n
-    pub energies : (c : ℕ) → cycleEnergy b s′ c (counted b t s′ n′) ≡ cycleEnergy b s c (counted b t s n)
-    pub distances : (c : ℕ) → cycleDistance b s′ c (counted b t s′ n′) ≡ cycleDistance b s c (counted b t s n)
-    pub whole : energy s′ (counted b t s′ n′) ≡ energy s (counted b t s n)
-
-  pub ended-stays : isOpen (ending b t s n) ≡ false → Stays
-  ended-stays o =
-      let e = tally.ended-longer (over b t s) (over b t s′) (most b) n n′ more over-longer o in
-      let m = counted b t s n in
-      record {
-        counted-same = e;
-        energies = λ c. ap (cycleEnergy b s′ c) e ∙ gather-same _+ℤ_ (pos 0) (ofCycle b c) _ _ m (λ j l. ap drawn (same j (counted-in j l)));
-        distances = λ c. ap (cycleDistance b s′ c) e ∙ gather-same _+_ 0 (ofCycle b c) _ _ m (λ j l. ap distance (same j (counted-in j l)));
-        whole = ap (energy s′) e ∙ fold-same _+ℤ_ (pos 0) _ _ m (λ j l. ap drawn (same j (counted-in j l)));
-      }
-
-  judged-in : judged b t s n ≤ n
-  judged-in = go (stopped b t s n) refl
+  judged-in : judged c s n ≤ n
+  judged-in = go (stopped c s n) refl
     where
-      go : (x : Bool) → stopped b t s n ≡ x → counted b t s n + bit x ≤ n
-      go true e = omega (arith, ltb-true (counted b t s n) (min n (most b)) e)
-      go false e = omega (arith, tally.counted-le (over b t s) (most b) n .0)
+      go : (x : Bool) → stopped c s n ≡ x → counted c s n + bit x ≤ n
+      go true e = omega (arith, ltb-true (counted c s n) (min n (c .layout .most)) e)
+      go false e = omega (arith, tally.counted-le (ends c s) (c .layout .most) n .0)
 
-  -- nor the end itself, nor a cycle's outside count, the open one's included
-  module _ (ended : isOpen (ending b t s n) ≡ false) where
-    counted-stays : counted b t s′ n′ ≡ counted b t s n
-    counted-stays = ended-stays ended .counted-same
+  -- ---- after the end
 
-    stopped-stays : stopped b t s′ n′ ≡ stopped b t s n
-    stopped-stays = go (stopped b t s n) (ltb (counted b t s n) (most b)) refl refl ended
-      where
-        go : (x y : Bool) → stopped b t s n ≡ x → ltb (counted b t s n) (most b) ≡ y → isOpen (cond x stop (cond y none limit)) ≡ false
-            → stopped b t s′ n′ ≡ stopped b t s n
-        go true y e f o = T-true _ (stop-longer (true-T e) .0) ∙ sym e
-        go false true e f o = absurd (false≢true (sym o))
-        go false false e f o = le-ltb (counted b t s′ n′) (min n′ (most b)) (omega (arith, ltb-false (counted b t s n) (most b) f, counted-stays)) ∙ sym e
+  -- what is counted and closed stays, and the end itself
+  pub record Over : Type 0 where
+    pub counted-same : counted c s′ n′ ≡ counted c s n
+    pub stopped-same : stopped c s′ n′ ≡ stopped c s n
+    pub closed-same : closed c s′ n′ ≡ closed c s n
+    pub ending-same : ending c s′ n′ ≡ ending c s n
 
-    pub end-stays : ending b t s′ n′ ≡ ending b t s n
-    end-stays = tally.ending-alike (over b t s) (over b t s′) (most b) n n′ counted-stays stopped-stays
+  pub over : isOpen (ending c s n) ≡ false → Over
+  over = go (stopped c s n) (ltb (closed c s n) (c .layout .most)) refl refl
+    where
+      go : (x y : Bool) → stopped c s n ≡ x → ltb (closed c s n) (c .layout .most) ≡ y → isOpen (cond x stop (cond y none limit)) ≡ false → Over
+      go true y e q o =
+          let (t, a) = stop-longer (true-T e) in
+          let e′ = T-true _ t in
+          let h = ltb-true (counted c s n) (min n (c .layout .most)) e in
+          record {
+            counted-same = a;
+            stopped-same = e′ ∙ sym e;
+            closed-same = omega (arith, f .near .soon);
+            ending-same = rw (e′, e);
+          }
+      go false true e q o = absurd (false≢true (sym o))
+      go false false e q o =
+          let l = ltb-false (closed c s n) (c .layout .most) q in
+          let g = ltb-false (counted c s n) (min n (c .layout .most)) e in
+          let m = tally.counted-le (ends c s) (c .layout .most) n .1 in
+          let m′ = tally.counted-le (ends c s′) (c .layout .most) n′ .1 in
+          let a : counted c s′ n′ ≡ counted c s n = omega (arith, counted-longer) in
+          let e′ = le-ltb (counted c s′ n′) (min n′ (c .layout .most)) (omega arith) in
+          record {
+            counted-same = a;
+            stopped-same = e′ ∙ sym e;
+            closed-same = omega arith;
+            ending-same = rw (e′, e, q, le-ltb (closed c s′ n′) (c .layout .most) (omega arith));
+          }
 
-    pub outside-stays : (c : ℕ) → outside b t s′ c (judged b t s′ n′) ≡ outside b t s c (judged b t s n)
-    outside-stays c =
-        ap (outside b t s′ c) (tally.judged-alike (over b t s) (over b t s′) (most b) n n′ counted-stays stopped-stays)
-        ∙ tally.outside-longer (cycleOf b) (out b t s) (out b t s′) n out-longer c (judged b t s n) judged-in
+  -- so does what every part has, finished or not, the energy of all, and every row's outside count
+  module _ (v : Over) where
+    pub energy-over : (p : Part) → partEnergy (c .share) s′ p (closed c s′ n′) ≡ partEnergy (c .share) s p (closed c s n)
+    energy-over p = ap (partEnergy (c .share) s′ p) (v .closed-same) ∙ gather-same _+ℤ_ (pos 0) (p .of) _ _ _ (alike .energies)
+
+    pub distance-over : (p : Part) → partDistance (c .share) s′ p (closed c s′ n′) ≡ partDistance (c .share) s p (closed c s n)
+    distance-over p = ap (partDistance (c .share) s′ p) (v .closed-same) ∙ gather-same _+_ 0 (p .of) _ _ _ (alike .distances)
+
+    pub whole-over : energy (c .share) s′ (closed c s′ n′) ≡ energy (c .share) s (closed c s n)
+    whole-over = ap (energy (c .share) s′) (v .closed-same) ∙ fold-same _+ℤ_ (pos 0) _ _ _ (alike .energies)
+
+    pub judged-over : judged c s′ n′ ≡ judged c s n
+    judged-over = tally.judged-alike (ends c s) (ends c s′) (c .layout .most) n n′ (v .counted-same) (v .stopped-same)
+
+    pub outside-over : (k : ℕ) → outside c s′ k (judged c s′ n′) ≡ outside c s k (judged c s n)
+    outside-over k =
+        ap (outside c s′ k) judged-over
+        ∙ tally.outside-longer (c .layout .row) (out c s) (out c s′) n out-longer k (judged c s n) judged-in

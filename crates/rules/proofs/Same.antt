@@ -12,9 +12,10 @@ use Rattle.numbers.specs.Whole.{up}
 use Rattle.numbers.proofs.Range.{fold-same}
 use Rattle.numbers.proofs.Tests.{all-same}
 use Rattle.rules.specs.Closing.{recharge, weighing, weight, mostRate, isRate, rateOf, weightedFigure, rangeFigure, closingRefusal, rechargeFigure, rechargeRefusal}
+use Rattle.rules.specs.Bench.{mostCycles}
 
-module _ (E : ℤ) (n : ℕ) (few : n ≤ 64) (e d e′ d′ : ℕ → ℤ) (he : (c : ℕ) → c < 64 → e c ≡ e′ c) (hd : (c : ℕ) → c < 64 → d c ≡ d′ c) where
-  rate-same : (c : ℕ) → c < 64 → rateOf e d c ≡ rateOf e′ d′ c
+module _ (E : ℤ) (n : ℕ) (few : n ≤ mostCycles) (e d e′ d′ : ℕ → ℤ) (he : (c : ℕ) → c < mostCycles → e c ≡ e′ c) (hd : (c : ℕ) → c < mostCycles → d c ≡ d′ c) where
+  rate-same : (c : ℕ) → c < mostCycles → rateOf e d c ≡ rateOf e′ d′ c
   rate-same c h = ap₂ (λ (x y : ℤ). 100 * up x / up y) (he c h) (hd c h)
 
   pub weighted-same : weightedFigure E n e d ≡ weightedFigure E n e′ d′

@@ -1,124 +1,57 @@
 -- Which samples count, whatever ends the run: what one more sample does to it, and how two runs compare.
 -- Assumes nothing.
-use mathlib.Core.Bool.{Bool, true, false, cond, false≢true}
-use mathlib.Core.Logic.{⊎-elim}
-use mathlib.Core.Path.{_≡_, refl, sym, ap, ap₂, subst, _∙_}
+use mathlib.Core.Bool.{Bool, true, false, cond}
+use mathlib.Core.Path.{_≡_, refl, sym, ap, subst, _∙_}
 use Prim.Native.Nat.{ℕ, suc, _+_, _≤_, _<_, suc-le-suc}
-use native.Mathlib.Nat.{le-refl, le-antisymm, add-zero}
-use native.Mathlib.Numerals.{add-one}
+use native.Mathlib.Nat.{le-refl, le-antisymm}
 use native.Mathlib.Omega.{arith}
 use lib.Dec.{T, ltb, ltb→lt, le→leb}
-use borrow.Author.Tests.{lt-ltb, le-ltb, ltb-false}
+use borrow.Author.Tests.{lt-ltb, le-ltb, ltb-true, ltb-false}
 use Rattle.numbers.specs.Range.{first}
 use Rattle.numbers.specs.Tests.{bit}
-use Rattle.numbers.proofs.Order.{side}
 use Rattle.numbers.proofs.Range.{gather-le, gather-same}
-use Rattle.numbers.proofs.Firsts.{first-le, first-at, first-least, first-later, first-stays, first-next}
-use Rattle.numbers.proofs.Tests.{leb-mono, bit-le, true-T}
-use Rattle.rules.specs.Bench.{End, none, stop, limit, isOpen}
-use Rattle.rules.specs.Tally.{outside, over, room, counted, stopped, judged, ending}
-
--- ---- one more sample: it comes after the end, or it stops the run, or it counts
-
-pub record Tally : Type 0 where
-  pub counted : ℕ
-  pub judged : ℕ
-  pub ending : End
-
-abbrev pub tallyOf : ℕ → ℕ → End → Tally
-tallyOf m j e = record { counted = m; judged = j; ending = e }
+use Rattle.numbers.proofs.Firsts.{first-le, first-at, first-least, first-later, first-next}
+use Rattle.numbers.proofs.Tests.{leb-mono, bit-le}
+use Rattle.rules.specs.Tally.{outside, over, room, counted, stopped, judged}
 
 module _ (ends : ℕ → Bool) (most : ℕ) where
-  abbrev pub tally : ℕ → Tally
-  tally n = tallyOf (counted ends most n) (judged ends most n) (ending ends most n)
-
-  -- where a run has counted all of m samples
-  abbrev pub counting : ℕ → Tally
-  counting m = tallyOf m m (cond (ltb m most) none limit)
-
   pub counted-le : (n : ℕ) → (counted ends most n ≤ n) × (counted ends most n ≤ most)
   counted-le n = let h = first-le ends (room most n) in (omega arith, omega arith)
 
-  -- a run that stopped, by how it ended
-  pub stopped-ending : (n : ℕ) → stopped ends most n ≡ true → ending ends most n ≡ stop
-  stopped-ending n e = rw e
-
-  pub ending-stopped : (n : ℕ) → ending ends most n ≡ stop → stopped ends most n ≡ true
-  ending-stopped n = go (stopped ends most n) (ltb (counted ends most n) most)
+  pub judged-le : (n : ℕ) → judged ends most n ≤ n
+  judged-le n = go (stopped ends most n) refl
     where
-      go : (x y : Bool) → cond x stop (cond y none limit) ≡ stop → x ≡ true
-      go true y e = refl
-      go false true e = absurd (false≢true cc)
-      go false false e = absurd (false≢true cc)
+      go : (x : Bool) → stopped ends most n ≡ x → counted ends most n + bit x ≤ n
+      go true e = omega (arith, ltb-true (counted ends most n) (room most n) e)
+      go false e = omega (arith, counted-le n .0)
 
-  pub data Turn (n : ℕ) : Type 0 where
-    stands : isOpen (ending ends most n) ≡ false → tally (suc n) ≡ tally n → Turn n
-    stops : n < most → tally n ≡ tallyOf n n none → ends n ≡ true → tally (suc n) ≡ tallyOf n (suc n) stop → Turn n
-    goes : n < most → tally n ≡ tallyOf n n none → ends n ≡ false → tally (suc n) ≡ counting (suc n) → Turn n
+  -- ---- one more sample, where all before it count
 
-  -- the tally, by what is counted and what there was room for: with a stop, and with none
-  module _ (n m r : ℕ) (e : counted ends most n ≡ m) (f : room most n ≡ r) where
-    from-room : tally n ≡ tallyOf m (m + bit (ltb m r)) (cond (ltb m r) stop (cond (ltb m most) none limit))
-    from-room = ap₂ (λ (a b : ℕ). tallyOf a (a + bit (ltb a b)) (cond (ltb a b) stop (cond (ltb a most) none limit))) e f
+  module _ (n : ℕ) (all : counted ends most n ≡ n) where
+    -- none counts but those that can
+    pub next-none : most ≤ n → counted ends most (suc n) ≡ n
+    next-none h = let f : room most (suc n) ≡ room most n = omega arith in ap (first ends) f ∙ all
 
-    with-stop : m < r → tally n ≡ tallyOf m (suc m) stop
-    with-stop h = from-room ∙ simp (lt-ltb m r h, add-one)
+    module _ (h : n < most) where
+      none-yet : first ends n ≡ n
+      none-yet = let r : room most n ≡ n = omega arith in rw r at all
 
-    no-stop : r ≤ m → tally n ≡ counting m
-    no-stop h = from-room ∙ simp (le-ltb m r h, add-zero)
+      pub next-counted : counted ends most (suc n) ≡ cond (ends n) n (suc n)
+      next-counted = let f : room most (suc n) ≡ suc n = omega arith in ap (first ends) f ∙ first-next ends n none-yet
 
-  module _ (n : ℕ) where
-    after-stop : counted ends most n < room most n → Turn n
-    after-stop h =
-        stands (simp (lt-ltb (counted ends most n) (room most n) h))
-        (with-stop (suc n) _ _ (first-stays ends (room most n) (room most (suc n)) (omega arith) h) refl (omega arith)
-        ∙ sym (with-stop n _ _ refl refl h))
-
-    after-limit : room most n ≤ counted ends most n → most ≤ n → Turn n
-    after-limit g h =
-        let f : room most (suc n) ≡ room most n = omega arith in
-        stands (simp (le-ltb (counted ends most n) (room most n) g, le-ltb (counted ends most n) most (omega arith)))
-        (from-room (suc n) _ _ (ap (first ends) f) f)
-
-    no-stop-yet : room most n ≤ counted ends most n → n < most → tally n ≡ tallyOf n n none
-    no-stop-yet g h =
-        no-stop n n n (omega (arith, first-le ends (room most n))) (omega arith) (le-refl n) ∙ simp (lt-ltb n most h)
-
-    in-run : room most n ≤ counted ends most n → n < most → Turn n
-    in-run g h = go (ends n) refl
-      where
-        f : room most (suc n) ≡ suc n
-        f = omega arith
-
-        none-yet : first ends n ≡ n
-        none-yet =
-            let r : room most n ≡ n = omega arith in
-            rw r at (ap (λ (a : Tally). a .counted) (no-stop-yet g h))
-
-        e : counted ends most (suc n) ≡ cond (ends n) n (suc n)
-        e = ap (first ends) f ∙ first-next ends n none-yet
-
-        go : (b : Bool) → ends n ≡ b → Turn n
-        go true q = stops h (no-stop-yet g h) q (with-stop (suc n) n (suc n) (rw q at e) f (le-refl (suc n)))
-        go false q = goes h (no-stop-yet g h) q (no-stop (suc n) (suc n) (suc n) (rw q at e) f (le-refl (suc n)))
-
-    pub turn : Turn n
-    turn =
-        ⊎-elim (λ g. ⊎-elim (after-limit g) (in-run g) (side most n)) after-stop
-        (side (room most n) (counted ends most n))
-
-  -- before the first sample
-  pub nothing-yet : 0 < most → tally 0 ≡ tallyOf 0 0 none
-  nothing-yet = no-stop-yet 0 (omega arith)
+      -- it is judged
+      pub next-judged : judged ends most (suc n) ≡ suc n
+      next-judged = go (ends n) next-counted
+        where
+          go : (x : Bool) → counted ends most (suc n) ≡ cond x n (suc n) → judged ends most (suc n) ≡ suc n
+          go true e = rw (lt-ltb (counted ends most (suc n)) (room most (suc n)) (omega arith)) (omega arith)
+          go false e = rw (le-ltb (counted ends most (suc n)) (room most (suc n)) (omega arith)) (omega arith)
 
 -- ---- two runs that count as many, and both stopped or both did not
 
 module _ (ends ends′ : ℕ → Bool) (most n n′ : ℕ) (c : counted ends′ most n′ ≡ counted ends most n) (s : stopped ends′ most n′ ≡ stopped ends most n) where
   pub judged-alike : judged ends′ most n′ ≡ judged ends most n
   judged-alike = λ i. c i + bit (s i)
-
-  pub ending-alike : ending ends′ most n′ ≡ ending ends most n
-  ending-alike = λ i. cond (s i) stop (cond (ltb (c i) most) none limit)
 
 -- ---- a run that ends by fewer samples
 
@@ -165,15 +98,3 @@ module _ (ends ends′ : ℕ → Bool) (most n n′ : ℕ) (more : n ≤ n′) (
       let o = subst T (sym (same (counted ends most n) (omega arith))) (first-at ends (room most n) l) in
       let e = le-antisymm (first-least ends′ (room most n′) (counted ends most n) o) counted-longer in
       (omega (arith, le→leb), e)
-
-  -- and so does any end: what is counted then is all that will be
-  pub ended-longer : isOpen (ending ends most n) ≡ false → counted ends′ most n′ ≡ counted ends most n
-  ended-longer h = go (stopped ends most n) (ltb (counted ends most n) most) refl refl h
-    where
-      go : (x y : Bool) → stopped ends most n ≡ x → ltb (counted ends most n) most ≡ y → isOpen (cond x stop (cond y none limit)) ≡ false
-          → counted ends′ most n′ ≡ counted ends most n
-      go true y e f o = stop-longer (true-T e) .1
-      go false true e f o = absurd (false≢true (sym o))
-      go false false e f o =
-          let l = ltb-false (counted ends most n) most f in
-          omega (arith, counted-longer, counted-le ends most n .1, counted-le ends′ most n′ .1)

@@ -8,7 +8,7 @@ use borrow.Author.Tests.{le-ltb}
 use Rattle.numbers.specs.Range.{fold, sum}
 use Rattle.numbers.proofs.Range.{fold-same, sum-le}
 use Rattle.numbers.proofs.Sums.{sum-more}
-use Rattle.rules.specs.Closing.{weighing, weight, share, weighted}
+use Rattle.rules.specs.Closing.{weighing, weight, weightOf, weighted}
 
 module _ (k a : ℕ) where
   -- the sum of the rates k q + a: k times the sum of q, and a for each
@@ -22,7 +22,7 @@ module _ (k a : ℕ) where
       → m * ((k * q₁ + a) * e₁ + (k * q₂ + a) * e₂) + r * (k * s + a * m) ≡ k * (m * (q₁ * e₁ + q₂ * e₂) + r * s) + a * ((e₁ + e₂ + r) * m)
   terms m e₁ e₂ r q₁ q₂ s = omega arith
 
--- the shares of the first two rates, beside the others' sum t
+-- the weights of the first two rates, beside the others' sum t
 two-first : (m e₁ e₂ r q₁ q₂ s t : ℕ) → t ≡ r * s + 0 * m → m * (q₁ * e₁ + q₂ * e₂) + r * s ≡ 0 + e₁ * m * q₁ + e₂ * m * q₂ + t
 two-first m e₁ e₂ r q₁ q₂ s t h = omega (arith, h)
 
@@ -49,23 +49,23 @@ module _ (E n : ℕ) (e : ℕ → ℕ) (fits : e 0 + e 1 ≤ E) where
   weighings k a l b x y two h =
       rw (← weighing-linear k a x, ← weighing-linear l b y) (weighing-le (λ c. k * x c + a) (λ c. l * y c + b) two h)
 
-  -- the weighing is each rate by its cycle's share
-  pub weighing-by-shares : 2 ≤ n → (q : ℕ → ℕ) → weighing E n e q ≡ sum (λ c. share E n e c * q c) n
+  -- the weighing is each rate by its cycle's weight
+  pub weighing-by-weights : 2 ≤ n → (q : ℕ → ℕ) → weighing E n e q ≡ sum (λ c. weightOf E n e c * q c) n
   unfolding weighing fold
-  weighing-by-shares two q =
+  weighing-by-weights two q =
       let r = E - e 0 - e 1 in
       let m = n - 2 in
-      let f : ℕ → ℕ = λ c. share E n e c * q c in
+      let f : ℕ → ℕ = λ c. weightOf E n e c * q c in
       let others : sum (λ c. f (2 + c)) m ≡ r * sum (λ c. q (2 + c)) m + 0 * m =
       fold-same _+_ 0 _ (λ c. r * q (2 + c) + 0) m (λ c _. rw (le-ltb (2 + c) 2 (omega arith)) (omega arith)) ∙ sum-linear r 0 (λ c. q (2 + c)) m in
       let all : 2 + m ≡ n = omega arith in
       two-first m (e 0) (e 1) r (q 0) (q 1) (sum (λ c. q (2 + c)) m) _ others ∙ sym (sum-more f 2 m) ∙ ap (sum f) all
 
-  -- and the shares add up to the weight, as 000's weights add up to 1
-  pub shares-add-up : 2 ≤ n → sum (share E n e) n ≡ weight E n
-  shares-add-up two =
-      fold-same _+_ 0 (share E n e) (λ c. share E n e c * (0 * 0 + 1)) n (λ c _. omega arith)
-      ∙ sym (weighing-by-shares two (λ _. 0 * 0 + 1))
+  -- and the weights add up to E (n-2), as 000's weights add up to 1
+  pub weights-add-up : 2 ≤ n → sum (weightOf E n e) n ≡ weight E n
+  weights-add-up two =
+      fold-same _+_ 0 (weightOf E n e) (λ c. weightOf E n e c * (0 * 0 + 1)) n (λ c _. omega arith)
+      ∙ sym (weighing-by-weights two (λ _. 0 * 0 + 1))
       ∙ weighing-linear 0 1 (λ _. 0)
       ∙ omega arith
 

@@ -1,85 +1,101 @@
--- Demand 3: where each tolerance is kept or widened, the run stops no earlier, and what was finished stays finished with the same figures.
+-- By a wider rule the run stops no earlier, and what was finished stays finished with the same figures.
 -- Assumes nothing.
-use mathlib.Core.Bool.{false}
-use mathlib.Core.List.{List}
+use mathlib.Core.Bool.{Bool, true, false, cond, _||_, false≢true}
 use mathlib.Core.Path.{_≡_, refl, sym, subst, _∙_}
 use Prim.Native.Nat.{ℕ, _+_, _≤_}
-use native.Mathlib.Nat.{le-trans, le-of-lt, le-add-right, mod-lt, add-zero}
-use lib.Dec.{T}
+use native.Mathlib.Nat.{le-trans, add-zero}
+use native.Mathlib.Omega.{arith}
+use lib.Dec.{T, ltb}
 use Rattle.numbers.specs.Tests.{bit}
 use Rattle.numbers.proofs.Range.{gather-rest}
-use Rattle.numbers.proofs.Tests.{not-mono, refuted, true-T, T-true}
-use Rattle.rules.specs.Bench.{Sample, Tolerances, stop}
-use Rattle.rules.specs.Band.{inside}
-use Rattle.rules.specs.Run.{cycleOf, phaseFinished, cycleFinished, out, outside, over, most, counted, stopped, judged, ending, cycles}
-use Rattle.rules.proofs.Sound.{Sound, real}
-use Rattle.rules.proofs.Band.{Widened, inside-wider}
+use Rattle.numbers.proofs.Tests.{refuted, true-T, T-true}
+use Rattle.rules.specs.Tally.{over}
 use Rattle.rules.proofs.Tally as tally
-use Rattle.rules.proofs.Tally.{outside-fewer, over-fewer, counted-fewer, stopped-fewer, counted-all}
-use Rattle.rules.proofs.Figures.{PhaseKept, CycleKept, phase-kept, cycle-kept, cycle-past, finished-more}
+use Rattle.rules.specs.Bench.{Moment, none, stop, limit}
+use Rattle.rules.specs.Course.{Layout, Rule, Share, Course, course, out, outside, ends, counted, stopped, judged, closed, ending}
+use Rattle.rules.specs.Parts.{Part, rowPart, finished, cycles}
+use Rattle.rules.proofs.Facts.{Orderly, Wider}
+use Rattle.rules.proofs.Gathered.{Ends, row-ends, past-finished, cycles-more, PartKept, kept, alike-refl, closed-judged}
 
-module _ (b : List ℕ) (t t′ : Tolerances) (s : ℕ → Sample) (o : Sound b) (h : Widened t t′) where
-  out-wider : (j : ℕ) → T (out b t′ s j) → T (out b t s j)
-  out-wider j =
-      not-mono (inside b t _ (s j .speed)) (inside b t′ _ (s j .speed)) (inside-wider b t t′ _ _ h (le-of-lt (mod-lt j (real o))))
+or-mono : (a b x y : Bool) → (T a → T x) → (T b → T y) → T (a || b) → T (x || y)
+or-mono a b true y f g t = tt
+or-mono true b false y f g t = absurd (f tt)
+or-mono false b false y f g t = g t
 
-  outside-wider : (c m : ℕ) → outside b t′ s c m ≤ outside b t s c m
-  outside-wider = outside-fewer (cycleOf b) (out b t s) (out b t′ s) out-wider
+module _ (l : Layout) (r r′ : Rule) (h : Share) (w : Wider r r′) (s : ℕ → Moment) where
+  abbrev c : Course
+  c = course l r h
 
-  over-wider : (j : ℕ) → T (over b t′ s j) → T (over b t s j)
-  over-wider = over-fewer (cycleOf b) (out b t s) (out b t′ s) out-wider (t .allowance) (t′ .allowance) (h .allowance)
+  abbrev c′ : Course
+  c′ = course l r′ h
+
+  out-wider : (j : ℕ) → T (out c′ s j) → T (out c s j)
+  out-wider j = w .outside j (s j .speed)
+
+  outside-wider : (k m : ℕ) → outside c′ s k m ≤ outside c s k m
+  outside-wider = tally.outside-fewer (l .row) (out c s) (out c′ s) out-wider
+
+  ends-wider : (j : ℕ) → T (ends c′ s j) → T (ends c s j)
+  ends-wider j =
+      let v : ℕ → ℕ = λ i. s i .speed in
+      or-mono (r′ .halts v j) (over (l .row) (out c′ s) (r′ .allowance) j) (r .halts v j) (over (l .row) (out c s) (r .allowance) j)
+      (w .halts v j)
+      (tally.over-fewer (l .row) (out c s) (out c′ s) out-wider (r .allowance) (r′ .allowance) (w .allowance) j)
 
   module _ (n : ℕ) where
     -- the stop comes no earlier, and no stop comes where none was
-    pub counted-wider : counted b t s n ≤ counted b t′ s n
-    counted-wider = counted-fewer (over b t s) (over b t′ s) over-wider (most b) n
+    pub counted-wider : counted c s n ≤ counted c′ s n
+    counted-wider = tally.counted-fewer (ends c s) (ends c′ s) ends-wider (l .most) n
 
-    pub stopped-wider : T (stopped b t′ s n) → T (stopped b t s n)
-    stopped-wider = stopped-fewer (over b t s) (over b t′ s) over-wider (most b) n
+    pub closed-wider : closed c s n ≤ closed c′ s n
+    closed-wider = omega (arith, counted-wider)
 
-    pub stop-wider : ending b t′ s n ≡ stop → ending b t s n ≡ stop
-    stop-wider e =
-        tally.stopped-ending (over b t s) (most b) n
-        (T-true (stopped b t s n) (stopped-wider (true-T (tally.ending-stopped (over b t′ s) (most b) n e))))
+    pub stopped-wider : T (stopped c′ s n) → T (stopped c s n)
+    stopped-wider = tally.stopped-fewer (ends c s) (ends c′ s) ends-wider (l .most) n
 
-    pub cycles-wider : cycles b t s n ≤ cycles b t′ s n
-    cycles-wider = finished-more b o _ _ counted-wider
+    pub stop-wider : ending c′ s n ≡ stop → ending c s n ≡ stop
+    stop-wider e = rw (T-true (stopped c s n) (stopped-wider (true-T (ended (stopped c′ s n) (ltb (closed c′ s n) (l .most)) e))))
+      where
+        ended : (x y : Bool) → cond x stop (cond y none limit) ≡ stop → x ≡ true
+        ended true y q = refl
+        ended false true q = absurd (false≢true cc)
+        ended false false q = absurd (false≢true cc)
 
-    -- a finished phase is finished, with the same energy and distance
-    pub phase-wider : (c k : ℕ) → T (phaseFinished b c k (counted b t s n)) → PhaseKept b c k s s (counted b t s n) (counted b t′ s n)
-    phase-wider = phase-kept b s s _ _ counted-wider (λ j l. refl)
+    pub cycles-wider : cycles l (closed c s n) ≤ cycles l (closed c′ s n)
+    cycles-wider = cycles-more l _ _ closed-wider
 
-    -- a finished cycle is finished, with the same energy and distance, and no more samples outside
-    pub cycle-wider : (c : ℕ) → T (cycleFinished b c (counted b t s n)) → CycleKept b c s s (counted b t s n) (counted b t′ s n)
-    cycle-wider c = cycle-kept b s s _ _ counted-wider (λ j l. refl) c o
+    -- a finished part is finished, with the same energy and distance
+    pub part-wider : {p : Part} → Ends p → T (finished p (closed c s n)) → PartKept h p s s (closed c s n) (closed c′ s n)
+    part-wider e = kept _ e (alike-refl h s _) closed-wider
 
-    pub outside-finished : (c : ℕ) → T (cycleFinished b c (counted b t s n)) → outside b t′ s c (judged b t′ s n) ≤ outside b t s c (judged b t s n)
-    outside-finished c d =
-        let past = cycle-past b c (counted b t s n) o d in
+    -- a finished row has no more samples outside
+    pub outside-finished : Orderly l → (k : ℕ) → T (finished (rowPart l k) (closed c s n)) → outside c′ s k (judged c′ s n) ≤ outside c s k (judged c s n)
+    outside-finished o k d =
+        let past = past-finished (row-ends o k) (closed c s n) d in
         rw (
-          gather-rest _+_ 0 add-zero _ (λ j. bit (out b t′ s j)) _ past (judged b t′ s n) (le-trans counted-wider (le-add-right _ _)),
-          gather-rest _+_ 0 add-zero _ (λ j. bit (out b t s j)) _ past (judged b t s n) (le-add-right _ _),
+          gather-rest _+_ 0 add-zero _ (λ j. bit (out c′ s j)) _ past (judged c′ s n) (le-trans closed-wider (closed-judged c′ s n)),
+          gather-rest _+_ 0 add-zero _ (λ j. bit (out c s j)) _ past (judged c s n) (closed-judged c s n),
         )
-        (outside-wider c (counted b t s n))
+        (outside-wider k (closed c s n))
 
-    -- where there was no stop: none comes, as many samples count and are judged, the end is the same, and no cycle has more of them outside
+    -- where there was no stop: none comes, as many count and are closed, the end is the same, and no row has more outside
     pub record Unstopped : Type 0 where
-      pub no-stop : stopped b t′ s n ≡ false
-      pub counted-same : counted b t′ s n ≡ counted b t s n
-      pub judged-same : judged b t′ s n ≡ judged b t s n
-      pub end-same : ending b t′ s n ≡ ending b t s n
-      pub no-more-outside : (c : ℕ) → outside b t′ s c (judged b t′ s n) ≤ outside b t s c (judged b t s n)
+      pub no-stop : stopped c′ s n ≡ false
+      pub counted-same : counted c′ s n ≡ counted c s n
+      pub closed-same : closed c′ s n ≡ closed c s n
+      pub ending-same : ending c′ s n ≡ ending c s n
+      pub no-more-outside : (k : ℕ) → outside c′ s k (judged c′ s n) ≤ outside c s k (judged c s n)
 
-    pub unstopped-wider : stopped b t s n ≡ false → Unstopped
+    pub unstopped-wider : stopped c s n ≡ false → Unstopped
     unstopped-wider e =
-        let counted-same = counted-all (over b t s) (over b t′ s) over-wider (most b) n e in
-        let no-stop = refuted (stopped b t′ s n) (λ g. subst T e (stopped-wider (true-T g))) in
-        let stopped-same = no-stop ∙ sym e in
-        let judged-same = tally.judged-alike (over b t s) (over b t′ s) (most b) n n counted-same stopped-same in
+        let counted-same = tally.counted-all (ends c s) (ends c′ s) ends-wider (l .most) n e in
+        let no-stop = refuted (stopped c′ s n) (λ g. subst T e (stopped-wider (true-T g))) in
+        let judged-same = tally.judged-alike (ends c s) (ends c′ s) (l .most) n n counted-same (no-stop ∙ sym e) in
+        let closed-same : closed c′ s n ≡ closed c s n = omega arith in
         record {
           no-stop = no-stop;
           counted-same = counted-same;
-          judged-same = judged-same;
-          end-same = tally.ending-alike (over b t s) (over b t′ s) (most b) n n counted-same stopped-same;
-          no-more-outside = λ c. rw judged-same (outside-wider c (judged b t s n));
+          closed-same = closed-same;
+          ending-same = λ i. cond ((no-stop ∙ sym e) i) stop (cond (ltb (closed-same i) (l .most)) none limit);
+          no-more-outside = λ k. rw judged-same (outside-wider k (judged c s n));
         }

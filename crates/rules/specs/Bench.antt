@@ -6,6 +6,7 @@ use lib.Dec.{leb}
 use lib.IntN.{ℤ, pos, negℤ, _*ℤ_}
 use Rattle.numbers.specs.Whole.{between}
 pub use Rattle.rules.specs.declared.Sample.{Sample}
+pub use Rattle.rules.specs.declared.Moment.{Moment}
 pub use Rattle.rules.specs.declared.Tolerances.{Tolerances}
 pub use Rattle.rules.specs.declared.End.{End}
 pub use Rattle.rules.specs.declared.End.the-variants.{None as none, Stop as stop, Limit as limit}
@@ -31,13 +32,20 @@ isSample x =
 abbrev pub drawn : Sample → ℤ
 drawn x = negℤ (pos (x .voltage) *ℤ x .current)
 
--- "Distance of a sample is its speed, in units of 1/720 m"
-abbrev pub distance : Sample → ℕ
-distance x = x .speed
+-- what a run takes of a sample: its speed, and the energy that it draws
+abbrev pub momentOf : Sample → Moment
+momentOf x = record { speed = x .speed; energy = drawn x }
+
+-- such as a sample within its limits brings: its energy is within the greatest product of voltage and current
+abbrev pub mostDrawn : ℕ
+mostDrawn = mostVoltage * mostCurrent
+
+unfoldable pub isMoment : Moment → Bool
+isMoment x = leb (x .speed) mostSpeed && between (negℤ (pos mostDrawn)) (pos mostDrawn) (x .energy)
 
 -- the most that one share of a run brings: energy either way, and distance
 abbrev pub mostShareEnergy : ℕ
-mostShareEnergy = mostVoltage * mostCurrent
+mostShareEnergy = mostDrawn
 
 abbrev pub mostShareDistance : ℕ
 mostShareDistance = mostSpeed

@@ -8,10 +8,12 @@ use lib.IntN.{ℤ, pos, negℤ}
 use lib.ListN.{length, getD}
 use Rattle.numbers.specs.Tests.{every}
 use Rattle.numbers.specs.Whole.{eqZ}
-use Rattle.rules.specs.Bench.{Sample, Tolerances, End, none, stop, limit, drawn}
+use Rattle.rules.specs.Bench.{Moment, Tolerances, End, none, stop, limit, drawn}
 use Rattle.rules.specs.Cycle.{valid}
-use Rattle.rules.specs.Run.{positionOf, outside, counted, judged, ending, cycles}
 use Rattle.rules.specs.Band.{inside}
+use Rattle.rules.specs.Course.{closedOf, endingOf, outside, counted, judged}
+use Rattle.rules.specs.Parts.{cycles}
+use Rattle.rules.specs.Regular.{positionOf, regular}
 use Rattle.rules.specs.Closing.{weighted, closingRefusal}
 
 abbrev pub sameEnd : End → End → Bool
@@ -41,8 +43,8 @@ tolerances : ℕ → ℕ → ℕ → Tolerances
 tolerances s w a = record { speed = s; time = w; allowance = a }
 
 -- samples of speed 100 before sample j, and of speed 131 from it on
-fastFrom : ℕ → ℕ → Sample
-fastFrom j i = record { speed = cond (ltb i j) 100 131; voltage = 6000; current = pos 0 }
+fastFrom : ℕ → ℕ → Moment
+fastFrom j i = record { speed = cond (ltb i j) 100 131; energy = pos 0 }
 
 pub data Row : Type 0 where
   -- sample j of a run (so at position j mod 40), time and speed tolerance: the speeds that are inside, and those that are not
@@ -99,11 +101,10 @@ holds (band q j w s in-speeds out-speeds) =
     let test = inside y (tolerances s w 0) (positionOf y j) in
     valid y && every test in-speeds && every (λ v. not (test v)) out-speeds
 holds (drive j s a e m c os) =
-    let y = bytes (record { a = 100; b = 100; c = 100 }) in
-    let t = tolerances s 20 a in
+    let y = regular (bytes (record { a = 100; b = 100; c = 100 })) (tolerances s 20 a) in
     let x = fastFrom j in
-    let o : ℕ → Bool = λ k. eqb (outside y t x k (judged y t x 120)) (getD os k 0) in
-    sameEnd (ending y t x 120) e && eqb (counted y t x 120) m && eqb (cycles y t x 120) c && o 0 && o 1 && o 2
+    let o : ℕ → Bool = λ k. eqb (outside y x k (judged y x 120)) (getD os k 0) in
+    eqb (counted y x 120) m && sameEnd (endingOf y 120 m) e && eqb (cycles (y .layout) (closedOf y 120 m)) c && o 0 && o 1 && o 2
 holds (draws u i z) = eqZ (drawn (record { speed = 0; voltage = u; current = i })) z
 holds (weighs E e₁ e₂ n qs W) = eqb (weighted E n (λ c. getD (e₁ ∷ e₂ ∷ []) c 0) (λ c. getD qs c 0)) W
 holds (closes E es ds k) = eqb (closingRefusal E (length es) (λ c. getD es c (pos 0)) (λ c. getD ds c (pos 0))) k

@@ -1,7 +1,6 @@
 -- 'Closing figures', on whole numbers of any size: n finished cycles of energies e and distances d, the whole energy E. Place 0 is cycle 1.
 -- Assumes nothing.
 use mathlib.Core.Bool.{Bool, true, cond, _&&_}
-use mathlib.Core.List.{List}
 use mathlib.Core.Path.{_≡_}
 use Prim.Native.Nat.{ℕ, _+_, _-_, _*_, _/_, _<_}
 use lib.Dec.{leb, ltb}
@@ -10,8 +9,9 @@ use lib.Signed.{leZ, ltZ}
 use Rattle.numbers.specs.Range.{sum}
 use Rattle.numbers.specs.Tests.{allBelow, unless}
 use Rattle.numbers.specs.Whole.{up, between}
-use Rattle.rules.specs.Bench.{Sample, Tolerances, mostCycles, mostPhases}
-use Rattle.rules.specs.Run.{energy, counted}
+use Rattle.rules.specs.Bench.{Moment, mostCycles, mostPhases}
+use Rattle.rules.specs.Course.{Course, closed}
+use Rattle.rules.specs.Parts.{energy}
 use Rattle.rules.specs.Shown.{mostEnergy}
 pub use Rattle.rules.specs.declared.Charge.{Charge}
 pub use Rattle.rules.specs.declared.Charge.the-variants.{Absent as absent, Wh as wh}
@@ -32,8 +32,8 @@ isCharge absent = true
 isCharge (wh A) = leb 1 A && leb A mostCharge
 
 -- "E is transfer energy before the test plus the energy of all counted samples"
-abbrev pub wholeEnergy : ℤ → List ℕ → Tolerances → (ℕ → Sample) → ℕ → ℤ
-wholeEnergy before b t s n = before +ℤ energy s (counted b t s n)
+abbrev pub wholeEnergy : ℤ → Course → (ℕ → Moment) → ℕ → ℤ
+wholeEnergy before c s n = before +ℤ energy (c .share) s (closed c s n)
 
 -- the most that the whole energy can be, either way, of a ledger that is in bounds
 abbrev pub mostWhole : ℕ
@@ -54,9 +54,9 @@ weighing E n e q = (n - 2) * (q 0 * e 0 + q 1 * e 1) + (E - e 0 - e 1) * sum (λ
 abbrev pub weight : ℕ → ℕ → ℕ
 weight E n = E * (n - 2)
 
--- "Weights by 000, formula 9: e_1/E, e_2/E, and (1 - K_1 - K_2)/(n-2) for the others": the weight of a cycle is its share by E (n-2)
-abbrev pub share : ℕ → ℕ → (ℕ → ℕ) → ℕ → ℕ
-share E n e c = cond (ltb c 2) (e c * (n - 2)) (E - e 0 - e 1)
+-- "Weights by 000, formula 9: e_1/E, e_2/E, and (1 - K_1 - K_2)/(n-2) for the others": the weight of a cycle, over E (n-2)
+abbrev pub weightOf : ℕ → ℕ → (ℕ → ℕ) → ℕ → ℕ
+weightOf E n e c = cond (ltb c 2) (e c * (n - 2)) (E - e 0 - e 1)
 
 -- "Weighted W = floor of" their quotient
 abbrev pub weighted : ℕ → ℕ → (ℕ → ℕ) → (ℕ → ℕ) → ℕ

@@ -3,7 +3,9 @@ pub mod Bench
 pub mod Cycle
 pub mod Band
 pub mod Tally
-pub mod Run
+pub mod Course
+pub mod Parts
+pub mod Regular
 pub mod Shown
 pub mod Closing
 pub mod Card

@@ -1,15 +1,15 @@
--- 'Ledger and map': what the 576 numbers and the bits of the map are after n samples offered, and their bounds.
+-- 'Ledger and map': what the 576 numbers and the bits of the map are after n samples offered over any course, and their bounds.
 -- Assumes nothing.
 use mathlib.Core.Bool.{Bool, cond, _&&_}
 use mathlib.Core.List.{List}
 use Prim.Native.Nat.{ℕ, _+_, _-_, _*_, _/_, _%_}
-use lib.Dec.{ltb}
+use lib.Dec.{ltb, eqb}
 use lib.IntN.{ℤ, pos, negℤ}
-use Rattle.numbers.specs.Range.{table}
+use Rattle.numbers.specs.Range.{fold, table}
 use Rattle.numbers.specs.Whole.{between}
-use Rattle.rules.specs.Bench.{Sample, Tolerances, mostShareEnergy, mostShareDistance, mostPositions, mostCycles}
-use Rattle.rules.specs.Cycle.{positions}
-use Rattle.rules.specs.Run.{cycleOf, phaseEnergy, phaseDistance, out, outside, counted, judged}
+use Rattle.rules.specs.Bench.{Moment, mostShareEnergy, mostShareDistance, mostPositions, mostCycles}
+use Rattle.rules.specs.Course.{Layout, Course, out, outside, judged, closed}
+use Rattle.rules.specs.Parts.{phasePart, partEnergy, partDistance}
 
 -- "a ledger of at least 576 signed 64-bit numbers and a map of at least 750 unsigned 64-bit words"
 abbrev pub ledgerNumbers : ℕ
@@ -40,25 +40,25 @@ inBounds i z =
     (λ _. between (pos 0) (pos mostDistance) z)
     (between (pos 0) (pos mostOutside) z)
 
-module _ (b : List ℕ) (t : Tolerances) (s : ℕ → Sample) (n : ℕ) where
+module _ (c : Course) (s : ℕ → Moment) (n : ℕ) where
   -- "Cycle c owns the nine numbers that start at 9 × c (c from 0)": number i of the ledger
   unfoldable pub figure : ℕ → ℤ
   figure i =
-      let c = i / 9 in
       ofNine (i % 9)
-      (λ k. phaseEnergy b s c k (counted b t s n))
-      (λ k. pos (phaseDistance b s c k (counted b t s n)))
-      (pos (outside b t s c (judged b t s n)))
+      (λ k. partEnergy (c .share) s (phasePart (c .layout) (i / 9) k) (closed c s n))
+      (λ k. pos (partDistance (c .share) s (phasePart (c .layout) (i / 9) k) (closed c s n)))
+      (pos (outside c s (i / 9) (judged c s n)))
 
   abbrev pub ledger : List ℤ
   ledger = table figure ledgerNumbers
 
--- the map after j samples are judged
-module _ (b : List ℕ) (t : Tolerances) (s : ℕ → Sample) (j : ℕ) where
-  -- "The map shows the cycle last judged"
-  abbrev pub lastJudged : ℕ
-  lastJudged = cycleOf b (j - 1)
+-- "The map shows the cycle last judged": the last row of the ledger in which one of the first m samples stands
+unfoldable pub shownRow : Layout → ℕ → ℕ
+shownRow l = fold (λ r k. cond (ltb k mostCycles) k r) 0 (l .row)
 
-  -- "position p is .. set when outside": the sample of that cycle at position p is judged and outside
-  unfoldable pub marked : ℕ → Bool
-  marked p = let i = lastJudged * positions b + p in ltb p (positions b) && ltb i j && out b t s i
+-- "position p is .. set when outside": the sample at position p of that row is among the first m, which are judged, and outside
+unfoldable pub marked : Course → (ℕ → Moment) → ℕ → ℕ → Bool
+marked c s m p =
+    let r = shownRow (c .layout) m in
+    let i = c .layout .begin r + p in
+    eqb (c .layout .row i) r && ltb i m && out c s i

@@ -1,11 +1,10 @@
 -- Which samples count, whatever cycle each stands in and whatever makes it outside. Sample j stands in `cycle j`; `out j` says whether it is outside.
 -- Assumes nothing.
-use mathlib.Core.Bool.{Bool, cond}
+use mathlib.Core.Bool.{Bool}
 use Prim.Native.Nat.{ℕ, suc, _+_, min}
 use lib.Dec.{ltb, eqb}
 use Rattle.numbers.specs.Range.{sumOf, first}
 use Rattle.numbers.specs.Tests.{bit}
-use Rattle.rules.specs.Bench.{End, none, stop, limit}
 
 module _ (cycle : ℕ → ℕ) (out : ℕ → Bool) where
   -- "Outside samples are counted afresh in each cycle": of the first m, those of cycle c that are outside
@@ -32,7 +31,3 @@ module _ (ends : ℕ → Bool) (most n : ℕ) where
   -- "That sample is marked and counted as outside": it is judged, as those counted are
   abbrev pub judged : ℕ
   judged = counted + bit stopped
-
-  -- "The run also ends, by limit, when" as many as can count are counted
-  abbrev pub ending : End
-  ending = cond stopped stop (cond (ltb counted most) none limit)

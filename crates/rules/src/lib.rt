@@ -8,6 +8,12 @@ pub struct Sample {
     pub current: i16,
 }
 
+// What a run takes of a sample: its speed, and the energy that it draws, in units of 0.5 mJ.
+pub struct Moment {
+    pub speed: u16,
+    pub energy: i64,
+}
+
 // Speed in 0.1 km/h, time in positions, the allowance in samples.
 pub struct Tolerances {
     pub speed: u32,

@@ -25,12 +25,18 @@ pub struct Figures {
     pub ac: Figure,
 }
 
+// How long lines are lent: no sheet is longer.
+pub const MOST_SHEET: usize = 512;
+
 // The sheet of a record, from the start of out; how many bytes it has. Where out is too short, 0, and nothing is written.
 pub fn sheet_lines(f: Figures, out: &mut [u8]) -> usize
     ensures { λ r. ⌜ r ≡ unless 0 (leb mostSheet (length (now (out .entry)))) (length (sheetText f)) ⌝ }
-    ensures { λ _. ⌜ now (out .exit) ≡ unless (now (out .entry)) (leb mostSheet (length (now (out .entry)))) (laid (now (out .entry)) 0 (sheetText f)) ⌝ }
+    ensures { λ _. ⌜
+        now (out .exit)
+        ≡ unless (now (out .entry)) (leb mostSheet (length (now (out .entry)))) (laid (now (out .entry)) 0 (sheetText f))
+        ⌝ }
 {
-    if out.len() < 512 {
+    if out.len() < MOST_SHEET {
         return 0;
     }
     let head = lines::head_lines(&mut *out, 0, f);
@@ -41,9 +47,12 @@ pub fn sheet_lines(f: Figures, out: &mut [u8]) -> usize
 // The line of a refused field, likewise.
 pub fn refusal_line(number: u32, field: u64, out: &mut [u8]) -> usize
     ensures { λ r. ⌜ r ≡ unless 0 (leb mostSheet (length (now (out .entry)))) (length (refusalText number field)) ⌝ }
-    ensures { λ _. ⌜ now (out .exit) ≡ unless (now (out .entry)) (leb mostSheet (length (now (out .entry)))) (laid (now (out .entry)) 0 (refusalText number field)) ⌝ }
+    ensures { λ _. ⌜
+        now (out .exit)
+        ≡ unless (now (out .entry)) (leb mostSheet (length (now (out .entry)))) (laid (now (out .entry)) 0 (refusalText number field))
+        ⌝ }
 {
-    if out.len() < 512 {
+    if out.len() < MOST_SHEET {
         return 0;
     }
     let n = number as u64;

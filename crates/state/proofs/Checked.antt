@@ -52,15 +52,15 @@ judged-most limit most o c h g = omega (arith, progress-most limit most o c h .1
 -- ---- the state
 
 pub record Limits (r : Run) : Type 0 where
-  pub long : 2 ≤ r .seconds
-  pub short : r .seconds ≤ mostSeconds
-  pub first : r .ends .first ≤ mostSeconds
-  pub second : r .ends .second ≤ mostSeconds
-  pub third : r .ends .third ≤ mostSeconds
-  pub fourth : r .ends .fourth ≤ mostSeconds
-  pub tolerated : Tolerated (r .tolerances)
-  pub offered : r .offered ≤ mostOffered
-  pub progress : isProgress (r .end) (mostOf r) (r .offered) (r .counted) ≡ true
+  pub long : 2 ≤ r .track .seconds
+  pub short : r .track .seconds ≤ mostSeconds
+  pub first : r .track .ends .first ≤ mostSeconds
+  pub second : r .track .ends .second ≤ mostSeconds
+  pub third : r .track .ends .third ≤ mostSeconds
+  pub fourth : r .track .ends .fourth ≤ mostSeconds
+  pub tolerated : Tolerated (r .track .tolerances)
+  pub offered : r .progress .offered ≤ mostOffered
+  pub progress : isProgress (r .progress .end) (mostOf r) (r .progress .offered) (r .progress .counted) ≡ true
 
 pub limits : (r : Run) → isRun r ≡ true → Limits r
 unfolding isRun areEnds
@@ -80,7 +80,7 @@ limits r e =
       second = leb-true _ _ (d₁ .1);
       third = leb-true _ _ (d₂ .1);
       fourth = leb-true _ _ (d₃ .1);
-      tolerated = tolerated (r .tolerances) (e₃ .1);
+      tolerated = tolerated (r .track .tolerances) (e₃ .1);
       offered = leb-true _ _ (e₄ .1);
       progress = e₅ .1;
     }
@@ -99,7 +99,7 @@ run-by {r} h =
       le-leb _ _ (h .second),
       le-leb _ _ (h .third),
       le-leb _ _ (h .fourth),
-      tolerable-by (r .tolerances) (h .tolerated),
+      tolerable-by (r .track .tolerances) (h .tolerated),
       le-leb _ _ (h .offered),
       h .progress,
     )
@@ -154,10 +154,10 @@ pub record Ground (r : Run) (b : List ℕ) (l : List ℤ) (m : List ℕ) : Type 
   pub limits : Limits r
   pub is-run : isRun r ≡ true
   pub sound : valid b ≡ true
-  pub same-seconds : seconds b ≡ r .seconds
-  pub same-ends : endsOf b ≡ r .ends
+  pub same-seconds : seconds b ≡ r .track .seconds
+  pub same-ends : endsOf b ≡ r .track .ends
 
-pub starts-by : (r : Run) (b : List ℕ) → valid b ≡ true → seconds b ≡ r .seconds → endsOf b ≡ r .ends → isStarts r b ≡ true
+pub starts-by : (r : Run) (b : List ℕ) → valid b ≡ true → seconds b ≡ r .track .seconds → endsOf b ≡ r .track .ends → isStarts r b ≡ true
 unfolding isStarts
 starts-by r b v s e = rw (v, eq-eqb _ _ s, same-by _ _ e)
 

@@ -14,7 +14,25 @@ use Rattle.rules.specs.Cycle.{phases, phaseEnd, seconds, valid}
 use Rattle.rules.specs.Shown.{mapWords}
 use Rattle.ledger.specs.Row.{bounded}
 pub use Rattle.state.specs.declared.Ends.{Ends}
+pub use Rattle.state.specs.declared.Track.{Track}
+pub use Rattle.state.specs.declared.Progress.{Progress}
 pub use Rattle.state.specs.declared.Run.{Run}
+
+-- ledger and map together
+pub record Memory : Type 0 where
+  pub ledger : List ℤ
+  pub map : List ℕ
+
+abbrev pub lent : List ℤ → List ℕ → Memory
+lent l m = record { ledger = l; map = m }
+
+-- what a call leaves: its answer, and ledger and map
+pub record Left (A : Type 0) : Type 0 where
+  pub answer : A
+  pub memory : Memory
+
+abbrev pub left : {A : Type 0} → A → List ℤ → List ℕ → Left A
+left a l m = record { answer = a; memory = lent l m }
 
 -- the end of phase k, and 0 where there is no such phase
 abbrev pub endOrZero : List ℕ → ℕ → ℕ
@@ -28,7 +46,7 @@ sameEnds d e = eqb (d .first) (e .first) && eqb (d .second) (e .second) && eqb (
 
 -- how many samples can count: those of 64 cycles
 abbrev pub mostOf : Run → ℕ
-mostOf r = mostCycles * (20 * r .seconds)
+mostOf r = mostCycles * (20 * r .track .seconds)
 
 -- what the three ends say of the samples offered and counted
 unfoldable pub isProgress : End → ℕ → ℕ → ℕ → Bool
@@ -42,12 +60,12 @@ areEnds e = leb (e .first) mostSeconds && leb (e .second) mostSeconds && leb (e 
 -- no number of the state is beyond its limits (docs/STATE.md)
 unfoldable pub isRun : Run → Bool
 isRun r =
-    leb leastSeconds (r .seconds)
-    && leb (r .seconds) mostSeconds
-    && areEnds (r .ends)
-    && tolerable (r .tolerances)
-    && leb (r .offered) mostOffered
-    && isProgress (r .end) (mostOf r) (r .offered) (r .counted)
+    leb leastSeconds (r .track .seconds)
+    && leb (r .track .seconds) mostSeconds
+    && areEnds (r .track .ends)
+    && tolerable (r .track .tolerances)
+    && leb (r .progress .offered) mostOffered
+    && isProgress (r .progress .end) (mostOf r) (r .progress .offered) (r .progress .counted)
 
 -- ledger and map are long enough, none of the 576 numbers is out of bounds, and none of the state's
 unfoldable pub isLent : Run → List ℤ → List ℕ → Bool
@@ -55,7 +73,7 @@ isLent r l m = bounded l && leb mapWords (length m) && isRun r
 
 -- the cycle breaks no rule, and is the start's in T and phase ends
 unfoldable pub isStarts : Run → List ℕ → Bool
-isStarts r b = valid b && eqb (seconds b) (r .seconds) && sameEnds (endsOf b) (r .ends)
+isStarts r b = valid b && eqb (seconds b) (r .track .seconds) && sameEnds (endsOf b) (r .track .ends)
 
 -- "In a started run 1 and 2 come before all others"
 unfoldable pub ground : Run → List ℕ → List ℤ → List ℕ → ℕ → ℕ

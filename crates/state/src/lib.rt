@@ -18,10 +18,11 @@ use values::is_sample;
 use values::is_tolerable;
 ghost use mathlib.Core.Path.{_≡_};
 ghost use mathlib.Core.Bool.{true};
-ghost use Prim.Native.Nat.{_<_};
+ghost use Prim.Native.Nat.{_≤_, _<_};
+ghost use Rattle.rules.specs.Bench.{mostCycles};
 ghost use Rattle.rules.specs.Cycle.{seconds, valid};
 ghost use Rattle.state.specs.State.{endOrZero, endsOf, sameEnds, isProgress, areEnds, isRun, isLent, isStarts, ground};
-ghost use Rattle.state.specs.Refusals.{startRefusal, sampleRefusal, lastCycle};
+ghost use Rattle.state.specs.Refusals.{startRefusal, sampleRefusal, cyclesBy, lastCycle};
 
 // As many cycles, and as many seconds, as the numbers beside them are wide.
 const CYCLES: u32 = MOST_CYCLES as u32;
@@ -36,14 +37,24 @@ pub struct Ends {
     pub fourth: u16,
 }
 
-// A started run. Cycle and position are not in it: they are counted div N and counted mod N.
-pub struct Run {
+// What the start fixed: T, the phase ends and the tolerances.
+pub struct Track {
     pub seconds: u32,
     pub ends: Ends,
     pub tolerances: Tolerances,
+}
+
+// What a sample changes: how many were offered, how many count, and how the run ended.
+pub struct Progress {
     pub offered: u32,
     pub counted: u32,
     pub end: End,
+}
+
+// A started run. Cycle and position are not in it: they are counted div N and counted mod N.
+pub struct Run {
+    pub track: Track,
+    pub progress: Progress,
 }
 
 // The end of phase k, and 0 where there is no such phase.
@@ -100,27 +111,28 @@ fn are_ends(e: Ends) -> bool
 }
 
 // Whether the samples offered and counted are such as the end says.
-fn is_progress(end: End, most: u32, offered: u32, counted: u32) -> bool
-    ensures { λ r. ⌜ r ≡ isProgress end most offered counted ⌝ }
+fn is_progress(progress: Progress, most: u32) -> bool
+    ensures { λ r. ⌜ r ≡ isProgress (progress .end) most (progress .offered) (progress .counted) ⌝ }
 {
+    let end = progress.end;
     match end {
         End::None => {
-            if counted != offered {
+            if progress.counted != progress.offered {
                 return false;
             }
-            counted < most
+            progress.counted < most
         }
         End::Stop => {
-            if offered <= counted {
+            if progress.offered <= progress.counted {
                 return false;
             }
-            counted < most
+            progress.counted < most
         }
         End::Limit => {
-            if counted != most {
+            if progress.counted != most {
                 return false;
             }
-            most <= offered
+            most <= progress.offered
         }
     }
 }
@@ -129,25 +141,22 @@ fn is_progress(end: End, most: u32, offered: u32, counted: u32) -> bool
 fn is_run(run: Run) -> bool
     ensures { λ r. ⌜ r ≡ isRun run ⌝ }
 {
-    if run.seconds < LEAST_SECONDS {
+    if run.track.seconds < LEAST_SECONDS {
         return false;
     }
-    if MOST_SECONDS < run.seconds {
+    if MOST_SECONDS < run.track.seconds {
         return false;
     }
-    let ends = run.ends;
-    if !are_ends(ends) {
+    if !are_ends(run.track.ends) {
         return false;
     }
-    let tolerances = run.tolerances;
-    if !is_tolerable(tolerances) {
+    if !is_tolerable(run.track.tolerances) {
         return false;
     }
-    if MOST_OFFERED < run.offered {
+    if MOST_OFFERED < run.progress.offered {
         return false;
     }
-    let end = run.end;
-    is_progress(end, CYCLES * (20 * run.seconds), run.offered, run.counted)
+    is_progress(run.progress, CYCLES * (20 * run.track.seconds))
 }
 
 // Whether ledger and map are long enough, and no number of ledger or state is out of bounds.
@@ -170,11 +179,10 @@ fn is_starts(run: Run, cycle: &[u8]) -> bool
     if !is_cycle(cycle) {
         return false;
     }
-    if seconds_of(cycle) != run.seconds {
+    if seconds_of(cycle) != run.track.seconds {
         return false;
     }
-    let ends = run.ends;
-    are_same(ends_of(cycle), ends)
+    are_same(ends_of(cycle), run.track.ends)
 }
 
 // 1 or 2, or 0 where a started run's operation may go on.
@@ -215,7 +223,7 @@ pub fn sample_refusal(run: Run, cycle: &[u8], ledger: &[i64], map: &[u64], x: Sa
     if a != 0 {
         return a;
     }
-    if MOST_OFFERED <= run.offered {
+    if MOST_OFFERED <= run.progress.offered {
         return 7;
     }
     if !is_sample(x) {
@@ -224,16 +232,25 @@ pub fn sample_refusal(run: Run, cycle: &[u8], ledger: &[i64], map: &[u64], x: Sa
     0
 }
 
+// How many cycles are finished: as many as the shares closed make.
+pub fn cycles_of(run: Run) -> u32
+    requires { ⌜ isRun run ≡ true ⌝ }
+    ensures { λ r. ⌜ (r ≡ cyclesBy run) × (r ≤ mostCycles) ⌝ }
+{
+    run.progress.counted / (20 * run.track.seconds)
+}
+
 // The cycle of the sample last judged.
 pub fn last_cycle(run: Run, cycle: &[u8]) -> usize
-    requires { ⌜ (valid (now cycle) ≡ true) × (seconds (now cycle) ≡ run .seconds) × (isRun run ≡ true) ⌝ }
-    ensures { λ r. ⌜ (r ≡ lastCycle run (now (cycle .entry))) × (r < 64) ⌝ }
+    requires { ⌜ (valid (now cycle) ≡ true) × (seconds (now cycle) ≡ run .track .seconds) × (isRun run ≡ true) ⌝ }
+    ensures { λ r. ⌜ (r ≡ lastCycle run (now (cycle .entry))) × (r < mostCycles) ⌝ }
 {
-    let n = 20 * run.seconds;
-    let end = run.end;
+    let n = 20 * run.track.seconds;
+    let progress = run.progress;
+    let end = progress.end;
     match end {
-        End::Stop => (run.counted / n) as usize,
-        End::None => (less(run.counted, 1) / n) as usize,
-        End::Limit => (less(run.counted, 1) / n) as usize,
+        End::Stop => (progress.counted / n) as usize,
+        End::None => (less(progress.counted, 1) / n) as usize,
+        End::Limit => (less(progress.counted, 1) / n) as usize,
     }
 }

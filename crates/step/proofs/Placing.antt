@@ -9,12 +9,13 @@ use lib.Dec.{ltb}
 use Rattle.rules.specs.declared.End.{End}
 use Rattle.rules.specs.declared.End.the-variants.{None as none, Limit as limit}
 use Rattle.rules.specs.Cycle.{positions, phaseEnd, phaseAt}
-use Rattle.rules.specs.Run.{cycleOf, positionOf, most}
+use Rattle.rules.specs.Regular.{cycleOf, positionOf, most}
 use Rattle.rules.proofs.Sound.{Sound, phase-first}
+use Rattle.rules.specs.Bench.{mostCycles}
 use Rattle.window.specs.declared.Window.{Window}
 use Rattle.window.specs.Moving.{windowOf}
 use Rattle.step.specs.Step.{Going, Next, untilAt, standing, nextOf, countedOne}
-use Rattle.step.proofs.Standing.{position-is, cycle-is, phase-is, until-is, position-small, near-positions, same-phase, same-until, same-cycle, next-position, still-open, next-cycle, first-position, limit-test}
+use Rattle.step.proofs.Standing.{position-is, row-is, phase-is, until-is, position-small, near-positions, same-phase, same-until, same-cycle, next-position, still-open, next-cycle, first-position, limit-test}
 
 -- where the sample after n counted ones stands, n + 1 with the last of them
 module _ (b : List ℕ) (o : Sound b) (n c p : ℕ) (hc : c ≡ cycleOf b n) (hp : p ≡ positionOf b n) where
@@ -30,13 +31,13 @@ module _ (b : List ℕ) (o : Sound b) (n c p : ℕ) (hc : c ≡ cycleOf b n) (hp
         phase = (e ∙ ap (phaseAt b) there) i;
       }
 
-  pub next-first : (e : End) → positions b ≤ p + 1 → e ≡ cond (ltb (c + 1) 64) none limit
+  pub next-first : (e : End) → positions b ≤ p + 1 → e ≡ cond (ltb (c + 1) mostCycles) none limit
       → _≡_ {A = Next} (record { end = e; row = c + 1; position = 0; phase = 0 }) (nextOf b (n + 1))
   next-first e h q =
       let h′ : positions b ≤ positionOf b n + 1 = omega arith in
       let there = first-position b o n h′ in
       λ i. record {
-        end = (q ∙ ap (λ (k : ℕ). cond (ltb (k + 1) 64) none limit) hc ∙ ap (λ (x : Bool). cond x none limit) (limit-test b o n h′)) i;
+        end = (q ∙ ap (λ (k : ℕ). cond (ltb (k + 1) mostCycles) none limit) hc ∙ ap (λ (x : Bool). cond x none limit) (limit-test b o n h′)) i;
         row = (ap (λ (k : ℕ). k + 1) hc ∙ next-cycle b o n h′) i;
         position = there i;
         phase = (sym (phase-first b o) ∙ ap (phaseAt b) there) i;
@@ -49,14 +50,12 @@ module _ (b : List ℕ) (w : ℕ) (y : Window) (u : ℕ) where
 
   pub turned-is : (m n : ℕ) (x : Next) → x ≡ nextOf b n → y ≡ windowOf b w (x .position) → u ≡ min (y .until) (20 * phaseEnd b (x .phase))
       → _≡_ {A = Going}
-      (record { offered = m; counted = n; end = x .end; row = x .row; position = x .position; phase = x .phase; window = y; until = u })
-      (standing b w m n (cond (ltb n (most b)) none limit))
+      (record { progress = record { offered = m; counted = n; end = x .end }; row = x .row; position = x .position; phase = x .phase; window = y; until = u })
+      (standing b w (record { offered = m; counted = n; end = cond (ltb n (most b)) none limit }))
   turned-is m n x hx hy hu =
       let there = hy ∙ ap (λ (z : Next). windowOf b w (z .position)) hx in
       λ i. record {
-        offered = m;
-        counted = n;
-        end = hx i .end;
+        progress = record { offered = m; counted = n; end = hx i .end };
         row = hx i .row;
         position = hx i .position;
         phase = hx i .phase;
@@ -65,9 +64,9 @@ module _ (b : List ℕ) (w : ℕ) (y : Window) (u : ℕ) where
       }
 
 -- while only the ends of the window move
-module _ (b : List ℕ) (o : Sound b) (w : ℕ) (g : Going) (stands : g ≡ standing b w (g .offered) (g .counted) (g .end)) (h : g .position + 1 < g .until) where
+module _ (b : List ℕ) (o : Sound b) (w : ℕ) (g : Going) (stands : g ≡ standing b w (g .progress)) (h : g .position + 1 < g .until) where
   abbrev n : ℕ
-  n = g .counted
+  n = g .progress .counted
 
   abbrev p : ℕ
   p = positionOf b n
@@ -84,19 +83,17 @@ module _ (b : List ℕ) (o : Sound b) (w : ℕ) (g : Going) (stands : g ≡ stan
   pub goes-on : g .position + 1 < positions b
   goes-on = omega (arith, position-now, near-positions b o w p small near)
 
-  pub moved-is : g .counted < most b → (x : Window) → x ≡ windowOf b w (g .position + 1)
+  pub moved-is : g .progress .counted < most b → (x : Window) → x ≡ windowOf b w (g .position + 1)
       → _≡_ {A = Going}
-      (record { offered = g .offered + 1; counted = g .counted + 1; end = none; row = g .row; position = g .position + 1; phase = g .phase; window = x; until = g .until })
+      (record { progress = record { offered = g .progress .offered + 1; counted = g .progress .counted + 1; end = none }; row = g .row; position = g .position + 1; phase = g .phase; window = x; until = g .until })
       (countedOne b w g)
   moved-is l x e =
       let inner = near-positions b o w p small near in
       let next = next-position b o n inner in
       let there = ap (λ (i : ℕ). i + 1) position-now ∙ next in
       λ i. record {
-        offered = g .offered + 1;
-        counted = n + 1;
-        end = cond (sym (still-open b o n inner l) i) none limit;
-        row = (cycle-is b o w g stands ∙ same-cycle b o n inner) i;
+        progress = record { offered = g .progress .offered + 1; counted = n + 1; end = cond (sym (still-open b o n inner l) i) none limit };
+        row = (row-is b o w g stands ∙ same-cycle b o n inner) i;
         position = there i;
         phase = (phase-is b o w g stands ∙ same-phase b o w p small near ∙ ap (phaseAt b) next) i;
         window = (e ∙ ap (windowOf b w) there) i;

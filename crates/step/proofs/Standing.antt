@@ -2,8 +2,8 @@
 -- Assumes nothing.
 use mathlib.Core.Bool.{true}
 use mathlib.Core.List.{List}
-use mathlib.Core.Path.{_≡_, sym, ap, ap₂}
-use Prim.Native.Nat.{ℕ, _+_, _*_, _≤_, _<_, min}
+use mathlib.Core.Path.{_≡_, sym, ap, ap₂, _∙_}
+use Prim.Native.Nat.{ℕ, _+_, _-_, _*_, _≤_, _<_, min}
 use native.Mathlib.Nat.{mod-lt, div-add-mod', div-lt-iff-lt-mul}
 use native.Mathlib.Numerals.{add-one}
 use native.Mathlib.Omega.{arith}
@@ -11,41 +11,45 @@ use lib.Dec.{ltb}
 use borrow.Author.Tests.{lt-ltb}
 use Rattle.numbers.proofs.Order.{digits, ltb-div}
 use Rattle.rules.specs.Cycle.{positions, phaseEnd, phaseAt}
-use Rattle.rules.specs.Run.{cycleOf, positionOf, most}
+use Rattle.rules.specs.Regular.{cycleOf, positionOf, most}
 use Rattle.rules.proofs.Sound.{Sound, real, four, ends-within, phase-exists, phase-stays}
-use Rattle.rules.specs.Bench.{mostPositions}
+use Rattle.rules.specs.Bench.{mostPositions, mostPhases, mostCycles}
 use Rattle.window.specs.declared.Window.{Window}
 use Rattle.window.specs.Moving.{windowOf}
 use Rattle.window.proofs.Moves.{shifts}
 use Rattle.step.specs.Step.{Going, untilAt, standing}
 
-module _ (b : List ℕ) (o : Sound b) (w : ℕ) (g : Going) (stands : g ≡ standing b w (g .offered) (g .counted) (g .end)) where
-  pub position-is : g .position ≡ positionOf b (g .counted)
+module _ (b : List ℕ) (o : Sound b) (w : ℕ) (g : Going) (stands : g ≡ standing b w (g .progress)) where
+  pub position-is : g .position ≡ positionOf b (g .progress .counted)
   position-is = ap (λ (y : Going). y .position) stands
 
-  pub cycle-is : g .row ≡ cycleOf b (g .counted)
-  cycle-is = ap (λ (y : Going). y .row) stands
+  pub row-is : g .row ≡ cycleOf b (g .progress .counted)
+  row-is = ap (λ (y : Going). y .row) stands
 
-  pub phase-is : g .phase ≡ phaseAt b (positionOf b (g .counted))
+  pub phase-is : g .phase ≡ phaseAt b (positionOf b (g .progress .counted))
   phase-is = ap (λ (y : Going). y .phase) stands
 
-  pub window-is : g .window ≡ windowOf b w (positionOf b (g .counted))
+  pub window-is : g .window ≡ windowOf b w (positionOf b (g .progress .counted))
   window-is = ap (λ (y : Going). y .window) stands
 
-  pub until-is : g .until ≡ untilAt b w (positionOf b (g .counted))
+  pub until-is : g .until ≡ untilAt b w (positionOf b (g .progress .counted))
   until-is = ap (λ (y : Going). y .until) stands
 
+  -- as the course of such a plan has it
+  pub position-in : g .position ≡ g .progress .counted - cycleOf b (g .progress .counted) * positions b
+  position-in = position-is ∙ omega (arith, div-add-mod' (g .progress .counted) (positions b))
+
   pub position-small : g .position < positions b
-  position-small = rw position-is (mod-lt (g .counted) (real o))
+  position-small = rw position-is (mod-lt (g .progress .counted) (real o))
 
   pub position-most : g .position < mostPositions
   position-most = omega (arith, position-small, o .short)
 
-  pub phase-small : g .phase < 4
-  phase-small = rw phase-is (four b (positionOf b (g .counted)) o (mod-lt (g .counted) (real o)))
+  pub phase-small : g .phase < mostPhases
+  phase-small = rw phase-is (four b (positionOf b (g .progress .counted)) o (mod-lt (g .progress .counted) (real o)))
 
-  pub cycle-small : g .counted < most b → g .row < 64
-  cycle-small h = rw cycle-is (div-lt-iff-lt-mul {x = g .counted} {y = 64} (real o) .1 h)
+  pub row-small : g .progress .counted < most b → g .row < mostCycles
+  row-small h = rw row-is (div-lt-iff-lt-mul {x = g .progress .counted} {y = mostCycles} (real o) .1 h)
 
 -- while only the ends of the window move
 module _ (b : List ℕ) (o : Sound b) (w p : ℕ) (small : p < positions b) (h : p + 1 < untilAt b w p) where
@@ -80,9 +84,9 @@ module _ (b : List ℕ) (o : Sound b) (n : ℕ) where
 
     pub still-open : n < most b → ltb (n + 1) (most b) ≡ true
     still-open l =
-        let c = div-lt-iff-lt-mul {x = n} {y = 64} (real o) .1 l in
-        let d : cycleOf b (n + 1) < 64 = rw (sym same-cycle) c in
-        lt-ltb (n + 1) (most b) (div-lt-iff-lt-mul {x = n + 1} {y = 64} (real o) .0 d)
+        let c = div-lt-iff-lt-mul {x = n} {y = mostCycles} (real o) .1 l in
+        let d : cycleOf b (n + 1) < mostCycles = rw (sym same-cycle) c in
+        lt-ltb (n + 1) (most b) (div-lt-iff-lt-mul {x = n + 1} {y = mostCycles} (real o) .0 d)
 
   -- to the next cycle
   module _ (h : positions b ≤ positionOf b n + 1) where
@@ -98,5 +102,5 @@ module _ (b : List ℕ) (o : Sound b) (n : ℕ) where
     pub first-position : 0 ≡ positionOf b (n + 1)
     first-position = past .0
 
-    pub limit-test : ltb (cycleOf b n + 1) 64 ≡ ltb (n + 1) (most b)
-    limit-test = rw next-cycle (ltb-div 64 (n + 1) (positions b) (real o))
+    pub limit-test : ltb (cycleOf b n + 1) mostCycles ≡ ltb (n + 1) (most b)
+    limit-test = rw next-cycle (ltb-div mostCycles (n + 1) (positions b) (real o))

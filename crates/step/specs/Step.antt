@@ -1,116 +1,119 @@
 -- What an accepted sample does to a run and its memory.
 -- Assumes nothing.
-use mathlib.Core.Bool.{Bool, true, not, cond}
+use mathlib.Core.Bool.{Bool, true, cond}
 use mathlib.Core.List.{List}
 use mathlib.Core.Path.{_≡_}
-use Prim.Native.Nat.{ℕ, suc, _+_, _*_, _≤_, _<_, min}
+use Prim.Native.Nat.{ℕ, suc, _+_, _-_, _*_, _≤_, _<_, min}
 use lib.Dec.{ltb}
 use lib.IntN.{ℤ, pos}
 use lib.ListN.{length}
 use Rattle.numbers.specs.Lists.{cleared}
 use Rattle.numbers.specs.Range.{fold}
 use Rattle.numbers.specs.Whole.{Sized}
-use Rattle.rules.specs.declared.Sample.{Sample}
+use Rattle.rules.specs.declared.Moment.{Moment}
 use Rattle.rules.specs.declared.Tolerances.{Tolerances}
 use Rattle.rules.specs.declared.End.{End}
 use Rattle.rules.specs.declared.End.the-variants.{None as none, Stop as stop, Limit as limit}
-use Rattle.rules.specs.Bench.{isOpen, drawn, distance, mostOffered}
+use Rattle.rules.specs.Bench.{isOpen, mostTimeTolerance, mostOffered}
 use Rattle.rules.specs.Cycle.{valid, phaseEnd, phaseAt}
-use Rattle.rules.specs.Band.{inside}
-use Rattle.rules.specs.Run.{cycleOf, positionOf, most}
+use Rattle.rules.specs.Course.{Course}
+use Rattle.rules.specs.Regular.{cycleOf, positionOf, most, Plan, plan, courseOf}
 use Rattle.rules.specs.Shown.{ledgerNumbers, mapWords, mostEnergy}
 use Rattle.window.specs.Moving.{windowOf}
 use Rattle.ledger.specs.Row.{at, isOver, sampleAdded, mostStep}
 use Rattle.map.specs.Map.{opened, markedIf}
+use Rattle.state.specs.declared.Progress.{Progress}
 use Rattle.state.specs.declared.Run.{Run}
+use Rattle.state.specs.State.{Memory, lent, Left, left}
+use Rattle.state.specs.Refusals.{notBegun}
 pub use Rattle.step.specs.declared.Going.{Going}
 pub use Rattle.step.specs.declared.Next.{Next}
 
--- what changes in a run, with its memory
+-- ---- over any course
+
+-- a run's progress, with its memory
 pub record State : Type 0 where
-  pub offered : ℕ
-  pub counted : ℕ
-  pub end : End
-  pub ledger : List ℤ
-  pub map : List ℕ
+  pub progress : Progress
+  pub memory : Memory
 
 -- "Later accepted samples raise only the number offered."
-abbrev pub passed : State → State
-passed a = record { offered = suc (a .offered); counted = a .counted; end = a .end; ledger = a .ledger; map = a .map }
+abbrev pub onlyOffered : State → State
+onlyOffered a = record {
+  progress = record { offered = suc (a .progress .offered); counted = a .progress .counted; end = a .progress .end };
+  memory = a .memory;
+}
 
-module _ (b : List ℕ) (t : Tolerances) (a : State) (x : Sample) where
-  -- the sample's cycle and position; whether it is outside; whether it stops the run
-  abbrev pub cycleNow : ℕ
-  cycleNow = cycleOf b (a .counted)
+module _ (c : Course) (a : State) (x : Moment) where
+  -- the sample's row and its position there; whether it is outside; whether it stops the run
+  abbrev pub rowNow : ℕ
+  rowNow = c .layout .row (a .progress .counted)
 
   abbrev pub positionNow : ℕ
-  positionNow = positionOf b (a .counted)
+  positionNow = a .progress .counted - c .layout .begin rowNow
 
   abbrev pub outNow : Bool
-  outNow = not (inside b t positionNow (x .speed))
+  outNow = c .rule .outside (a .progress .counted) (x .speed)
 
   abbrev pub overNow : Bool
-  overNow = isOver (9 * cycleNow) (a .ledger) outNow (t .allowance)
+  overNow = isOver (9 * rowNow) (a .memory .ledger) outNow (c .rule .allowance)
 
   -- the state after it
   unfoldable pub judge : State
   judge = record {
-    offered = suc (a .offered);
-    counted = cond overNow (a .counted) (suc (a .counted));
-    end = cond overNow stop (cond (ltb (suc (a .counted)) (most b)) none limit);
-    ledger = sampleAdded (9 * cycleNow) (a .ledger) (phaseAt b positionNow) (drawn x) (pos (distance x)) outNow (t .allowance);
-    map = markedIf (opened (a .map) positionNow) positionNow outNow;
+    progress = record {
+      offered = suc (a .progress .offered);
+      counted = cond overNow (a .progress .counted) (suc (a .progress .counted));
+      end = cond overNow stop (cond (ltb (suc (a .progress .counted)) (c .layout .most)) none limit);
+    };
+    memory = lent
+        (sampleAdded (9 * rowNow) (a .memory .ledger) (c .layout .phase (a .progress .counted)) x outNow (c .rule .allowance))
+        (markedIf (opened (a .memory .map) positionNow) positionNow outNow);
   }
 
 -- a sample is judged while the run is open
-unfoldable pub step : List ℕ → Tolerances → State → Sample → State
-step b t a x = cond (isOpen (a .end)) (judge b t a x) (passed a)
+unfoldable pub sampleTaken : Course → State → Moment → State
+sampleTaken c a x = cond (isOpen (a .progress .end)) (judge c a x) (onlyOffered a)
 
 -- n of the samples s 0, s 1, .. one after another
-abbrev pub steps : List ℕ → Tolerances → State → (ℕ → Sample) → ℕ → State
-steps b t = fold (step b t)
+abbrev pub samplesTaken : Course → State → (ℕ → Moment) → ℕ → State
+samplesTaken c = fold (sampleTaken c)
 
 -- "A start that succeeds sets the first 576 and 750 to zero": the state at the start, on the memory l and m
 abbrev pub startOf : List ℤ → List ℕ → State
-startOf l m = record { offered = 0; counted = 0; end = none; ledger = cleared (pos 0) ledgerNumbers l; map = cleared 0 mapWords m }
+startOf l m = record { progress = notBegun; memory = lent (cleared (pos 0) ledgerNumbers l) (cleared 0 mapWords m) }
 
--- a run and its memory as such a state, and the run that such a state leaves
+-- a run and its memory as such a state, and the run taken on to such progress
 abbrev pub stateOf : Run → List ℤ → List ℕ → State
-stateOf r l m = record { offered = r .offered; counted = r .counted; end = r .end; ledger = l; map = m }
+stateOf r l m = record { progress = r .progress; memory = lent l m }
 
-abbrev pub runOf : Run → State → Run
-runOf r a = record { seconds = r .seconds; ends = r .ends; tolerances = r .tolerances; offered = a .offered; counted = a .counted; end = a .end }
+abbrev pub withProgress : Run → Progress → Run
+withProgress r p = record { track = r .track; progress = p }
 
--- up to which position phase and window stay what they are at position p, but for the window's ends; w the time tolerance
+-- ---- where a run of the cycle b stands; w is the time tolerance
+
+-- up to which position phase and window stay what they are at position p, but for the window's ends
 abbrev pub untilAt : List ℕ → ℕ → ℕ → ℕ
 untilAt b w p = min (windowOf b w p .until) (20 * phaseEnd b (phaseAt b p))
 
--- where a run of the cycle b stands: at the cycle, position and phase of its next sample, in the window of that position
-abbrev pub standing : List ℕ → ℕ → ℕ → ℕ → End → Going
-standing b w offered counted end = record {
-  offered = offered;
-  counted = counted;
-  end = end;
-  row = cycleOf b counted;
-  position = positionOf b counted;
-  phase = phaseAt b (positionOf b counted);
-  window = windowOf b w (positionOf b counted);
-  until = untilAt b w (positionOf b counted);
+-- at the row, position and phase of its next sample, in the window of that position
+abbrev pub standing : List ℕ → ℕ → Progress → Going
+standing b w p = record {
+  progress = p;
+  row = cycleOf b (p .counted);
+  position = positionOf b (p .counted);
+  phase = phaseAt b (positionOf b (p .counted));
+  window = windowOf b w (positionOf b (p .counted));
+  until = untilAt b w (positionOf b (p .counted));
 }
 
 -- where sample n stands, and the end of a run that has counted the n before it
 abbrev pub nextOf : List ℕ → ℕ → Next
 nextOf b n = record { end = cond (ltb n (most b)) none limit; row = cycleOf b n; position = positionOf b n; phase = phaseAt b (positionOf b n) }
 
-abbrev pub goingOf : List ℕ → ℕ → State → Going
-goingOf b w a = standing b w (a .offered) (a .counted) (a .end)
-
 -- a sample more is offered, and nothing else but the end changes
 abbrev pub offeredOne : Going → End → Going
 offeredOne g end = record {
-  offered = g .offered + 1;
-  counted = g .counted;
-  end = end;
+  progress = record { offered = g .progress .offered + 1; counted = g .progress .counted; end = end };
   row = g .row;
   position = g .position;
   phase = g .phase;
@@ -118,32 +121,42 @@ offeredOne g end = record {
   until = g .until;
 }
 
--- the run, taken on to where it stands now
-abbrev pub withGoing : Run → Going → Run
-withGoing r g = record { seconds = r .seconds; ends = r .ends; tolerances = r .tolerances; offered = g .offered; counted = g .counted; end = g .end }
-
 -- a sample more is counted: the run stands at the next, and may end by limit
 abbrev pub countedOne : List ℕ → ℕ → Going → Going
-countedOne b w g = standing b w (g .offered + 1) (g .counted + 1) (cond (ltb (g .counted + 1) (most b)) none limit)
+countedOne b w g = standing b w (record {
+  offered = g .progress .offered + 1;
+  counted = g .progress .counted + 1;
+  end = cond (ltb (g .progress .counted + 1) (most b)) none limit;
+})
 
 -- what is asked where a sample is counted
 pub record Counts (b : List ℕ) (w : ℕ) (g : Going) : Type 0 where
   pub sound : valid b ≡ true
-  pub time : w ≤ 40
-  pub stands : g ≡ standing b w (g .offered) (g .counted) (g .end)
-  pub few : g .offered < mostOffered
-  pub room : g .counted < most b
+  pub time : w ≤ mostTimeTolerance
+  pub stands : g ≡ standing b w (g .progress)
+  pub few : g .progress .offered < mostOffered
+  pub room : g .progress .counted < most b
 
--- a going run with its memory, as a state
+-- a going run with its memory, as a state; and what is left of it
 abbrev pub held : Going → List ℤ → List ℕ → State
-held g l m = record { offered = g .offered; counted = g .counted; end = g .end; ledger = l; map = m }
+held g l m = record { progress = g .progress; memory = lent l m }
+
+abbrev pub leftAt : Plan → State → Left Going
+leftAt p a = record { answer = standing (p .cycle) (p .tolerances .time) (a .progress); memory = a .memory }
+
+-- what a judged sample leaves, and an accepted one
+abbrev pub oneJudged : List ℕ → Tolerances → Going → List ℤ → List ℕ → Moment → Left Going
+oneJudged b t g l m x = leftAt (plan b t) (judge (courseOf (plan b t)) (held g l m) x)
+
+abbrev pub oneTaken : List ℕ → Tolerances → Going → List ℤ → List ℕ → Moment → Left Going
+oneTaken b t g l m x = leftAt (plan b t) (sampleTaken (courseOf (plan b t)) (held g l m) x)
 
 -- what holds of a run while samples are taken: what the tests have shown, and what every sample keeps
-pub record Kept (b : List ℕ) (t : Tolerances) (g : Going) (l : List ℤ) (m : List ℕ) : Type 0 where
-  pub sound : valid b ≡ true
-  pub time : t .time ≤ 40
-  pub stands : g ≡ standing b (t .time) (g .offered) (g .counted) (g .end)
-  pub room : isOpen (g .end) ≡ true → g .counted < most b
-  pub long-ledger : ledgerNumbers ≤ length l
-  pub long-map : mapWords ≤ length m
-  pub small : (i : ℕ) → i < ledgerNumbers → Sized (mostEnergy + mostStep * g .offered) (at l i)
+pub record Kept (p : Plan) (y : Left Going) : Type 0 where
+  pub sound : valid (p .cycle) ≡ true
+  pub time : p .tolerances .time ≤ mostTimeTolerance
+  pub stands : y .answer ≡ standing (p .cycle) (p .tolerances .time) (y .answer .progress)
+  pub room : isOpen (y .answer .progress .end) ≡ true → y .answer .progress .counted < most (p .cycle)
+  pub long-ledger : ledgerNumbers ≤ length (y .memory .ledger)
+  pub long-map : mapWords ≤ length (y .memory .map)
+  pub small : (i : ℕ) → i < ledgerNumbers → Sized (mostEnergy + mostStep * y .answer .progress .offered) (at (y .memory .ledger) i)

@@ -7,11 +7,11 @@ use map::mark_if;
 use map::open_map;
 use numbers::smaller;
 use rules::End;
-use rules::Sample;
+use rules::Moment;
 use rules::Tolerances;
 use rules::limits::MOST_CYCLES;
+use state::Progress;
 use state::Run;
-use values::drawn_by;
 use window::Window;
 use window::shift;
 use window::verdict_in;
@@ -20,10 +20,9 @@ ghost use mathlib.Core.Path.{_≡_};
 ghost use mathlib.Core.Bool.{true, not, cond};
 ghost use Prim.Native.Nat.{ℕ, _+_, _*_, _<_, _≤_, min};
 ghost use lib.Dec.{ltb};
-ghost use lib.IntN.{pos};
 ghost use lib.ListN.{length};
 ghost use Rattle.numbers.specs.Whole.{Sized};
-ghost use Rattle.rules.specs.Bench.{isSample, isOpen, drawn, distance, mostOffered, mostPositions, mostCycles};
+ghost use Rattle.rules.specs.Bench.{isMoment, isOpen, mostTimeTolerance, mostOffered, mostPositions, mostPhases, mostCycles};
 ghost use Rattle.rules.specs.Cycle.{phaseEnd, seconds, phaseAt, positions, valid};
 ghost use Rattle.rules.specs.Band.{insideOf};
 ghost use Rattle.window.specs.Moving.{leastIn, greatestIn};
@@ -31,14 +30,14 @@ ghost use Rattle.map.specs.Map.{opened, markedIf};
 ghost use Rattle.ledger.specs.Row.{at, isOver, sampleAdded, mostHeld};
 ghost use Rattle.rules.specs.declared.End.the-variants.{None as none, Limit as limit};
 ghost use Rattle.rules.specs.Shown.{mapWords, ledgerNumbers};
-ghost use Rattle.step.specs.Step.{standing, nextOf, offeredOne, countedOne, Counts, held, goingOf, step, judge, Kept, withGoing};
+ghost use Rattle.rules.specs.Regular.{plan};
+ghost use Rattle.state.specs.State.{left};
+ghost use Rattle.step.specs.Step.{standing, nextOf, offeredOne, countedOne, Counts, oneJudged, oneTaken, Kept, withProgress};
 
-// Where a run stands while samples are taken: row, position and phase of the next sample and the window of its position, beside what changes in the run.
+// Where a run stands while samples are taken: row, position and phase of the next sample and the window of its position, beside its progress.
 // Up to position `until` only the ends of the window move.
 pub struct Going {
-    pub offered: u32,
-    pub counted: u32,
-    pub end: End,
+    pub progress: Progress,
     pub row: usize,
     pub position: u32,
     pub phase: usize,
@@ -63,21 +62,22 @@ fn until_in(cycle: &[u8], window: Window, phase: usize) -> u32
 }
 
 // Where the run stands.
-pub fn place(cycle: &[u8], run: Run) -> Going
-    requires { ⌜ (valid (now cycle) ≡ true) × (seconds (now cycle) ≡ run .seconds) × (run .tolerances .time ≤ 40) ⌝ }
-    ensures { λ r. ⌜ r ≡ standing (now (cycle .entry)) (run .tolerances .time) (run .offered) (run .counted) (run .end) ⌝ }
+pub fn going_at(cycle: &[u8], run: Run) -> Going
+    requires { ⌜
+        (valid (now cycle) ≡ true)
+        × (seconds (now cycle) ≡ run .track .seconds)
+        × (run .track .tolerances .time ≤ mostTimeTolerance)
+        ⌝ }
+    ensures { λ r. ⌜ r ≡ standing (now (cycle .entry)) (run .track .tolerances .time) (run .progress) ⌝ }
 {
-    let n = 20 * run.seconds;
-    let position = run.counted % n;
-    let t = run.tolerances;
-    let end = run.end;
+    let n = 20 * run.track.seconds;
+    let progress = run.progress;
+    let position = progress.counted % n;
     let phase = phase_of(cycle, position);
-    let window = window_at(cycle, t.time, position);
+    let window = window_at(cycle, run.track.tolerances.time, position);
     Going {
-        offered: run.offered,
-        counted: run.counted,
-        end,
-        row: (run.counted / n) as usize,
+        progress,
+        row: (progress.counted / n) as usize,
         position,
         phase,
         window,
@@ -87,19 +87,11 @@ pub fn place(cycle: &[u8], run: Run) -> Going
 
 // The run, taken on to where it stands now.
 pub fn with_going(run: Run, g: Going) -> Run
-    ensures { λ r. ⌜ r ≡ withGoing run g ⌝ }
+    ensures { λ r. ⌜ r ≡ withProgress run (g .progress) ⌝ }
 {
-    let ends = run.ends;
-    let tolerances = run.tolerances;
-    let end = g.end;
-    Run {
-        seconds: run.seconds,
-        ends,
-        tolerances,
-        offered: g.offered,
-        counted: g.counted,
-        end,
-    }
+    let track = run.track;
+    let progress = g.progress;
+    Run { track, progress }
 }
 
 // The phase of a position, from that of the position before.
@@ -115,14 +107,17 @@ fn next_phase(cycle: &[u8], phase: usize, position: u32) -> usize
 
 // A sample more is offered and not counted: with it the run has this end.
 fn offered_by(g: Going, end: End) -> Going
-    requires { ⌜ g .offered < mostOffered ⌝ }
+    requires { ⌜ g .progress .offered < mostOffered ⌝ }
     ensures { λ r. ⌜ r ≡ offeredOne g end ⌝ }
 {
     let window = g.window;
+    let progress = g.progress;
     Going {
-        offered: g.offered + 1,
-        counted: g.counted,
-        end,
+        progress: Progress {
+            offered: progress.offered + 1,
+            counted: progress.counted,
+            end,
+        },
         row: g.row,
         position: g.position,
         phase: g.phase,
@@ -144,7 +139,7 @@ fn end_after(rows: usize) -> End
 // Where the sample behind a counted one stands, and the run's end with that.
 fn next_place(cycle: &[u8], w: u32, g: Going) -> Next
     requires { ⌜ Counts (now cycle) w g ⌝ }
-    ensures { λ r. ⌜ r ≡ nextOf (now (cycle .entry)) (g .counted + 1) ⌝ }
+    ensures { λ r. ⌜ r ≡ nextOf (now (cycle .entry)) (g .progress .counted + 1) ⌝ }
 {
     let position = g.position;
     if position + 1 < 20 * seconds_of(cycle) {
@@ -172,10 +167,13 @@ fn turned_by(cycle: &[u8], w: u32, g: Going) -> Going
     let next = next_place(cycle, w, g);
     let end = next.end;
     let window = window_at(cycle, w, next.position);
+    let progress = g.progress;
     Going {
-        offered: g.offered + 1,
-        counted: g.counted + 1,
-        end,
+        progress: Progress {
+            offered: progress.offered + 1,
+            counted: progress.counted + 1,
+            end,
+        },
         row: next.row,
         position: next.position,
         phase: next.phase,
@@ -194,10 +192,13 @@ fn counted_by(cycle: &[u8], w: u32, g: Going) -> Going
         return turned_by(cycle, w, g);
     }
     let window = g.window;
+    let progress = g.progress;
     Going {
-        offered: g.offered + 1,
-        counted: g.counted + 1,
-        end: End::None,
+        progress: Progress {
+            offered: progress.offered + 1,
+            counted: progress.counted + 1,
+            end: End::None,
+        },
         row: g.row,
         position: position + 1,
         phase: g.phase,
@@ -227,26 +228,18 @@ fn add_in_cycle(
     ledger: &mut [i64],
     row: usize,
     phase: usize,
-    x: Sample,
+    x: Moment,
     outside: bool,
     allowance: u32,
 ) -> bool
-    requires { ⌜ (ledgerNumbers ≤ length (now ledger)) × (row < mostCycles) × (phase < 4) × (isSample x ≡ true) ⌝ }
+    requires { ⌜ (ledgerNumbers ≤ length (now ledger)) × (row < mostCycles) × (phase < mostPhases) × (isMoment x ≡ true) ⌝ }
     requires { ⌜ ((i : ℕ) → i < ledgerNumbers → Sized mostHeld (at (now ledger) i)) ⌝ }
     ensures { λ r. ⌜ r ≡ isOver (9 * row) (now (ledger .entry)) outside allowance ⌝ }
-    ensures { λ _. ⌜ now (ledger .exit) ≡ sampleAdded (9 * row) (now (ledger .entry)) phase (drawn x) (pos (distance x)) outside allowance ⌝ }
+    ensures { λ _. ⌜ now (ledger .exit) ≡ sampleAdded (9 * row) (now (ledger .entry)) phase x outside allowance ⌝ }
 {
     let from = 9 * row;
     let upto = from + 9;
-    let energy = drawn_by(x);
-    add_sample(
-        &mut ledger[from..upto],
-        phase,
-        energy,
-        x.speed as i64,
-        outside,
-        allowance,
-    )
+    add_sample(&mut ledger[from..upto], phase, x, outside, allowance)
 }
 
 // A sample of an open run.
@@ -256,13 +249,14 @@ fn judge_one(
     g: Going,
     ledger: &mut [i64],
     map: &mut [u64],
-    x: Sample,
+    x: Moment,
 ) -> Going
-    requires { ⌜ Kept (now cycle) t g (now ledger) (now map) ⌝ }
-    requires { ⌜ (g .offered < mostOffered) × (isSample x ≡ true) × (isOpen (g .end) ≡ true) ⌝ }
-    ensures { λ r. ⌜ r ≡ goingOf (now (cycle .entry)) (t .time) (judge (now (cycle .entry)) t (held g (now (ledger .entry)) (now (map .entry))) x) ⌝ }
-    ensures { λ _. ⌜ now (ledger .exit) ≡ judge (now (cycle .entry)) t (held g (now (ledger .entry)) (now (map .entry))) x .ledger ⌝ }
-    ensures { λ _. ⌜ now (map .exit) ≡ judge (now (cycle .entry)) t (held g (now (ledger .entry)) (now (map .entry))) x .map ⌝ }
+    requires { ⌜ Kept (plan (now cycle) t) (left g (now ledger) (now map)) ⌝ }
+    requires { ⌜ (g .progress .offered < mostOffered) × (isMoment x ≡ true) × (isOpen (g .progress .end) ≡ true) ⌝ }
+    ensures { λ r. ⌜
+        left r (now (ledger .exit)) (now (map .exit))
+        ≡ oneJudged (now (cycle .entry)) t g (now (ledger .entry)) (now (map .entry)) x
+        ⌝ }
 {
     let position = g.position;
     let window = g.window;
@@ -282,15 +276,17 @@ pub fn take_one(
     g: Going,
     ledger: &mut [i64],
     map: &mut [u64],
-    x: Sample,
+    x: Moment,
 ) -> Going
-    requires { ⌜ Kept (now cycle) t g (now ledger) (now map) ⌝ }
-    requires { ⌜ (g .offered < mostOffered) × (isSample x ≡ true) ⌝ }
-    ensures { λ r. ⌜ r ≡ goingOf (now (cycle .entry)) (t .time) (step (now (cycle .entry)) t (held g (now (ledger .entry)) (now (map .entry))) x) ⌝ }
-    ensures { λ _. ⌜ now (ledger .exit) ≡ step (now (cycle .entry)) t (held g (now (ledger .entry)) (now (map .entry))) x .ledger ⌝ }
-    ensures { λ _. ⌜ now (map .exit) ≡ step (now (cycle .entry)) t (held g (now (ledger .entry)) (now (map .entry))) x .map ⌝ }
+    requires { ⌜ Kept (plan (now cycle) t) (left g (now ledger) (now map)) ⌝ }
+    requires { ⌜ (g .progress .offered < mostOffered) × (isMoment x ≡ true) ⌝ }
+    ensures { λ r. ⌜
+        left r (now (ledger .exit)) (now (map .exit))
+        ≡ oneTaken (now (cycle .entry)) t g (now (ledger .entry)) (now (map .entry)) x
+        ⌝ }
 {
-    let end = g.end;
+    let progress = g.progress;
+    let end = progress.end;
     match end {
         End::None => judge_one(cycle, t, g, &mut *ledger, &mut *map, x),
         End::Stop => offered_by(g, end),

@@ -1,6 +1,7 @@
-// The values of samples, tolerances and amounts: their limits, and the energy that a sample draws.
+// The values of samples, tolerances and amounts: their limits, and what a run takes of a sample.
 use rules::Amounts;
 use rules::Charge;
+use rules::Moment;
 use rules::Sample;
 use rules::Tolerances;
 use rules::limits::LEAST_CURRENT;
@@ -15,7 +16,7 @@ use rules::limits::MOST_TRANSFER;
 use rules::limits::MOST_VOLTAGE;
 ghost use mathlib.Core.Path.{_≡_};
 ghost use Rattle.numbers.specs.Whole.{between};
-ghost use Rattle.rules.specs.Bench.{isSample, tolerable, drawn};
+ghost use Rattle.rules.specs.Bench.{isSample, tolerable, drawn, momentOf};
 ghost use Rattle.rules.specs.Closing.{isTransfer, isCharge, areAmounts};
 
 pub fn is_between(lo: i64, hi: i64, z: i64) -> bool
@@ -41,10 +42,20 @@ pub fn is_sample(x: Sample) -> bool
 }
 
 // Drawn energy, in units of 0.5 mJ.
-pub fn drawn_by(x: Sample) -> i64
+fn drawn_by(x: Sample) -> i64
     ensures { λ r. ⌜ r ≡ drawn x ⌝ }
 {
     -((x.voltage as i64) * (x.current as i64))
+}
+
+// What a run takes of the sample.
+pub fn moment_of(x: Sample) -> Moment
+    ensures { λ r. ⌜ r ≡ momentOf x ⌝ }
+{
+    Moment {
+        speed: x.speed,
+        energy: drawn_by(x),
+    }
 }
 
 // Whether the tolerances are within their limits.

@@ -16,6 +16,7 @@ ghost use mathlib.Core.Bool.{true};
 ghost use Prim.Native.Nat.{_+_, _≤_, _<_};
 ghost use Rattle.rules.specs.Cycle.{positions, seconds, valid};
 ghost use Rattle.rules.specs.Band.{lo, hi, side, verdict};
+ghost use Rattle.rules.specs.Bench.{mostTimeTolerance};
 ghost use Rattle.window.specs.Moving.{leastAfter, greatestAfter, windowOf, leastIn, greatestIn};
 
 // An end of the window: its value, and what that gains at the next place, kept 1500 higher.
@@ -60,7 +61,7 @@ fn inner_over(cycle: &[u8], j: u32, k: u32) -> Inner
 
 // The window of position p.
 pub fn window_at(cycle: &[u8], w: u32, p: u32) -> Window
-    requires { ⌜ (valid (now cycle) ≡ true) × (w ≤ 40) × (p < positions (now cycle)) ⌝ }
+    requires { ⌜ (valid (now cycle) ≡ true) × (w ≤ mostTimeTolerance) × (p < positions (now cycle)) ⌝ }
     ensures { λ r. ⌜ r ≡ windowOf (now (cycle .entry)) w p ⌝ }
     ensures { λ r. ⌜ (leastIn r ≡ lo (now (cycle .entry)) w p) × (greatestIn r ≡ hi (now (cycle .entry)) w p) ⌝ }
 {
@@ -122,7 +123,7 @@ pub fn verdict_in(window: Window, s: u32, v: u32) -> u32
 
 // The verdict on the speed v at position p: 0 inside, 1 below, 2 above.
 pub fn verdict_at(cycle: &[u8], t: Tolerances, p: u32, v: u32) -> u32
-    requires { ⌜ (valid (now cycle) ≡ true) × (t .time ≤ 40) × (p < positions (now cycle)) ⌝ }
+    requires { ⌜ (valid (now cycle) ≡ true) × (t .time ≤ mostTimeTolerance) × (p < positions (now cycle)) ⌝ }
     ensures { λ r. ⌜ r ≡ verdict (now (cycle .entry)) t p v ⌝ }
 {
     verdict_in(window_at(cycle, t.time, p), t.speed, v)

@@ -9,7 +9,7 @@ use mir.Val.{toZ, ofZ}
 use Rattle.numbers.proofs.Signed.{sfits, read}
 use Rattle.rules.specs.declared.Charge.{Charge}
 use Rattle.rules.specs.Closing.{isCharge}
-use Rattle.rules.specs.Run.{finishedCycles}
+use Rattle.state.specs.Refusals.{cyclesBy}
 use Rattle.ledger.specs.Row.{energyIn, distanceIn}
 use Rattle.numbers.proofs.Tests.{settled-taken}
 use Rattle.consumption.specs.declared.Figure.{Figure}
@@ -35,7 +35,7 @@ module _ (c : tie.Else1) where
   abbrev by : Charge → Figure
   by =
       let l = start .args .ledger .now in
-      chargedBy E (finishedCycles (start .args .cycle .now) (start .args .run .counted)) (energyIn l) (distanceIn l) (start .args .amounts .after)
+      chargedBy E (cyclesBy (start .args .run)) (energyIn l) (distanceIn l) (start .args .amounts .after)
 
   is-closing : found ≡ closingOf (start .args .run) (start .args .amounts) (start .args .cycle .now) (start .args .ledger .now) (start .args .map .now)
   is-closing = c .before .before .closing-of .ensures

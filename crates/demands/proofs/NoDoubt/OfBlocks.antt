@@ -1,6 +1,6 @@
 -- No doubt about `blocks`: each contract has one answer, and those of the operations ask nothing.
 -- Assumes nothing.
-use mathlib.Core.Path.{refl}
+use mathlib.Core.Path.{refl, ap}
 use Rattle.blocks.proofs.is_block
 use Rattle.blocks.proofs.block_refusal
 use Rattle.blocks.proofs.are_samples
@@ -23,5 +23,4 @@ pub are-samples-one-answer : OneAnswer are_samples.ended are_samples.Reads.Learn
 are-samples-one-answer κs a r r′ w w′ p q = (same p q, refl)
 
 pub take-block-one-answer : OneAnswer take_block.ended take_block.Reads.Learnt
-take-block-one-answer κs a r r′ w w′ p q =
-    (same (p .0) (q .0), λ i. (tt, (tt, (tt, (same (p .1 .0) (q .1 .0) i, (same (p .1 .1) (q .1 .1) i, (tt, tt)))))))
+take-block-one-answer κs a r r′ w w′ p q = (ap (λ y. y .answer) (same p q), λ i. (tt, (tt, (tt, (same p q i .memory .ledger, (same p q i .memory .map, (tt, tt)))))))

@@ -1,6 +1,6 @@
 -- No doubt about `judge`: each contract has one answer, and those of the operations ask nothing.
 -- Assumes nothing.
-use mathlib.Core.Path.{refl}
+use mathlib.Core.Path.{refl, ap}
 use Rattle.judge.proofs.start
 use Rattle.judge.proofs.sample
 use Rattle.judge.proofs.block
@@ -9,20 +9,19 @@ use Rattle.judge.proofs.totals
 use Rattle.demands.proofs.NoDoubt.{AsksNothing, OneAnswer, same}
 
 pub start-one-answer : OneAnswer start.ended start.Reads.Learnt
-start-one-answer κs a r r′ w w′ p q = (same (p .0) (q .0), λ i. (tt, (tt, (same (p .1 .0) (q .1 .0) i, (same (p .1 .1) (q .1 .1) i, tt)))))
+start-one-answer κs a r r′ w w′ p q = (ap (λ y. y .answer) (same p q), λ i. (tt, (tt, (same p q i .memory .ledger, (same p q i .memory .map, tt)))))
 
 pub start-asks-nothing : AsksNothing start.ended start.Reads.Asked
 start-asks-nothing κs a = tt
 
 pub sample-one-answer : OneAnswer sample.ended sample.Reads.Learnt
-sample-one-answer κs a r r′ w w′ p q = (same (p .0) (q .0), λ i. (tt, (tt, (same (p .1 .0) (q .1 .0) i, (same (p .1 .1) (q .1 .1) i, (tt, tt))))))
+sample-one-answer κs a r r′ w w′ p q = (ap (λ y. y .answer) (same p q), λ i. (tt, (tt, (same p q i .memory .ledger, (same p q i .memory .map, (tt, tt))))))
 
 pub sample-asks-nothing : AsksNothing sample.ended sample.Reads.Asked
 sample-asks-nothing κs a = tt
 
 pub block-one-answer : OneAnswer block.ended block.Reads.Learnt
-block-one-answer κs a r r′ w w′ p q =
-    (same (p .0) (q .0), λ i. (tt, (tt, (same (p .1 .0) (q .1 .0) i, (same (p .1 .1) (q .1 .1) i, (tt, (tt, tt)))))))
+block-one-answer κs a r r′ w w′ p q = (ap (λ y. y .answer) (same p q), λ i. (tt, (tt, (same p q i .memory .ledger, (same p q i .memory .map, (tt, (tt, tt)))))))
 
 pub block-asks-nothing : AsksNothing block.ended block.Reads.Asked
 block-asks-nothing κs a = tt

@@ -17,7 +17,7 @@ pub is-bounded-asks-nothing : AsksNothing is_bounded.ended is_bounded.Reads.Aske
 is-bounded-asks-nothing κs a = tt
 
 pub add-sample-one-answer : OneAnswer add_sample.ended add_sample.Reads.Learnt
-add-sample-one-answer κs a r r′ w w′ p q = (same (p .0) (q .0), λ i. (same (p .1) (q .1) i, (tt, (tt, (tt, (tt, (tt, tt)))))))
+add-sample-one-answer κs a r r′ w w′ p q = (same (p .0) (q .0), λ i. (same (p .1) (q .1) i, (tt, (tt, (tt, (tt, tt))))))
 
 pub energy-in-one-answer : OneAnswer energy_in.ended energy_in.Reads.Learnt
 energy-in-one-answer κs a r r′ w w′ p q = (same p q, refl)

@@ -6,6 +6,7 @@ use Rattle.numbers.proofs.larger
 use Rattle.numbers.proofs.less
 use Rattle.numbers.proofs.wide
 use Rattle.numbers.proofs.pair
+use Rattle.numbers.proofs.signed16
 use Rattle.numbers.proofs.signed64
 use Rattle.numbers.proofs.read16
 use Rattle.numbers.proofs.read32
@@ -41,6 +42,12 @@ pair-one-answer κs a r r′ w w′ p q = (same p q, refl)
 
 pub pair-asks-nothing : AsksNothing pair.ended pair.Reads.Asked
 pair-asks-nothing κs a = tt
+
+pub signed16-one-answer : OneAnswer signed16.ended signed16.Reads.Learnt
+signed16-one-answer κs a r r′ w w′ p q = (same p q, refl)
+
+pub signed16-asks-nothing : AsksNothing signed16.ended signed16.Reads.Asked
+signed16-asks-nothing κs a = tt
 
 pub signed64-one-answer : OneAnswer signed64.ended signed64.Reads.Learnt
 signed64-one-answer κs a r r′ w w′ p q = (same p q, refl)

@@ -1,6 +1,6 @@
 -- No doubt about `opening`: each contract has one answer, and those of the operations ask nothing.
 -- Assumes nothing.
-use mathlib.Core.Path.{refl}
+use mathlib.Core.Path.{refl, ap}
 use Rattle.opening.proofs.open_refusal
 use Rattle.opening.proofs.refused_at
 use Rattle.opening.proofs.open_whole
@@ -19,5 +19,4 @@ pub refused-at-asks-nothing : AsksNothing refused_at.ended refused_at.Reads.Aske
 refused-at-asks-nothing κs a = tt
 
 pub open-whole-one-answer : OneAnswer open_whole.ended open_whole.Reads.Learnt
-open-whole-one-answer κs a r r′ w w′ p q =
-    (same (p .0) (q .0), λ i. (tt, (same (p .1 .0) (q .1 .0) i, (same (p .1 .1 .0) (q .1 .1 .0) i, (same (p .1 .1 .1) (q .1 .1 .1) i, (tt, (tt, tt)))))))
+open-whole-one-answer κs a r r′ w w′ p q = (ap (λ y. y .answer) (same p q), λ i. (tt, (same p q i .room, (same p q i .memory .ledger, (same p q i .memory .map, (tt, (tt, tt)))))))

@@ -1,6 +1,6 @@
 -- No doubt about `reader`: each contract has one answer, and those of the operations ask nothing.
 -- Assumes nothing.
-use mathlib.Core.Path.{refl}
+use mathlib.Core.Path.{refl, ap}
 use Rattle.reader.proofs.blank
 use Rattle.reader.proofs.open
 use Rattle.reader.proofs.reading_of
@@ -17,8 +17,7 @@ pub blank-asks-nothing : AsksNothing blank.ended blank.Reads.Asked
 blank-asks-nothing κs a = tt
 
 pub open-one-answer : OneAnswer open.ended open.Reads.Learnt
-open-one-answer κs a r r′ w w′ p q =
-    (same (p .0) (q .0), λ i. (tt, (tt, (same (p .1 .0) (q .1 .0) i, (same (p .1 .1 .0) (q .1 .1 .0) i, (same (p .1 .1 .1) (q .1 .1 .1) i, tt))))))
+open-one-answer κs a r r′ w w′ p q = (ap (λ y. y .answer) (same p q), λ i. (tt, (tt, (same p q i .room, (same p q i .memory .ledger, (same p q i .memory .map, tt))))))
 
 pub open-asks-nothing : AsksNothing open.ended open.Reads.Asked
 open-asks-nothing κs a = tt
@@ -30,16 +29,16 @@ pub reading-of-asks-nothing : AsksNothing reading_of.ended reading_of.Reads.Aske
 reading-of-asks-nothing κs a = tt
 
 pub read-one-answer : OneAnswer read.ended read.Reads.Learnt
-read-one-answer κs a r r′ w w′ p q = (same (p .0) (q .0), λ i. (tt, (tt, (tt, (same (p .1 .0) (q .1 .0) i, (same (p .1 .1) (q .1 .1) i, tt))))))
+read-one-answer κs a r r′ w w′ p q = (ap (λ y. y .answer) (same p q), λ i. (tt, (tt, (tt, (same p q i .memory .ledger, (same p q i .memory .map, tt))))))
 
 pub read-asks-nothing : AsksNothing read.ended read.Reads.Asked
 read-asks-nothing κs a = tt
 
 pub read-fields-one-answer : OneAnswer read_fields.ended read_fields.Reads.Learnt
-read-fields-one-answer κs a r r′ w w′ p q = (same (p .0) (q .0), λ i. (tt, (tt, (tt, (same (p .1 .0) (q .1 .0) i, (same (p .1 .1) (q .1 .1) i, tt))))))
+read-fields-one-answer κs a r r′ w w′ p q = (ap (λ y. y .answer) (same p q), λ i. (tt, (tt, (tt, (same p q i .memory .ledger, (same p q i .memory .map, tt))))))
 
 pub read-all-one-answer : OneAnswer read_all.ended read_all.Reads.Learnt
-read-all-one-answer κs a r r′ w w′ p q = (same (p .0) (q .0), λ i. (tt, (tt, (tt, (same (p .1 .0) (q .1 .0) i, (same (p .1 .1) (q .1 .1) i, tt))))))
+read-all-one-answer κs a r r′ w w′ p q = (ap (λ y. y .answer) (same p q), λ i. (tt, (tt, (tt, (same p q i .memory .ledger, (same p q i .memory .map, tt))))))
 
 pub read-all-asks-nothing : AsksNothing read_all.ended read_all.Reads.Asked
 read-all-asks-nothing κs a = tt

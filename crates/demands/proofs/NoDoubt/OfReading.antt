@@ -1,6 +1,6 @@
 -- No doubt about `reading`: each contract has one answer, and those of the operations ask nothing.
 -- Assumes nothing.
-use mathlib.Core.Path.{refl}
+use mathlib.Core.Path.{refl, ap}
 use Rattle.reading.proofs.read_refusal
 use Rattle.reading.proofs.with_along
 use Rattle.reading.proofs.along_at
@@ -24,9 +24,7 @@ pub along-at-one-answer : OneAnswer along_at.ended along_at.Reads.Learnt
 along-at-one-answer κs a r r′ w w′ p q = (same p q, refl)
 
 pub one-field-one-answer : OneAnswer one_field.ended one_field.Reads.Learnt
-one-field-one-answer κs a r r′ w w′ p q =
-    (same (p .0) (q .0), λ i. (tt, (tt, (tt, (tt, (same (p .1 .0) (q .1 .0) i, (same (p .1 .1) (q .1 .1) i, (tt, tt))))))))
+one-field-one-answer κs a r r′ w w′ p q = (ap (λ y. y .answer) (same p q), λ i. (tt, (tt, (tt, (tt, (same p q i .memory .ledger, (same p q i .memory .map, (tt, tt))))))))
 
 pub all-fields-one-answer : OneAnswer all_fields.ended all_fields.Reads.Learnt
-all-fields-one-answer κs a r r′ w w′ p q =
-    (same (p .0) (q .0), λ i. (tt, (tt, (tt, (tt, (same (p .1 .0) (q .1 .0) i, (same (p .1 .1) (q .1 .1) i, (tt, tt))))))))
+all-fields-one-answer κs a r r′ w w′ p q = (ap (λ y. y .answer) (same p q), λ i. (tt, (tt, (tt, (tt, (same p q i .memory .ledger, (same p q i .memory .map, (tt, tt))))))))

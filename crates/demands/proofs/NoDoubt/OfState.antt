@@ -6,6 +6,7 @@ use Rattle.state.proofs.start_refusal
 use Rattle.state.proofs.sample_refusal
 use Rattle.state.proofs.ends_of
 use Rattle.state.proofs.last_cycle
+use Rattle.state.proofs.cycles_of
 use Rattle.demands.proofs.NoDoubt.{AsksNothing, OneAnswer, same}
 
 pub ground-refusal-one-answer : OneAnswer ground_refusal.ended ground_refusal.Reads.Learnt
@@ -31,3 +32,6 @@ ends-of-one-answer κs a r r′ w w′ p q = (same p q, refl)
 
 pub last-cycle-one-answer : OneAnswer last_cycle.ended last_cycle.Reads.Learnt
 last-cycle-one-answer κs a r r′ w w′ p q = (same (p .0) (q .0), refl)
+
+pub cycles-of-one-answer : OneAnswer cycles_of.ended cycles_of.Reads.Learnt
+cycles-of-one-answer κs a r r′ w w′ p q = (same (p .0) (q .0), refl)

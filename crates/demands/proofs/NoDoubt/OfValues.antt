@@ -7,7 +7,7 @@ use Rattle.values.proofs.is_charge
 use Rattle.values.proofs.are_amounts
 use Rattle.values.proofs.is_between
 use Rattle.values.proofs.is_sample
-use Rattle.values.proofs.drawn_by
+use Rattle.values.proofs.moment_of
 use Rattle.demands.proofs.NoDoubt.{AsksNothing, OneAnswer, same}
 
 pub is-tolerable-one-answer : OneAnswer is_tolerable.ended is_tolerable.Reads.Learnt
@@ -46,8 +46,8 @@ is-sample-one-answer κs a r r′ w w′ p q = (same p q, refl)
 pub is-sample-asks-nothing : AsksNothing is_sample.ended is_sample.Reads.Asked
 is-sample-asks-nothing κs a = tt
 
-pub drawn-by-one-answer : OneAnswer drawn_by.ended drawn_by.Reads.Learnt
-drawn-by-one-answer κs a r r′ w w′ p q = (same p q, refl)
+pub moment-of-one-answer : OneAnswer moment_of.ended moment_of.Reads.Learnt
+moment-of-one-answer κs a r r′ w w′ p q = (same p q, refl)
 
-pub drawn-by-asks-nothing : AsksNothing drawn_by.ended drawn_by.Reads.Asked
-drawn-by-asks-nothing κs a = tt
+pub moment-of-asks-nothing : AsksNothing moment_of.ended moment_of.Reads.Asked
+moment-of-asks-nothing κs a = tt

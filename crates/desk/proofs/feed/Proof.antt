@@ -1,8 +1,9 @@
 -- `desk::feed` meets its contract: 1 or 2 before all else, with nothing taken; else the desk is fed.
 -- Assumes nothing.
-use mathlib.Core.Path.{sym, _∙_}
+use mathlib.Core.Path.{sym, ap, _∙_}
 use borrow.Author.Needs.{needs}
-use Rattle.desk.specs.Feeding.{laidOf}
+use Rattle.desk.specs.declared.Fed.{Fed}
+use Rattle.desk.specs.Feeding.{Laid, laidOf, fedLeft}
 use Rattle.desk.proofs.Grounds.{ground-steady}
 use Rattle.desk.proofs.Onward.{feed-stops}
 use Rattle.desk.proofs.feed.Statement.{statement}
@@ -10,6 +11,9 @@ use Rattle.desk.proofs.feed.Tie as tie
 
 abbrev entry : tie.After-desk-refusal → tie.Start
 entry c = c .before .before .before .before .before .before .before
+
+abbrev laid : tie.Start → Laid
+laid s = laidOf (s .args .desk) (s .args .room .now) (s .args .ledger .now) (s .args .map .now)
 
 desk-refusal-requires : tie.Need-desk-refusal-requires
 desk-refusal-requires c κs = search needs
@@ -29,14 +33,15 @@ same-length-3 c = search needs
 returns : tie.Need-returns
 returns c =
     let x = c .before .before in
-    let a = entry x .args in
-    feed-stops (a .desk) (a .room .now) (a .ledger .now) (a .map .now) (a .input .now) _ (x .desk-refusal .ensures) (c .before .if1 .taken) _ (c .stopped .ensures)
+    let s = entry x in
+    let a = s .args in
+    ap (λ (f : Fed). fedLeft f (a .room .now) (a .ledger .now) (a .map .now)) (c .stopped .ensures)
+    ∙ feed-stops (laid s) (a .input .now) (x .desk-refusal .ensures) (c .before .if1 .taken)
 
 feed-on-requires : tie.Need-feed-on-requires
 feed-on-requires c κs =
     let e = c .before .before .before in
-    let a = entry (e .before) .args in
-    ground-steady (laidOf (a .desk) (a .room .now) (a .ledger .now) (a .map .now)) (sym (e .before .desk-refusal .ensures) ∙ e .if1 .left)
+    ground-steady (laid (entry (e .before))) (sym (e .before .desk-refusal .ensures) ∙ e .if1 .left)
 
 same-length-4 : tie.Need-same-length-4
 same-length-4 c = search needs

@@ -6,7 +6,7 @@ use native.Mathlib.Omega.{arith}
 use borrow.Author.Needs.{needs}
 use borrow.Author.Tests.{not-true, not-false}
 use lib.ListN.{length}
-use Rattle.desk.specs.Feeding.{mostFields}
+use Rattle.desk.specs.Feeding.{Laid, laidOf, mostFields}
 use Rattle.desk.proofs.Onward.{open-size-all, then-ground, not-yet, rest-size, read-then}
 use Rattle.desk.proofs.feed_on.Statement.{statement}
 use Rattle.desk.proofs.feed_on.Tie as tie
@@ -18,11 +18,13 @@ opened c = c .before .before .before .before .before .before .before
 abbrev entry : tie.After-open-all → tie.Start
 entry c = c .before .before .before .before .before .before .before
 
+abbrev laid : tie.Start → Laid
+laid s = laidOf (s .args .desk) (s .args .room .now) (s .args .ledger .now) (s .args .map .now)
+
 size : (c : tie.After-open-all) → (let r = c .open-all .result in (r .used ≤ length (entry c .args .input .now)) × (r .desk .fields ≤ mostFields + 4))
 size c =
     let s = entry c in
-    let a = s .args in
-    open-size-all (a .desk) (a .room .now) (a .ledger .now) (a .map .now) (a .input .now) (s .pre .few) _ _ _ _ (c .open-all .ensures)
+    open-size-all (laid s) (s .args .input .now) (s .pre .few) (c .open-all .ensures)
 
 room-stays : (c : tie.After-open-all) → length (c .open-all .last .1 .1 .0) ≡ length (entry c .args .room .now)
 room-stays c = search needs
@@ -43,8 +45,7 @@ returns : tie.Need-returns
 returns c =
     let x = opened (c .before) in
     let s = entry x in
-    let a = s .args in
-    not-yet (a .desk) (a .room .now) (a .ledger .now) (a .map .now) (a .input .now) (s .pre .few) _ _ _ _ (x .open-all .ensures) (not-true _ (c .if1 .taken))
+    not-yet (laid s) (s .args .input .now) (s .pre .few) (x .open-all .ensures) (not-true _ (c .if1 .taken))
 
 sub-read-on : tie.Need-sub-read-on
 sub-read-on c = size (opened (c .before)) .0
@@ -60,20 +61,14 @@ read-on-requires c κs =
     let e = c .before .before .before .before in
     let x = opened (e .before) in
     let s = entry x in
-    let a = s .args in
-    (size x .1, then-ground (a .desk) (a .room .now) (a .ledger .now) (a .map .now) (a .input .now) (s .pre .few) _ _ _ _ (x .open-all .ensures) (s .pre .ground) (not-false _ (e .if1 .left)))
+    (size x .1, then-ground (laid s) (s .args .input .now) (s .pre .few) (x .open-all .ensures) (s .pre .ground) (not-false _ (e .if1 .left)))
 
 add-t20 : tie.Need-add-t20
 add-t20 c =
     let y = c .before .before .before .before .before in
     let x = opened (y .before .before .before .before .before .before) in
     let s = entry x in
-    let a = s .args in
-    omega (
-      arith,
-      s .good .1 .0 .0,
-      rest-size (a .desk) (a .room .now) (a .ledger .now) (a .map .now) (a .input .now) (s .pre .few) _ _ _ _ (x .open-all .ensures) _ _ _ (y .read-on .ensures),
-    )
+    omega (arith, s .good .1 .0 .0, rest-size (laid s) (s .args .input .now) (s .pre .few) (x .open-all .ensures) (y .read-on .ensures))
 
 same-length-4 : tie.Need-same-length-4
 same-length-4 c =
@@ -92,8 +87,7 @@ returns-2 c =
     let e = y .before .before .before .before .before in
     let x = opened (e .before) in
     let s = entry x in
-    let a = s .args in
-    read-then (a .desk) (a .room .now) (a .ledger .now) (a .map .now) (a .input .now) (s .pre .few) _ _ _ _ (x .open-all .ensures) _ _ _ (y .read-on .ensures) (not-false _ (e .if1 .left))
+    read-then (laid s) (s .args .input .now) (s .pre .few) (x .open-all .ensures) (y .read-on .ensures) (not-false _ (e .if1 .left))
 
 pub feed-on-spec : {M : Type 1} → statement M
 feed-on-spec =

@@ -5,15 +5,15 @@ use Prim.Native.Nat.{_+_, _≤_, zero-le}
 use native.Mathlib.Omega.{arith}
 use borrow.Author.Needs.{needs}
 use lib.ListN.{length, drop}
-use Rattle.desk.specs.Feeding.{laidOf, behind, openUpto, mostFields}
-use Rattle.desk.proofs.Turns.{left-of, before-all, turn, turn-end, turn-size, turn-started, no-turn}
+use Rattle.desk.specs.Feeding.{Laid, laidOf, behind, openUpto, mostFields}
+use Rattle.desk.proofs.Turns.{before-all, turn, turn-end, turn-size, turn-started, no-turn}
 use Rattle.desk.proofs.open_all.Statement.{statement}
 use Rattle.desk.proofs.open_all.Tie as tie
 
 abbrev Inv-loop : tie.InvT-loop
 Inv-loop input room₀ ledger₀ map₀ on₀ used₀ left₀ room ledger map on used left =
     ((used ≤ length input) × (on .fields + left ≤ mostFields + 4) × (length room ≡ length room₀) × (length ledger ≡ length ledger₀) × (length map ≡ length map₀))
-    × (openUpto 4 (laidOf on₀ room₀ ledger₀ map₀) input ≡ behind used (openUpto left (laidOf on room ledger map) (drop used input)))
+    × (behind used (openUpto left (laidOf on room ledger map) (drop used input)) ≡ openUpto 4 (laidOf on₀ room₀ ledger₀ map₀) input)
 
 abbrev μ-loop : tie.MeasureT-loop
 μ-loop input room₀ ledger₀ map₀ on₀ used₀ left₀ room ledger map on used left = left
@@ -31,14 +31,20 @@ place c = inside c .before
 abbrev entry : tie.After-on Inv-loop μ-loop → tie.Start Inv-loop μ-loop
 entry c = place c .before .before .before .before
 
+abbrev answer : tie.After-on Inv-loop μ-loop → tie.After-open-one Inv-loop μ-loop
+answer c = c .before .before .before .before .before .before
+
+-- the desk on its memory
+abbrev laid : tie.At-loop Inv-loop μ-loop → Laid
+laid at = laidOf (at .loop .on) (at .loop .room) (at .loop .ledger) (at .loop .map)
+
 sized : (c : tie.After-on Inv-loop μ-loop)
     → (let at = place c in
-    let r = c .before .before .before .before .before .before .open-one .result in
+    let r = answer c .open-one .result in
     (at .loop .used + r .used ≤ length (entry c .args .input .now)) × (r .desk .fields ≤ at .loop .on .fields + 1))
 sized c =
     let at = place c in
-    let a = entry c .args in
-    turn-size (at .loop .on) (at .loop .room) (at .loop .ledger) (at .loop .map) (a .input .now) (at .loop .used) _ _ _ _ (c .before .before .before .before .before .before .open-one .ensures) (at .loop .inv .0 .0)
+    turn-size (laid at) (entry c .args .input .now) (at .loop .used) (answer c .open-one .ensures) (at .loop .inv .0 .0)
 
 loop-holds : tie.Need-loop-holds Inv-loop μ-loop
 loop-holds c =
@@ -57,8 +63,7 @@ same-length-3 c = search needs
 returns : tie.Need-returns Inv-loop μ-loop
 returns c =
     let at = c .before .before in
-    left-of _ (at .loop .on) (at .loop .room) (at .loop .ledger) (at .loop .map) (at .loop .used) _
-    (at .loop .inv .1 ∙ turn-started (at .loop .left) (at .loop .on) (at .loop .room) (at .loop .ledger) (at .loop .map) _ (at .loop .used) (c .if1 .taken))
+    turn-started (laid at) _ (at .loop .used) (at .loop .left) (c .if1 .taken) ∙ at .loop .inv .1
 
 sub-open-one : tie.Need-sub-open-one Inv-loop μ-loop
 sub-open-one c = c .before .before .loop .inv .0 .0
@@ -91,11 +96,8 @@ returns-2 : tie.Need-returns-2 Inv-loop μ-loop
 returns-2 c =
     let f = c .before in
     let at = place f in
-    let a = entry f .args in
-    let x = f .before .before .before .before .before .before in
-    left-of _ _ _ _ _ _ _
-    (at .loop .inv .1
-    ∙ turn-end (at .loop .on) (at .loop .room) (at .loop .ledger) (at .loop .map) (a .input .now) (at .loop .used) _ _ _ _ (x .open-one .ensures) (at .loop .left) (inside f .loop-test .taken) (tested f .if1 .left) (c .if2 .taken))
+    turn-end (laid at) (entry f .args .input .now) (at .loop .used) (answer f .open-one .ensures) (at .loop .left) (inside f .loop-test .taken) (tested f .if1 .left) (c .if2 .taken)
+    ∙ at .loop .inv .1
 
 loop-less : tie.Need-loop-less Inv-loop μ-loop
 loop-less c = let f = c .before in omega (arith, inside f .loop-test .taken)
@@ -104,12 +106,10 @@ loop-again : tie.Need-loop-again Inv-loop μ-loop
 loop-again c =
     let f = c .before in
     let at = place f in
-    let a = entry f .args in
-    let x = f .before .before .before .before .before .before in
     let s = sized f in (
       (s .0, omega (arith, s .1, at .loop .inv .0 .1, inside f .loop-test .taken), search needs, search needs, search needs),
-      at .loop .inv .1
-          ∙ turn (at .loop .on) (at .loop .room) (at .loop .ledger) (at .loop .map) (a .input .now) (at .loop .used) _ _ _ _ (x .open-one .ensures) (at .loop .left) (inside f .loop-test .taken) (tested f .if1 .left) (c .if2 .left),
+      turn (laid at) (entry f .args .input .now) (at .loop .used) (answer f .open-one .ensures) (at .loop .left) (inside f .loop-test .taken) (tested f .if1 .left) (c .if2 .left)
+          ∙ at .loop .inv .1,
     )
 
 same-length-7 : tie.Need-same-length-7 Inv-loop μ-loop
@@ -124,8 +124,7 @@ same-length-9 c = search needs
 returns-3 : tie.Need-returns-3 Inv-loop μ-loop
 returns-3 c =
     let at = c .before in
-    left-of _ (at .loop .on) (at .loop .room) (at .loop .ledger) (at .loop .map) (at .loop .used) _
-    (at .loop .inv .1 ∙ no-turn (at .loop .on) (at .loop .room) (at .loop .ledger) (at .loop .map) _ (at .loop .used) (at .loop .left) (c .loop-test .left))
+    no-turn (laid at) _ (at .loop .used) (at .loop .left) (c .loop-test .left) ∙ at .loop .inv .1
 
 pub open-all-spec : {M : Type 1} → statement M
 open-all-spec =

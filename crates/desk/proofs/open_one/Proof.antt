@@ -1,6 +1,7 @@
 -- `desk::open_one` meets its contract: the reader opens, and the desk goes on with its answer.
 -- Assumes nothing.
 use borrow.Author.Needs.{needs}
+use Rattle.desk.specs.Feeding.{laidOf}
 use Rattle.desk.proofs.Turns.{one-left}
 use Rattle.desk.proofs.open_one.Statement.{statement}
 use Rattle.desk.proofs.open_one.Tie as tie
@@ -24,7 +25,7 @@ returns : tie.Need-returns
 returns c =
     let x = c .before .before .before .before .before .before in
     let a = x .before .before .before .before .before .before .before .before .args in
-    one-left (a .desk) (a .room .now) (a .ledger .now) (a .map .now) (a .input .now) _ _ _ _ (x .«open» .ensures) _ (c .opened .ensures)
+    one-left (laidOf (a .desk) (a .room .now) (a .ledger .now) (a .map .now)) (a .input .now) (x .«open» .ensures) (c .opened .ensures)
 
 pub open-one-spec : {M : Type 1} → statement M
 open-one-spec =

@@ -4,8 +4,9 @@ use mathlib.Core.Path.{sym, ap}
 use Prim.Native.Nat.{_≤_}
 use native.Mathlib.Omega.{arith}
 use borrow.Author.Needs.{needs}
-use lib.ListN.{length, take}
+use lib.ListN.{length}
 use lib.Seq.{length-take-le}
+use Rattle.state.specs.State.{Left}
 use Rattle.reader.specs.declared.AllAnswer.{AllAnswer}
 use Rattle.desk.specs.Feeding.{Laid, laidOf}
 use Rattle.desk.proofs.Grounds.{started-fits}
@@ -36,13 +37,12 @@ add-t19 : tie.Need-add-t19
 add-t19 c =
     let x = c .before .before .before .before .before .before in
     let s = entry (x .before .before .before .before) in
-    let a = s .args in
     omega (
       arith,
       s .pre .0,
       s .good .1 .0 .0,
-      ap (λ (y : AllAnswer). y .fields) (x .read-fields .ensures .0),
-      all-size (a .desk .reading) (take (a .desk .opening .cycle) (a .room .now)) (a .ledger .now) (a .map .now) (a .input .now),
+      ap (λ (y : Left AllAnswer). y .answer .fields) (x .read-fields .ensures),
+      all-size (laid s) (s .args .input .now),
     )
 
 same-length : tie.Need-same-length
@@ -55,9 +55,7 @@ returns : tie.Need-returns
 returns c =
     let x = c .before .before .before .before .before .before in
     let s = entry (x .before .before .before .before) in
-    let a = s .args in
-    let h = read-left (a .desk) (a .room .now) (a .ledger .now) (a .map .now) (a .input .now) (long s) _ _ _ (x .read-fields .ensures) _ (c .before .outcome-of .ensures) in
-    (h .0, h .1 .1)
+    read-left (laid s) (s .args .input .now) (long s) (x .read-fields .ensures) (c .before .outcome-of .ensures)
 
 pub read-on-spec : {M : Type 1} → statement M
 read-on-spec =

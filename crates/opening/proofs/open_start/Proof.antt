@@ -3,7 +3,6 @@
 use mathlib.Core.Path.{sym}
 use borrow.Author.Needs.{needs}
 use lib.Seq.{length-take-le}
-use Rattle.opening.specs.declared.OpenStep.the-variants.{Started}
 use Rattle.opening.proofs.Starting.{start-refused, start-taken}
 use Rattle.opening.proofs.open_start.Statement.{statement}
 use Rattle.opening.proofs.open_start.Tie as tie
@@ -41,9 +40,8 @@ returns c =
     let start = known .before .before .before .before .before in
     let t = start .before .before .before in
     let a = t .before .before .before .before .before .args in
-    let p = start .start .ensures in
-    start-refused (a .o) (a .room .now) (a .ledger .now) (a .map .now) (a .v .now) (a .n) _ (t .tolerances-of .ensures) _ _ _
-    (record { answer = p .0; in-ledger = p .1 .0; in-map = p .1 .1 }) _ (known .answer .given .1) _ (c .refused-at .ensures)
+    start-refused (a .o) (a .room .now) (a .ledger .now) (a .map .now) (a .v .now) (a .n) (t .tolerances-of .ensures) (start .start .ensures)
+    (known .answer .given .1) (c .refused-at .ensures)
 
 same-length-3 : tie.Need-same-length-3
 same-length-3 c = search needs
@@ -57,10 +55,8 @@ returns-2 c =
     let start = known .before .before .before .before .before in
     let t = start .before .before .before in
     let a = t .before .before .before .before .before .args in
-    let p = start .start .ensures in
-    start-taken (a .o) (a .room .now) (a .ledger .now) (a .map .now) (a .v .now) (a .n) _ (t .tolerances-of .ensures) _ _ _
-    (record { answer = p .0; in-ledger = p .1 .0; in-map = p .1 .1 }) _ (known .answer2 .given .1) _
-    (λ i. record { step = Started (a .n) (known .answer2 .given .0 .0); opening = c .with-field .ensures i })
+    start-taken (a .o) (a .room .now) (a .ledger .now) (a .map .now) (a .v .now) (a .n) (t .tolerances-of .ensures) (start .start .ensures)
+    (known .answer2 .given .1) (c .with-field .ensures)
 
 pub open-start-spec : {M : Type 1} → statement M
 open-start-spec =

@@ -1,13 +1,10 @@
 -- `opening::open_whole` meets its contract: a field out of its place is refused; else it is answered by its tag.
 -- Assumes nothing.
-use mathlib.Core.Path.{sym, _∙_}
-use Prim.Native.Nat.{_+_}
 use native.Mathlib.Omega.{arith}
 use borrow.Author.Needs.{needs}
 use lib.ListN.{length}
 use Rattle.fields.proofs.Fronts.{Sizes, sizes}
-use Rattle.opening.specs.declared.OpenStep.the-variants.{Taken}
-use Rattle.opening.proofs.Starting.{Ready, ground-ready, by-tag, out-of-order, number-opens, cycle-opens, start-opens, mark-opens}
+use Rattle.opening.proofs.Starting.{Ready, ground-ready, out-of-order, number-opens, cycle-opens, start-opens, mark-opens}
 use Rattle.opening.proofs.open_whole.Statement.{statement}
 use Rattle.opening.proofs.open_whole.Tie as tie
 
@@ -32,7 +29,7 @@ refused-at-requires c κs = search needs
 returns : tie.Need-returns
 returns c =
     let a = c .before .before .before .before .before .before .args in
-    out-of-order (a .o) (a .room .now) (a .ledger .now) (a .map .now) (a .v .now) _ (a .tag) (c .before .if1 .taken) _ (c .refused-at .ensures)
+    out-of-order (a .o) (a .room .now) (a .ledger .now) (a .map .now) (a .v .now) (c .before .if1 .taken) (c .refused-at .ensures)
 
 open-number-requires : tie.Need-open-number-requires
 open-number-requires c κs = let s = entry (c .before) in (ready s .few, lengths s .number (c .match .keys1))
@@ -54,7 +51,7 @@ returns-2 : tie.Need-returns-2
 returns-2 c =
     let at = c .before in
     let a = entry (at .before) .args in
-    by-tag (a .o) (a .room .now) (a .ledger .now) (a .map .now) (a .v .now) _ (at .match .keys1) (number-opens (a .o) (a .room .now) (a .ledger .now) (a .map .now) (a .v .now) _ (sym (at .match .keys1) ∙ at .before .if1 .left) _ (c .open-number .ensures))
+    number-opens (a .o) (a .room .now) (a .ledger .now) (a .map .now) (a .v .now) (at .before .if1 .left) (at .match .keys1) (c .open-number .ensures)
 
 same-length : tie.Need-same-length
 same-length c = search needs
@@ -65,7 +62,7 @@ returns-3 c =
     let at = cycle .before .before in
     let a = entry (at .before) .args in
     let e = cycle .open-cycle .ensures in
-    by-tag (a .o) (a .room .now) (a .ledger .now) (a .map .now) (a .v .now) _ (at .match .keys2) (cycle-opens (a .o) (a .room .now) (a .ledger .now) (a .map .now) (a .v .now) _ (sym (at .match .keys2) ∙ at .before .if1 .left) _ _ (e .0) (e .1))
+    cycle-opens (a .o) (a .room .now) (a .ledger .now) (a .map .now) (a .v .now) (at .before .if1 .left) (at .match .keys2) (e .0) (e .1)
 
 same-length-2 : tie.Need-same-length-2
 same-length-2 c = search needs
@@ -81,16 +78,14 @@ returns-4 c =
     let start = c .before .before .before in
     let at = start .before .before .before .before in
     let a = entry (at .before) .args in
-    let e = start .open-start .ensures in
-    by-tag (a .o) (a .room .now) (a .ledger .now) (a .map .now) (a .v .now) _ (at .match .keys3) (start-opens (a .o) (a .room .now) (a .ledger .now) (a .map .now) (a .v .now) _ (sym (at .match .keys3) ∙ at .before .if1 .left) _ _ _ (e .0) (e .1 .0) (e .1 .1))
+    start-opens (a .o) (a .room .now) (a .ledger .now) (a .map .now) (a .v .now) (at .before .if1 .left) (at .match .keys3) (start .open-start .ensures)
 
 returns-5 : tie.Need-returns-5
 returns-5 c =
     let at = c .before in
     let a = entry (at .before) .args in
     let none = at .match .rest in
-    mark-opens (a .o) (a .room .now) (a .ledger .now) (a .map .now) (a .v .now) _ (a .tag) (at .before .if1 .left) (none .0 .0 .1) (none .0 .1) (none .1) _
-    (λ i. record { step = Taken (3 + length (a .v .now)); opening = c .with-field .ensures i })
+    mark-opens (a .o) (a .room .now) (a .ledger .now) (a .map .now) (a .v .now) (at .before .if1 .left) (none .0 .0 .1) (none .0 .1) (none .1) (c .with-field .ensures)
 
 pub open-whole-spec : {M : Type 1} → statement M
 open-whole-spec =

@@ -6,7 +6,7 @@ use borrow.Author.Needs.{needs}
 use Rattle.fields.specs.declared.Front.the-variants.{Field as field}
 use Rattle.fields.specs.Fields.{frontOf}
 use Rattle.fields.proofs.Fronts.{Whole, sizes, front-whole, lent-allowed}
-use Rattle.opening.specs.Answers.{openGround}
+use Rattle.opening.specs.Answers.{openGround, openLeft}
 use Rattle.opening.proofs.Starting.{ground-refuses, ground-passes, whole-opens}
 use Rattle.reader.proofs.open.Statement.{statement}
 use Rattle.reader.proofs.open.Tie as tie
@@ -41,7 +41,7 @@ returns : tie.Need-returns
 returns c =
     let f = c .before .before in
     let a = f .before .before .before .before .before .args in
-    ground-refuses (a .opening) (a .room .now) (a .ledger .now) (a .map .now) (a .input .now) _ (f .open-refusal .ensures) (c .before .if1 .taken) _ (c .refused-at .ensures)
+    ground-refuses (a .opening) (a .room .now) (a .ledger .now) (a .map .now) (a .input .now) (f .open-refusal .ensures) (c .before .if1 .taken) (c .refused-at .ensures)
 
 front-of-requires : tie.Need-front-of-requires
 front-of-requires c κs = search needs
@@ -82,7 +82,8 @@ returns-2 : tie.Need-returns-2
 returns-2 c =
     let front = c .before .before in
     let a = entry (front .before) .args in
-    ground-passes (a .opening) (a .room .now) (a .ledger .now) (a .map .now) (a .input .now) (passed (front .before)) _ (sym (c .enum-told .given .1) ∙ front .front-of .ensures) (refl, (refl, (refl, refl)))
+    ground-passes (a .opening) (a .room .now) (a .ledger .now) (a .map .now) (a .input .now) (passed (front .before))
+    (sym (c .enum-told .given .1) ∙ front .front-of .ensures) refl
 
 same-length-3 : tie.Need-same-length-3
 same-length-3 c = search needs
@@ -92,7 +93,8 @@ returns-3 c =
     let told = c .before in
     let front = told .before .before in
     let a = entry (front .before) .args in
-    ground-passes (a .opening) (a .room .now) (a .ledger .now) (a .map .now) (a .input .now) (passed (front .before)) _ (sym (told .enum-told2 .given .1) ∙ front .front-of .ensures) (c .refused-at2 .ensures, (refl, (refl, refl)))
+    ground-passes (a .opening) (a .room .now) (a .ledger .now) (a .map .now) (a .input .now) (passed (front .before))
+    (sym (told .enum-told2 .given .1) ∙ front .front-of .ensures) (λ i. openLeft (c .refused-at2 .ensures i) (a .room .now) (a .ledger .now) (a .map .now))
 
 same-length-4 : tie.Need-same-length-4
 same-length-4 c = search needs
@@ -108,8 +110,7 @@ returns-4 c =
     let taken = c .before .before .before .before .before in
     let known = taken .before .before .before .before .before .before in
     let a = entry (tested known) .args in
-    ground-passes (a .opening) (a .room .now) (a .ledger .now) (a .map .now) (a .input .now) (passed (tested known)) _ (sym (at-front known))
-    (whole-opens (a .opening) (a .room .now) (a .ledger .now) (a .map .now) (a .input .now) _ _ (at-front known) (taken .open-whole .ensures))
+    whole-opens (a .opening) (a .room .now) (a .ledger .now) (a .map .now) (a .input .now) (passed (tested known)) _ _ (at-front known) (taken .open-whole .ensures)
 
 pub open-spec : {M : Type 1} → statement M
 open-spec =

@@ -32,7 +32,7 @@ returns : tie.Need-returns
 returns c =
     let f = c .before in
     let a = f .before .before .before .before .before .before .args in
-    read-refuses (a .reading) (a .cycle .now) (a .ledger .now) (a .map .now) (a .input .now) _ (f .read-refusal .ensures) (c .if1 .taken)
+    read-refuses (a .reading) (a .cycle .now) (a .ledger .now) (a .map .now) (a .input .now) (f .read-refusal .ensures) (c .if1 .taken)
 
 along-at-requires : tie.Need-along-at-requires
 along-at-requires c κs =
@@ -48,7 +48,7 @@ one-field-requires c κs =
     let k = c .before .before .before in
     let e = k .before .before .before .before in
     let a = entry e .args in
-    ready-at (a .reading) (a .cycle .now) (a .ledger .now) (a .map .now) (passed e) (seventeen (entry e)) _ (k .along-at .ensures)
+    ready-at (a .reading) (a .cycle .now) (a .ledger .now) (a .map .now) (passed e) (k .along-at .ensures) (seventeen (entry e))
 
 with-along-requires : tie.Need-with-along-requires
 with-along-requires c κs = search needs
@@ -65,7 +65,7 @@ returns-2 c =
     let k = x .before .before .before .before in
     let e = k .before .before .before .before in
     let a = entry e .args in
-    read-taken (a .reading) (a .cycle .now) (a .ledger .now) (a .map .now) (passed e) (a .input .now) _ (k .along-at .ensures) _ _ (x .one-field .ensures) (c .with-along .ensures)
+    read-taken (a .reading) (a .cycle .now) (a .ledger .now) (a .map .now) (passed e) (k .along-at .ensures) (a .input .now) (x .one-field .ensures) (c .with-along .ensures)
 
 pub read-spec : {M : Type 1} → statement M
 read-spec =

@@ -19,7 +19,7 @@ returns : tie.Need-returns
 returns c =
     let f = c .before in
     let a = f .before .before .before .before .before .before .args in
-    all-refuses (a .reading) (a .cycle .now) (a .ledger .now) (a .map .now) (a .input .now) _ (f .read-refusal .ensures) (c .if1 .taken)
+    all-refuses (a .reading) (a .cycle .now) (a .ledger .now) (a .map .now) (a .input .now) (f .read-refusal .ensures) (c .if1 .taken)
 
 read-fields-requires : tie.Need-read-fields-requires
 read-fields-requires c κs = let e = c .before .before in sym (e .before .read-refusal .ensures) ∙ e .if1 .left

@@ -28,7 +28,7 @@ all-fields-requires c κs =
     let k = c .before .before .before in
     let s = entry (k .before) in
     let a = s .args in
-    ready-at (a .reading) (a .cycle .now) (a .ledger .now) (a .map .now) (s .pre) (seventeen s) _ (k .along-at .ensures)
+    ready-at (a .reading) (a .cycle .now) (a .ledger .now) (a .map .now) (s .pre) (k .along-at .ensures) (seventeen s)
 
 with-along-requires : tie.Need-with-along-requires
 with-along-requires c κs = search needs
@@ -45,7 +45,7 @@ returns c =
     let k = x .before .before .before .before in
     let s = entry (k .before) in
     let a = s .args in
-    all-taken (a .reading) (a .cycle .now) (a .ledger .now) (a .map .now) (s .pre) (a .input .now) _ (k .along-at .ensures) _ _ (x .all-fields .ensures) (c .with-along .ensures)
+    all-taken (a .reading) (a .cycle .now) (a .ledger .now) (a .map .now) (s .pre) (k .along-at .ensures) (a .input .now) (x .all-fields .ensures) (c .with-along .ensures)
 
 pub read-fields-spec : {M : Type 1} → statement M
 read-fields-spec =

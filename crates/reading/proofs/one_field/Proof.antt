@@ -75,8 +75,7 @@ returns-3 c =
     let taken = c .before .before .before in
     let known = taken .before .before .before .before .before in
     let a = entry known .args in
-    front-taken (a .cycle .now) (a .t) (a .k) (a .ledger .now) (a .map .now) (a .me .now) (a .input .now) (sym (at-front known))
-    (whole-taken (a .cycle .now) (a .t) (a .k) (a .ledger .now) (a .map .now) (a .me .now) (a .input .now) _ _ (at-front known) (taken .whole-field .ensures))
+    whole-taken (a .cycle .now) (a .t) (a .k) (a .ledger .now) (a .map .now) (a .me .now) (a .input .now) _ _ (at-front known) (taken .whole-field .ensures)
 
 pub one-field-spec : {M : Type 1} → statement M
 one-field-spec =

@@ -49,7 +49,7 @@ take-block-requires c κs =
     let e = part-rest 21 (s .args .v .now) in (
       s .pre .kept,
       (
-        subst⁻¹ (λ (q : List ℕ). s .args .k .going .offered + samplesIn q ≤ mostOffered) e (s .pre .room own),
+        subst⁻¹ (λ (q : List ℕ). s .args .k .going .progress .offered + samplesIn q ≤ mostOffered) e (s .pre .room own),
         ap (λ (q : List ℕ). areSamples q (samplesIn q)) e ∙ s .pre .samples own,
       ),
     )
@@ -93,8 +93,7 @@ returns c =
     let told = taken .before .before .before .before in
     let a = entry (told .before .before) .args in
     by-content (a .cycle .now) (a .t) (a .k) (a .ledger .now) (a .map .now) (a .v .now) (a .n) (told .enum-told .given .1)
-    (own-taken (a .cycle .now) (a .t) (a .k) (a .ledger .now) (a .map .now) (a .v .now) (a .n) _ (part-rest 21 (a .v .now)) _ _ _
-    (taken .take-block .ensures .0) (taken .take-block .ensures .1 .0) (taken .take-block .ensures .1 .1))
+    (own-taken (a .cycle .now) (a .t) (a .k) (a .ledger .now) (a .map .now) (a .v .now) (a .n) (part-rest 21 (a .v .now)) (taken .take-block .ensures))
 
 returns-2 : tie.Need-returns-2
 returns-2 c =

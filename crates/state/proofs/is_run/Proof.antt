@@ -10,10 +10,10 @@ use Rattle.state.proofs.is_run.Statement.{statement}
 use Rattle.state.proofs.is_run.Tie as tie
 
 -- what the tests that passed say
-fine-ends : (c : tie.Else3) → areEnds (c .before .before .before .before .before .before .before .args .run .ends) ≡ true
+fine-ends : (c : tie.Else3) → areEnds (c .before .before .before .before .before .before .args .run .track .ends) ≡ true
 fine-ends c = sym (c .before .are-ends .ensures) ∙ not-false _ (c .if3 .left)
 
-is-tolerated : (c : tie.Else4) → tolerable (c .before .before .before .before .before .before .before .before .before .before .args .run .tolerances) ≡ true
+is-tolerated : (c : tie.Else4) → tolerable (c .before .before .before .before .before .before .before .before .args .run .track .tolerances) ≡ true
 is-tolerated c = sym (c .before .is-tolerable .ensures) ∙ not-false _ (c .if4 .left)
 
 returns : tie.Need-returns
@@ -31,8 +31,8 @@ returns-3 : tie.Need-returns-3
 unfolding isRun
 returns-3 c =
     simp (
-      le-leb _ _ (c .before .before .before .before .before .if1 .left),
-      le-leb _ _ (c .before .before .before .if2 .left),
+      le-leb _ _ (c .before .before .before .before .if1 .left),
+      le-leb _ _ (c .before .before .if2 .left),
       sym (c .before .are-ends .ensures) ∙ not-true _ (c .if3 .taken),
     )
 
@@ -43,9 +43,9 @@ returns-4 : tie.Need-returns-4
 unfolding isRun
 returns-4 c =
     simp (
-      le-leb _ _ (c .before .before .before .before .before .before .before .before .if1 .left),
-      le-leb _ _ (c .before .before .before .before .before .before .if2 .left),
-      fine-ends (c .before .before .before),
+      le-leb _ _ (c .before .before .before .before .before .before .if1 .left),
+      le-leb _ _ (c .before .before .before .before .if2 .left),
+      fine-ends (c .before .before),
       sym (c .before .is-tolerable .ensures) ∙ not-true _ (c .if4 .taken),
     )
 
@@ -53,9 +53,9 @@ returns-5 : tie.Need-returns-5
 unfolding isRun
 returns-5 c =
     simp (
-      le-leb _ _ (c .before .before .before .before .before .before .before .before .before .before .if1 .left),
-      le-leb _ _ (c .before .before .before .before .before .before .before .before .if2 .left),
-      fine-ends (c .before .before .before .before .before),
+      le-leb _ _ (c .before .before .before .before .before .before .before .before .if1 .left),
+      le-leb _ _ (c .before .before .before .before .before .before .if2 .left),
+      fine-ends (c .before .before .before .before),
       is-tolerated (c .before .before),
       lt-leb _ _ (c .if5 .taken),
     )
@@ -75,9 +75,9 @@ returns-6 c =
     let few = c .before .before in
     c .is-progress .ensures
     ∙ rw (
-      le-leb _ _ (few .before .before .before .before .before .before .before .before .before .before .if1 .left),
-      le-leb _ _ (few .before .before .before .before .before .before .before .before .if2 .left),
-      fine-ends (few .before .before .before .before .before),
+      le-leb _ _ (few .before .before .before .before .before .before .before .before .if1 .left),
+      le-leb _ _ (few .before .before .before .before .before .before .if2 .left),
+      fine-ends (few .before .before .before .before),
       is-tolerated (few .before .before),
       le-leb _ _ (few .if5 .left),
     )

@@ -30,7 +30,7 @@ returns-2 c =
     simp (is-valid (c .before .before .before), ne-eqb _ _ (λ e. c .if2 .taken (c .before .before .seconds-of .ensures ∙ e)))
 
 ends-of-requires : tie.Need-ends-of-requires
-ends-of-requires c κs = is-valid (c .before .before .before .before)
+ends-of-requires c κs = is-valid (c .before .before .before)
 
 are-same-requires : tie.Need-are-same-requires
 are-same-requires c κs = search needs
@@ -38,7 +38,7 @@ are-same-requires c κs = search needs
 returns-3 : tie.Need-returns-3
 unfolding isStarts
 returns-3 c =
-    let same = c .before .before .before in
+    let same = c .before .before in
     c .are-same .ensures
     ∙ rw (is-valid (same .before .before .before), eq-eqb _ _ (sym (same .before .before .seconds-of .ensures) ∙ same .if2 .left), c .before .ends-of .ensures)
 

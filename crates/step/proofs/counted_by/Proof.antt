@@ -41,29 +41,29 @@ turned-by-requires c κs = c .before .before .before .pre
 returns : tie.Need-returns
 returns c = search needs
 
-add-t6 : tie.Need-add-t6
-add-t6 c = omega (arith, c .before .before .before .before .before .pre .few)
+add-t7 : tie.Need-add-t7
+add-t7 c = omega (arith, c .before .before .before .before .before .before .pre .few)
 
-add-t8 : tie.Need-add-t8
-add-t8 c =
-    let start = c .before .before .before .before .before .before in
+add-t9 : tie.Need-add-t9
+add-t9 c =
+    let start = c .before .before .before .before .before .before .before in
     omega (arith, start .pre .room, good start .short)
 
-add-t10 : tie.Need-add-t10
-add-t10 c = search needs
+add-t12 : tie.Need-add-t12
+add-t12 c = search needs
 
 shift-requires : tie.Need-shift-requires
 shift-requires c κs =
-    let start = c .before .before .before .before .before .before in
+    let start = c .before .before .before .before .before .before .before in
     let near : start .args .g .position + 1 < start .args .g .until = omega arith in
     (start .pre .sound, goes-on (start .args .cycle .now) (good start) (start .args .w) (start .args .g) (start .pre .stands) near, at-window start, later start near)
 
 returns-2 : tie.Need-returns-2
 returns-2 c =
-    let start = c .before .before .before .before .before .before .before in
+    let start = c .before .before .before .before .before .before .before .before in
     moved-is (start .args .cycle .now) (good start) (start .args .w) (start .args .g) (start .pre .stands) (omega arith) (start .pre .room) (c .shift .result) (c .shift .ensures)
 
 pub counted-by-spec : {M : Type 1} → statement M
 counted-by-spec =
     tie.close
-    (tie.spec add-if1 turned-by-requires returns add-t6 add-t8 add-t10 shift-requires returns-2)
+    (tie.spec add-if1 turned-by-requires returns add-t7 add-t9 add-t12 shift-requires returns-2)

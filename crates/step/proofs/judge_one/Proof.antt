@@ -1,18 +1,16 @@
 -- `step::judge_one` meets its contract, put together from what each callee ensures.
 -- Assumes nothing.
-use mathlib.Core.Bool.{Bool, not}
+use mathlib.Core.Bool.{Bool}
 use mathlib.Core.List.{List}
-use mathlib.Core.Path.{_≡_, sym, ap, _∙_}
-use Prim.Native.Nat.{ℕ, _*_}
+use mathlib.Core.Path.{_≡_, sym, _∙_}
+use Prim.Native.Nat.{ℕ}
 use borrow.Author.Needs.{needs}
-use lib.IntN.{ℤ, pos}
-use Rattle.rules.specs.Bench.{drawn, distance}
-use Rattle.rules.specs.Band.{inside}
-use Rattle.ledger.specs.Row.{isOver, sampleAdded}
-use Rattle.map.specs.Map.{opened, markedIf}
-use Rattle.step.specs.Step.{judge, held, Kept}
+use lib.IntN.{ℤ}
+use Rattle.rules.specs.Regular.{plan, courseOf}
+use Rattle.state.specs.State.{left}
+use Rattle.step.specs.Step.{State, Going, outNow, judge, standing, held, leftAt, Kept}
 use Rattle.rules.proofs.Sound.{Sound, sound}
-use Rattle.step.proofs.Standing.{position-most, phase-small, cycle-small}
+use Rattle.step.proofs.Standing.{position-most, phase-small, row-small}
 use Rattle.step.proofs.Keeping.{number-small}
 use Rattle.step.proofs.Steps.{out-in, ledger-is, map-is, stops-is, goes-is}
 use Rattle.step.proofs.judge_one.Statement.{statement}
@@ -28,45 +26,38 @@ l s = s .args .ledger .now
 abbrev m : tie.Start → List ℕ
 m s = s .args .map .now
 
-kept : (s : tie.Start) → Kept (b s) (s .args .t) (s .args .g) (l s) (m s)
+kept : (s : tie.Start) → Kept (plan (b s) (s .args .t)) (left (s .args .g) (l s) (m s))
 kept s = s .pre .0
 
 good : (s : tie.Start) → Sound (b s)
 good s = sound (b s) (kept s .sound)
 
--- the sample is outside
-abbrev out : tie.Start → Bool
-out s = not (inside (b s) (s .args .t) (s .args .g .position) (s .args .x .speed))
+-- the state after the sample, by the rules
+abbrev after : tie.Start → State
+after s = judge (courseOf (plan (b s) (s .args .t))) (held (s .args .g) (l s) (m s)) (s .args .x)
 
 -- after the three calls
 abbrev entry : tie.After-ledger → tie.Start
 entry c = c .before .before .before .before .before .before .before .before .before .before .before .before
 
-out-known : (c : tie.After-ledger) → c .before .before .before .before .before .before .before .is-outside .result ≡ out (entry c)
+-- whether the sample is outside, as the first of them found it
+abbrev out : tie.After-ledger → Bool
+out c = c .before .before .before .before .before .before .before .is-outside .result
+
+out-known : (c : tie.After-ledger)
+    → out c ≡ outNow (courseOf (plan (b (entry c)) (entry c .args .t))) (held (entry c .args .g) (l (entry c)) (m (entry c))) (entry c .args .x)
 out-known c =
     let s = entry c in
     c .before .before .before .before .before .before .before .is-outside .ensures ∙ out-in (b s) (s .args .t) (s .args .g) (l s) (m s) (kept s) (s .args .x)
 
-over-known : (c : tie.After-ledger) → c .before .add-in-cycle .result ≡ isOver (9 * entry c .args .g .row) (l (entry c)) (out (entry c)) (entry c .args .t .allowance)
-over-known c =
+-- what is left, where the run stands at r
+by : (c : tie.After-ledger) (r : Going) → r ≡ standing (b (entry c)) (entry c .args .t .time) (after (entry c) .progress)
+    → left r (c .before .add-in-cycle .last .0) (c .before .before .before .before .before .mark-sample .last .0) ≡ leftAt (plan (b (entry c)) (entry c .args .t)) (after (entry c))
+by c r e =
     let s = entry c in
-    c .before .add-in-cycle .ensures .0 ∙ ap (λ (o : Bool). isOver (9 * s .args .g .row) (l s) o (s .args .t .allowance)) (out-known c)
-
-ledger-known : (c : tie.After-ledger)
-    → c .before .add-in-cycle .last .0 ≡ judge (b (entry c)) (entry c .args .t) (held (entry c .args .g) (l (entry c)) (m (entry c))) (entry c .args .x) .ledger
-ledger-known c =
-    let s = entry c in
-    c .before .add-in-cycle .ensures .1
-    ∙ ap (λ (o : Bool). sampleAdded (9 * s .args .g .row) (l s) (s .args .g .phase) (drawn (s .args .x)) (pos (distance (s .args .x))) o (s .args .t .allowance)) (out-known c)
-    ∙ ledger-is (b s) (s .args .t) (s .args .g) (l s) (m s) (kept s) (s .args .x)
-
-map-known : (c : tie.After-ledger)
-    → c .before .before .before .before .before .mark-sample .last .0 ≡ judge (b (entry c)) (entry c .args .t) (held (entry c .args .g) (l (entry c)) (m (entry c))) (entry c .args .x) .map
-map-known c =
-    let s = entry c in
-    c .before .before .before .before .before .mark-sample .ensures
-    ∙ ap (λ (o : Bool). markedIf (opened (m s) (s .args .g .position)) (s .args .g .position) o) (out-known c)
-    ∙ map-is (b s) (s .args .t) (s .args .g) (l s) (m s) (kept s) (s .args .x)
+    let ledger = c .before .add-in-cycle .ensures .1 ∙ ledger-is (b s) (s .args .t) (s .args .g) (l s) (m s) (kept s) (s .args .x) (out c) (out-known c) in
+    let map = c .before .before .before .before .before .mark-sample .ensures ∙ map-is (b s) (s .args .t) (s .args .g) (l s) (m s) (kept s) (s .args .x) (out c) (out-known c) in
+    λ i. left (e i) (ledger i) (map i)
 
 cast-is-outside : tie.Need-cast-is-outside
 cast-is-outside c = search needs
@@ -88,7 +79,7 @@ add-in-cycle-requires c κs =
     let k = kept s in (
       (
         k .long-ledger,
-        cycle-small (b s) (good s) (s .args .t .time) (s .args .g) (k .stands) (k .room (s .pre .1 .2)),
+        row-small (b s) (good s) (s .args .t .time) (s .args .g) (k .stands) (k .room (s .pre .1 .2)),
         phase-small (b s) (good s) (s .args .t .time) (s .args .g) (k .stands),
         s .pre .1 .1,
       ),
@@ -107,10 +98,10 @@ same-length-2 c = search needs
 returns : tie.Need-returns
 returns c =
     let a = c .before .before in
-    let s = entry a in (
-      c .offered-by .ensures ∙ stops-is (b s) (s .args .t) (s .args .g) (l s) (m s) (kept s) (s .args .x) (sym (over-known a) ∙ c .before .if1 .taken),
-      (ledger-known a, map-known a),
-    )
+    let s = entry a in
+    by a _
+    (c .offered-by .ensures
+    ∙ stops-is (b s) (s .args .t) (s .args .g) (l s) (m s) (kept s) (s .args .x) (out a) (out-known a) (sym (a .before .add-in-cycle .ensures .0) ∙ c .before .if1 .taken))
 
 counted-by-requires : tie.Need-counted-by-requires
 counted-by-requires c κs =
@@ -126,10 +117,10 @@ same-length-4 c = search needs
 returns-2 : tie.Need-returns-2
 returns-2 c =
     let a = c .before .before in
-    let s = entry a in (
-      c .counted-by .ensures ∙ goes-is (b s) (s .args .t) (s .args .g) (l s) (m s) (kept s) (s .args .x) (sym (over-known a) ∙ c .before .if1 .left),
-      (ledger-known a, map-known a),
-    )
+    let s = entry a in
+    by a _
+    (c .counted-by .ensures
+    ∙ goes-is (b s) (s .args .t) (s .args .g) (l s) (m s) (kept s) (s .args .x) (out a) (out-known a) (sym (a .before .add-in-cycle .ensures .0) ∙ c .before .if1 .left))
 
 pub judge-one-spec : {M : Type 1} → statement M
 judge-one-spec =

@@ -5,10 +5,10 @@ use Prim.Native.Nat.{_<_}
 use native.Mathlib.Omega.{arith}
 use borrow.Author.Needs.{needs}
 use Rattle.rules.specs.Cycle.{phaseAt}
-use Rattle.rules.specs.Run.{cycleOf, positionOf}
+use Rattle.rules.specs.Regular.{cycleOf, positionOf}
 use Rattle.rules.proofs.Sound.{Sound, sound}
-use Rattle.rules.specs.Bench.{mostPositions}
-use Rattle.step.proofs.Standing.{position-is, cycle-is, phase-is, position-most, cycle-small}
+use Rattle.rules.specs.Bench.{mostPositions, mostCycles}
+use Rattle.step.proofs.Standing.{position-is, row-is, phase-is, position-most, row-small}
 use Rattle.step.proofs.Placing.{next-within, next-first}
 use Rattle.step.proofs.next_place.Statement.{statement}
 use Rattle.step.proofs.next_place.Tie as tie
@@ -18,11 +18,11 @@ module _ (c : tie.Start) where
   good : Sound (c .args .cycle .now)
   good = sound _ (c .pre .sound)
 
-  at-position : c .args .g .position ≡ positionOf (c .args .cycle .now) (c .args .g .counted)
+  at-position : c .args .g .position ≡ positionOf (c .args .cycle .now) (c .args .g .progress .counted)
   at-position = position-is (c .args .cycle .now) good (c .args .w) (c .args .g) (c .pre .stands)
 
-  at-cycle : c .args .g .row ≡ cycleOf (c .args .cycle .now) (c .args .g .counted)
-  at-cycle = cycle-is (c .args .cycle .now) good (c .args .w) (c .args .g) (c .pre .stands)
+  at-row : c .args .g .row ≡ cycleOf (c .args .cycle .now) (c .args .g .progress .counted)
+  at-row = row-is (c .args .cycle .now) good (c .args .w) (c .args .g) (c .pre .stands)
 
   at-phase : c .args .g .phase ≡ phaseAt (c .args .cycle .now) (c .args .g .position)
   at-phase = phase-is (c .args .cycle .now) good (c .args .w) (c .args .g) (c .pre .stands) ∙ ap (phaseAt (c .args .cycle .now)) (sym at-position)
@@ -30,8 +30,8 @@ module _ (c : tie.Start) where
   small-position : c .args .g .position < mostPositions
   small-position = position-most (c .args .cycle .now) good (c .args .w) (c .args .g) (c .pre .stands)
 
-  small-cycle : c .args .g .row < 64
-  small-cycle = cycle-small (c .args .cycle .now) good (c .args .w) (c .args .g) (c .pre .stands) (c .pre .room)
+  small-row : c .args .g .row < mostCycles
+  small-row = row-small (c .args .cycle .now) good (c .args .w) (c .args .g) (c .pre .stands) (c .pre .room)
 
 add-if1 : tie.Need-add-if1
 add-if1 c = omega (arith, small-position (c .before))
@@ -53,10 +53,10 @@ next-phase-requires c κs =
 returns : tie.Need-returns
 returns c =
     let start = c .before .before .before .before in
-    next-within (start .args .cycle .now) (good start) (start .args .g .counted) _ _ (at-cycle start) (at-position start) _ (omega arith) (start .pre .room) (c .next-phase .ensures)
+    next-within (start .args .cycle .now) (good start) (start .args .g .progress .counted) _ _ (at-row start) (at-position start) _ (omega arith) (start .pre .room) (c .next-phase .ensures)
 
 add-row : tie.Need-add-row
-add-row c = omega (arith, small-cycle (c .before .before .before .before))
+add-row c = omega (arith, small-row (c .before .before .before .before))
 
 end-after-requires : tie.Need-end-after-requires
 end-after-requires c κs = search needs
@@ -64,7 +64,7 @@ end-after-requires c κs = search needs
 returns-2 : tie.Need-returns-2
 returns-2 c =
     let start = c .before .before .before .before .before in
-    next-first (start .args .cycle .now) (good start) (start .args .g .counted) _ _ (at-cycle start) (at-position start) _ (omega arith) (c .end-after .ensures)
+    next-first (start .args .cycle .now) (good start) (start .args .g .progress .counted) _ _ (at-row start) (at-position start) _ (omega arith) (c .end-after .ensures)
 
 pub next-place-spec : {M : Type 1} → statement M
 next-place-spec =

@@ -1,11 +1,14 @@
 -- `step::take_one` meets its contract: by the run's end the sample is judged or passed by.
 -- Assumes nothing.
 use mathlib.Core.Bool.{false}
-use mathlib.Core.Path.{_≡_, refl, sym, ap, _∙_}
+use mathlib.Core.Path.{_≡_, sym, ap, _∙_}
 use borrow.Author.Needs.{needs}
 use Rattle.rules.specs.Bench.{isOpen}
-use Rattle.step.specs.Step.{State, Going, step, offeredOne, held}
-use Rattle.step.proofs.Steps.{Leaves, leaves-same, step-open, step-ended, passed-is}
+use Rattle.rules.specs.Course.{Course}
+use Rattle.rules.specs.Regular.{plan, courseOf}
+use Rattle.state.specs.State.{left}
+use Rattle.step.specs.Step.{State, Going, offeredOne, held, leftAt, oneTaken}
+use Rattle.step.proofs.Steps.{taken-open, taken-ended, offered-is}
 use Rattle.step.proofs.take_one.Statement.{statement}
 use Rattle.step.proofs.take_one.Tie as tie
 
@@ -13,22 +16,23 @@ use Rattle.step.proofs.take_one.Tie as tie
 abbrev before : tie.Start → State
 before s = held (s .args .g) (s .args .ledger .now) (s .args .map .now)
 
-abbrev after : tie.Start → State
-after s = step (s .args .cycle .now) (s .args .t) (before s) (s .args .x)
+abbrev course : tie.Start → Course
+course s = courseOf (plan (s .args .cycle .now) (s .args .t))
 
--- where it stands after a sample that is passed by, and its memory
-by : (s : tie.Start) (r : Going) → isOpen (s .args .g .end) ≡ false → r ≡ offeredOne (s .args .g) (s .args .g .end)
-    → Leaves (s .args .cycle .now) (s .args .t .time) (after s) r (s .args .ledger .now) (s .args .map .now)
+-- where it stands after a sample that is only offered, and its memory
+by : (s : tie.Start) (r : Going) → isOpen (s .args .g .progress .end) ≡ false → r ≡ offeredOne (s .args .g) (s .args .g .progress .end)
+    → left r (s .args .ledger .now) (s .args .map .now) ≡ oneTaken (s .args .cycle .now) (s .args .t) (s .args .g) (s .args .ledger .now) (s .args .map .now) (s .args .x)
 by s r e q =
-    leaves-same (s .args .cycle .now) (s .args .t .time) (sym (step-ended (s .args .cycle .now) (s .args .t) (before s) (s .args .x) e))
-    (q ∙ passed-is (s .args .cycle .now) (s .args .t) (s .args .g) (s .args .ledger .now) (s .args .map .now) (s .pre .0), (refl, refl))
+    ap (λ (y : Going). left y (s .args .ledger .now) (s .args .map .now))
+    (q ∙ offered-is (s .args .cycle .now) (s .args .t) (s .args .g) (s .args .ledger .now) (s .args .map .now) (s .pre .0))
+    ∙ ap (leftAt (plan (s .args .cycle .now) (s .args .t))) (sym (taken-ended (course s) (before s) (s .args .x) e))
 
 enum-told : tie.Need-enum-told
 enum-told c = search needs
 
 judge-one-requires : tie.Need-judge-one-requires
 judge-one-requires c κs =
-    let s = c .before .before .before .before .before .before in
+    let s = c .before .before .before .before .before .before .before in
     (s .pre .0, (s .pre .1 .0, s .pre .1 .1, ap isOpen (c .before .before .enum-told .given .1)))
 
 enum-told-2 : tie.Need-enum-told-2
@@ -52,19 +56,19 @@ same-length-2 c = search needs
 returns : tie.Need-returns
 returns c =
     let j = c .before .before .before in
-    let s = j .before .before .before .before .before .before .before in
-    leaves-same (s .args .cycle .now) (s .args .t .time)
-    (sym (step-open (s .args .cycle .now) (s .args .t) (before s) (s .args .x) (ap isOpen (j .before .before .before .enum-told .given .1))))
-    (j .judge-one .ensures)
+    let s = j .before .before .before .before .before .before .before .before in
+    j .judge-one .ensures
+    ∙ ap (leftAt (plan (s .args .cycle .now) (s .args .t)))
+    (sym (taken-open (course s) (before s) (s .args .x) (ap isOpen (j .before .before .before .enum-told .given .1))))
 
 returns-2 : tie.Need-returns-2
 returns-2 c =
-    let s = c .before .before .before .before .before in
+    let s = c .before .before .before .before .before .before in
     by s (c .offered-by .result) (ap isOpen (c .before .enum-told2 .given .1)) (c .offered-by .ensures)
 
 returns-3 : tie.Need-returns-3
 returns-3 c =
-    let s = c .before .before .before .before .before in
+    let s = c .before .before .before .before .before .before in
     by s (c .offered-by2 .result) (ap isOpen (c .before .enum-told3 .given .1)) (c .offered-by2 .ensures)
 
 pub take-one-spec : {M : Type 1} → statement M

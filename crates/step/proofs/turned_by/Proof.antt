@@ -5,7 +5,7 @@ use Prim.Native.Nat.{_+_, _<_}
 use native.Mathlib.Nat.{mod-lt}
 use native.Mathlib.Omega.{arith}
 use Rattle.rules.specs.Cycle.{phases, positions}
-use Rattle.rules.specs.Run.{positionOf}
+use Rattle.rules.specs.Regular.{positionOf}
 use Rattle.rules.proofs.Sound.{Sound, sound, real, phase-exists}
 use Rattle.step.specs.Step.{Next}
 use Rattle.step.proofs.Placing.{turned-is}
@@ -23,12 +23,12 @@ module _ (c : tie.After-next-place) where
   next-small : c .next-place .result .position < positions (start .args .cycle .now)
   next-small =
       let e = ap (λ (x : Next). x .position) (c .next-place .ensures) in
-      omega (arith, e, mod-lt (start .args .g .counted + 1) (real (good start)))
+      omega (arith, e, mod-lt (start .args .g .progress .counted + 1) (real (good start)))
 
   phase-there : c .next-place .result .phase < phases (start .args .cycle .now)
   phase-there =
       let b = start .args .cycle .now in
-      let n = start .args .g .counted + 1 in
+      let n = start .args .g .progress .counted + 1 in
       let e = ap (λ (x : Next). x .phase) (c .next-place .ensures) in
       omega (arith, e, phase-exists b (positionOf b n) (good start) (mod-lt n (real (good start))))
 
@@ -40,25 +40,25 @@ window-at-requires c κs =
     let start = c .before .before in
     (start .pre .sound, start .pre .time, next-small c)
 
-add-t7 : tie.Need-add-t7
-add-t7 c = omega (arith, c .before .before .before .before .pre .few)
-
 add-t8 : tie.Need-add-t8
-add-t8 c =
-    let start = c .before .before .before .before .before in
+add-t8 c = omega (arith, c .before .before .before .before .before .pre .few)
+
+add-t9 : tie.Need-add-t9
+add-t9 c =
+    let start = c .before .before .before .before .before .before in
     omega (arith, start .pre .room, good start .short)
 
 until-in-requires : tie.Need-until-in-requires
 until-in-requires c κs =
-    let s = good (c .before .before .before .before .before) in
-    omega (arith, phase-there (c .before .before .before))
+    let s = good (c .before .before .before .before .before .before) in
+    omega (arith, phase-there (c .before .before .before .before))
 
 returns : tie.Need-returns
 returns c =
-    let next = c .before .before .before .before in
-    turned-is _ _ _ _ _ _ (next .next-place .result) (next .next-place .ensures) (c .before .before .before .window-at .ensures .0) (c .until-in .ensures)
+    let next = c .before .before .before .before .before in
+    turned-is _ _ _ _ _ _ (next .next-place .result) (next .next-place .ensures) (c .before .before .before .before .window-at .ensures .0) (c .until-in .ensures)
 
 pub turned-by-spec : {M : Type 1} → statement M
 turned-by-spec =
     tie.close
-    (tie.spec next-place-requires window-at-requires add-t7 add-t8 until-in-requires returns)
+    (tie.spec next-place-requires window-at-requires add-t8 add-t9 until-in-requires returns)

@@ -25,32 +25,30 @@ returns c =
     let e = c .before .grounds-refusal .ensures in
     ap (λ (n : ℕ). record { refusal = n; weighted = 0; range = 0 }) e ∙ closing-refused _ _ _ _ _ (λ z. c .if1 .taken (e ∙ z))
 
-mul-n : tie.Need-mul-n
-mul-n c = omega (arith, facts (c .before) .ground .limits .short)
-
-div-n : tie.Need-div-n
-div-n c = omega (arith, facts (c .before .before) .ground .limits .long)
+cycles-of-requires : tie.Need-cycles-of-requires
+cycles-of-requires c κs = facts c .ground .is-run
 
 cast-n : tie.Need-cast-n
-cast-n c = omega (arith, facts (c .before .before) .most)
+cast-n c = omega (arith, c .cycles-of .ensures .1)
 
 energy-all-requires : tie.Need-energy-all-requires
-energy-all-requires c κs = facts (c .before .before) .ground .bounded
+energy-all-requires c κs = facts (c .before) .ground .bounded
 
 add-close : tie.Need-add-close
-add-close c = whole-fits (facts (c .before .before .before .before .before)) _ (c .before .before .energy-all .ensures)
+add-close c = whole-fits (facts (c .before .before .before .before)) _ (c .before .before .energy-all .ensures)
 
 close-requires : tie.Need-close-requires
 close-requires c κs =
-    let s = facts (c .before .before .before .before .before) in
-    (s .ground .bounded, s .most, rw (whole-read s _ (c .before .before .energy-all .ensures)) (s .whole-sized))
+    let s = facts (c .before .before .before .before) in
+    let n = c .before .before .before .cycles-of .ensures .1 in
+    (s .ground .bounded, n, rw (whole-read s _ (c .before .before .energy-all .ensures)) (s .whole-sized))
 
 returns-2 : tie.Need-returns-2
 returns-2 c =
-    let on = c .before .before .before .before .before .before in
+    let on = c .before .before .before .before .before in
     let s = facts on in
     c .close .ensures
-    ∙ ap₂ (closedOf (on .before .before .before .before .args .ledger .now)) (s .cycles) (whole-read s _ (c .before .before .before .energy-all .ensures))
+    ∙ ap₂ (closedOf (on .before .before .before .before .args .ledger .now)) (c .before .before .before .before .cycles-of .ensures .0) (whole-read s _ (c .before .before .before .energy-all .ensures))
     ∙ closing-taken _ _ _ _ _ (taken on)
 
 pub closing-of-spec : {M : Type 1} → statement M
@@ -59,8 +57,7 @@ closing-of-spec =
     (tie.spec
     grounds-refusal-requires
     returns
-    mul-n
-    div-n
+    cycles-of-requires
     cast-n
     energy-all-requires
     add-close

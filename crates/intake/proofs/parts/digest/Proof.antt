@@ -4,23 +4,20 @@ use mathlib.Core.Path.{sym, ap}
 use native.Mathlib.Omega.{arith}
 use lib.ListN.{take}
 use lib.Seq.{length-take-le}
-use Rattle.desk.specs.declared.Fed.{Fed}
-use Rattle.desk.specs.Feeding.{Laid, Taken, laidOf, feedOf}
+use Rattle.desk.specs.declared.Outcome.the-variants.{Refused}
+use Rattle.desk.specs.Feeding.{Laid, Consumed, laidOf}
 use Rattle.desk.proofs.Onward.{feed-used}
-use Rattle.intake.proofs.Fed.{refused-turn, more-turn}
+use Rattle.intake.proofs.Fed.{fed-turn, more-turn}
 use borrow.Author.Needs.{needs}
 use Rattle.intake.proofs.parts.digest.Statement.{statement}
 use Rattle.intake.proofs.parts.digest.Tie as tie
 
--- the desk on its memory, and what it takes of the bytes lent
+-- the desk on its memory
 abbrev entry : tie.After-feed-on → tie.Start
 entry c = c .before .before .before .before .before .before .before .before
 
 abbrev laid : tie.Start → Laid
 laid s = laidOf (s .args .desk) (s .args .room .now) (s .args .ledger .now) (s .args .map .now)
-
-abbrev taken : tie.Start → Taken
-taken s = feedOf (laid s) (take (s .args .upto) (s .args .buffer .now))
 
 slice-reshare-prefix-feed-on : tie.Need-slice-reshare-prefix-feed-on
 slice-reshare-prefix-feed-on c = search needs
@@ -41,7 +38,7 @@ to-front-requires : tie.Need-to-front-requires
 to-front-requires c κs =
     let fed = c .before .before .before .before .before .before .before .before .before in
     let s = entry fed in
-    let used = ap (λ (x : Fed). x .used) (fed .feed-on .ensures .0) in
+    let used = ap (λ (y : Consumed). y .used) (fed .feed-on .ensures) in
     let most = feed-used (laid s) (take (s .args .upto) (s .args .buffer .now)) in
     (omega (arith, used, most, length-take-le (s .args .upto) (s .args .buffer .now) (s .pre .0)), s .pre .0)
 
@@ -61,10 +58,8 @@ returns : tie.Need-returns
 returns c =
     let known = c .before in
     let fed = known .before .before .before .before .before .before .before .before in
-    let s = entry fed in
-    let e = fed .feed-on .ensures in
-    let t = refused-turn (taken s) _ (e .0) (s .args .upto) (s .args .left) (s .args .buffer .now) (known .outcome .given .0 .0) (known .outcome .given .1) in
-    (t .0, (t .1, e .1))
+    let a = entry fed .args in
+    fed-turn (fed .feed-on .ensures) (a .upto) (a .left) (a .buffer .now) (Refused (known .outcome .given .0 .0)) (known .outcome .given .1)
 
 same-length-5 : tie.Need-same-length-5
 same-length-5 c = search needs
@@ -83,11 +78,9 @@ returns-2 c =
     let moved = c .before .before in
     let told = moved .before .before in
     let fed = told .before .before .before .before .before .before .before .before in
-    let s = entry fed in
-    let e = fed .feed-on .ensures in
+    let a = entry fed .args in
     let m = moved .to-front .ensures in
-    let t = more-turn (taken s) _ (e .0) (s .args .upto) (s .args .left) (s .args .buffer .now) (told .enum-told .given .1) _ _ (m .0) (m .1) in
-    (t .0, (t .1, e .1))
+    more-turn (fed .feed-on .ensures) (a .upto) (a .left) (a .buffer .now) (told .enum-told .given .1) (m .0) (m .1)
 
 pub digest-spec : {M : Type 1} → statement M
 digest-spec =

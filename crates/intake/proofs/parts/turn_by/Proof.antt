@@ -66,8 +66,7 @@ returns-2 c =
     let taken = c .before .before .before .before .before .before .before in
     let known = taken .before .before .before .before .before .before in
     let s = entry known in
-    let e = taken .digest .ensures in
-    (λ i. placeOf (e .0 i) (e .1 .0 i) (e .1 .1 .0 i) (e .1 .1 .1 .0 i) (e .1 .1 .1 .1 i))
+    taken .digest .ensures
     ∙ ap (λ (g : Got). placeBy g (laid s) (s .args .held) (s .args .left) (s .args .buffer .now)) (sym (known .got .given .1))
 
 pub turn-by-spec : {M : Type 1} → statement M

@@ -1,4 +1,4 @@
--- `step::place` meets its contract: cycle and position are quotient and remainder by the number of positions.
+-- `step::going_at` meets its contract: cycle and position are quotient and remainder by the number of positions.
 -- Assumes nothing.
 use mathlib.Core.Path.{_≡_, sym, ap, _∙_}
 use Prim.Native.Nat.{ℕ, _*_, _/_, _%_, _<_}
@@ -9,24 +9,24 @@ use Rattle.rules.proofs.Sound.{Sound, sound, real, phase-exists}
 use Rattle.window.specs.Moving.{windowOf}
 use Rattle.step.specs.Step.{untilAt}
 use Rattle.step.proofs.Placing.{until-made}
-use Rattle.step.proofs.place.Statement.{statement}
-use Rattle.step.proofs.place.Tie as tie
+use Rattle.step.proofs.going_at.Statement.{statement}
+use Rattle.step.proofs.going_at.Tie as tie
 
 good : (c : tie.Start) → Sound (c .args .cycle .now)
 good c = sound _ (c .pre .0)
 
 -- the number of positions, as the code has it
-same : (c : tie.Start) → positions (c .args .cycle .now) ≡ 20 * c .args .run .seconds
+same : (c : tie.Start) → positions (c .args .cycle .now) ≡ 20 * c .args .run .track .seconds
 same c = ap (λ (n : ℕ). 20 * n) (c .pre .1)
 
-small : (c : tie.Start) → c .args .run .counted % (20 * c .args .run .seconds) < positions (c .args .cycle .now)
-small c = rw (← same c) (mod-lt (c .args .run .counted) (real (good c)))
+small : (c : tie.Start) → c .args .run .progress .counted % (20 * c .args .run .track .seconds) < positions (c .args .cycle .now)
+small c = rw (← same c) (mod-lt (c .args .run .progress .counted) (real (good c)))
 
 mul-n : tie.Need-mul-n
 mul-n c = let s = good (c .before .before) in omega (arith, same (c .before .before))
 
 rem-position : tie.Need-rem-position
-rem-position c = let s = good (c .before .before .before) in omega (arith, same (c .before .before .before))
+rem-position c = let s = good (c .before .before .before .before) in omega (arith, same (c .before .before .before .before))
 
 phase-of-requires : tie.Need-phase-of-requires
 phase-of-requires c κs =
@@ -38,16 +38,16 @@ window-at-requires c κs =
     let start = c .before .before .before .before .before in
     (start .pre .0, start .pre .2, small start)
 
-div-t9 : tie.Need-div-t9
-div-t9 c =
+div-t8 : tie.Need-div-t8
+div-t8 c =
     let start = c .before .before .before .before .before .before .before in
     let s = good start in
     omega (arith, same start)
 
-cast-t10 : tie.Need-cast-t10
-cast-t10 c =
+cast-t9 : tie.Need-cast-t9
+cast-t9 c =
     let run = c .before .before .before .before .before .before .before .args .run in
-    omega (arith, div-le-self (run .counted) (20 * run .seconds))
+    omega (arith, div-le-self (run .progress .counted) (20 * run .track .seconds))
 
 until-in-requires : tie.Need-until-in-requires
 until-in-requires c κs =
@@ -60,30 +60,28 @@ returns c =
     let start = c .before .before .before .before .before .before .before .before in
     let b = start .args .cycle .now in
     let run = start .args .run in
-    let w = run .tolerances .time in
+    let w = run .track .tolerances .time in
     let n = sym (same start) in
     let phase = c .before .before .before .phase-of .ensures in
     let window = c .before .before .window-at .ensures .0 in
     λ i. record {
-      offered = run .offered;
-      counted = run .counted;
-      end = run .end;
-      row = ap (λ (k : ℕ). run .counted / k) n i;
-      position = ap (λ (k : ℕ). run .counted % k) n i;
-      phase = (phase ∙ ap (λ (k : ℕ). phaseAt b (run .counted % k)) n) i;
-      window = (window ∙ ap (λ (k : ℕ). windowOf b w (run .counted % k)) n) i;
-      until = (until-made b w _ _ _ _ window phase (c .until-in .ensures) ∙ ap (λ (k : ℕ). untilAt b w (run .counted % k)) n) i;
+      progress = run .progress;
+      row = ap (λ (k : ℕ). run .progress .counted / k) n i;
+      position = ap (λ (k : ℕ). run .progress .counted % k) n i;
+      phase = (phase ∙ ap (λ (k : ℕ). phaseAt b (run .progress .counted % k)) n) i;
+      window = (window ∙ ap (λ (k : ℕ). windowOf b w (run .progress .counted % k)) n) i;
+      until = (until-made b w _ _ _ _ window phase (c .until-in .ensures) ∙ ap (λ (k : ℕ). untilAt b w (run .progress .counted % k)) n) i;
     }
 
-pub place-spec : {M : Type 1} → statement M
-place-spec =
+pub going-at-spec : {M : Type 1} → statement M
+going-at-spec =
     tie.close
     (tie.spec
     mul-n
     rem-position
     phase-of-requires
     window-at-requires
-    div-t9
-    cast-t10
+    div-t8
+    cast-t9
     until-in-requires
     returns)
