@@ -29,8 +29,8 @@ use Rattle.state.specs.Refusals.{cyclesBy}
 use Rattle.state.proofs.Checked.{Ground, ground-passed, ground-zero, ground-on, ground-off}
 use Rattle.consumption.specs.declared.Figure.{Figure}
 use Rattle.consumption.specs.declared.Figure.the-variants.{Is, Refused}
-use Rattle.consumption.specs.Figures.{chargedBy, closedOf, rechargedBy}
-use Rattle.closing.specs.Answers.{grounds, whole, closed, refusalOf, closingOf}
+use Rattle.consumption.specs.Figures.{chargedBy, closingIn, rechargedBy}
+use Rattle.closing.specs.Answers.{grounds, whole, closingBy, refusalOf, closingOf}
 
 -- ---- an answer by the number of its refusal
 
@@ -91,15 +91,15 @@ module _ (r : Run) (a : Amounts) (b : List ℕ) (l : List ℤ) (m : List ℕ) wh
   pub closing-refused : (grounds r a b l m 0 ≡ 0 → ⊥) → record { refusal = grounds r a b l m 0; weighted = 0; range = 0 } ≡ closingOf r a b l m
   unfolding refusalOf
   closing-refused h =
-      let same = sym (grounds-off (closed r a b l m .refusal) h) in
+      let same = sym (grounds-off (closingBy r a b l m .refusal) h) in
       let none : (x : ℕ) → 0 ≡ settled (refusalOf r a b l m) x 0 = λ x. sym (settled-refused x (λ z. h (same ∙ z))) in
-      λ i. record { refusal = same i; weighted = none (closed r a b l m .weighted) i; range = none (closed r a b l m .range) i }
+      λ i. record { refusal = same i; weighted = none (closingBy r a b l m .weighted) i; range = none (closingBy r a b l m .range) i }
 
   -- where it refuses nothing, the closing is that of the finished cycles
-  pub closing-taken : grounds r a b l m 0 ≡ 0 → closed r a b l m ≡ closingOf r a b l m
-  unfolding refusalOf closedOf
+  pub closing-taken : grounds r a b l m 0 ≡ 0 → closingBy r a b l m ≡ closingOf r a b l m
+  unfolding refusalOf closingIn
   closing-taken e =
-      let c = closed r a b l m in
+      let c = closingBy r a b l m in
       let same = sym (grounds-on (c .refusal) e) in
       λ i. record {
         refusal = same i;
@@ -110,7 +110,7 @@ module _ (r : Run) (a : Amounts) (b : List ℕ) (l : List ℤ) (m : List ℕ) wh
   -- nothing is refused, by the ground or by the closing
   pub nothing-refused : refusalOf r a b l m ≡ 0
       → Standing r a b l m × (closingRefusal (whole r a b l m) (cyclesBy r) (energyIn l) (distanceIn l) ≡ 0)
-  unfolding refusalOf closedOf
+  unfolding refusalOf closingIn
   nothing-refused e =
       let (x, e′) = not-refused 0 _ _ e in
       let (z, e₂) = ground-zero r b l m _ e′ in
@@ -153,7 +153,7 @@ module _ (E : ℤ) (n : ℕ) (e d : ℕ → ℤ) where
 -- of the closing itself
 module _ (r : Run) (a : Amounts) (b : List ℕ) (l : List ℤ) (m : List ℕ) (z : refusalOf r a b l m ≡ 0) where
   pub range-is : closingOf r a b l m .range ≡ rangeFigure (whole r a b l m) (cyclesBy r) (energyIn l) (distanceIn l)
-  unfolding closedOf
+  unfolding closingIn
   range-is = settled-taken 0 z ∙ settled-taken 0 (nothing-refused r a b l m z .1)
 
   pub closing-charged : Charged (whole r a b l m) (closingOf r a b l m .range)

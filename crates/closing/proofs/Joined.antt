@@ -25,9 +25,9 @@ use Rattle.ledger.specs.Row.{energyIn, distanceIn, energyAll}
 use Rattle.state.specs.declared.Run.{Run}
 use Rattle.state.specs.Refusals.{cyclesBy}
 use Rattle.numbers.specs.Tests.{settled}
-use Rattle.judge.proofs.Runs.{Reached, good, run-shows, cycle-energies, cycle-distances, few-cycles, never-refused}
+use Rattle.judge.proofs.Runs.{Reached, run-shows, cycle-energies, cycle-distances, few-cycles, never-refused}
 use Rattle.consumption.specs.declared.Figure.the-variants.{Is, Refused}
-use Rattle.consumption.specs.Figures.{weightedBy, rangeBy, chargedBy, rechargeBy, closedOf}
+use Rattle.consumption.specs.Figures.{weightedBy, rangeBy, chargedBy, rechargeBy, closingIn}
 use Rattle.closing.specs.Answers.{refusalOf, weightedAnswer, rangeAnswer, rechargeAnswer}
 
 -- two closings that are alike in the whole energy, the number of cycles and each cycle
@@ -105,17 +105,17 @@ module _ (p : Plan) (l₀ : List ℤ) (m₀ : List ℕ) {xs : List Moment} {r : 
 
   -- such a run is refused by the closing's own numbers only
   refusal-is : refusalOf r a (p .cycle) l m ≡ closingRefusal E n e d
-  unfolding refusalOf closedOf
+  unfolding refusalOf closingIn
   refusal-is = sym (pass 1 ok refl) ∙ never-refused p l₀ m₀ h _ ∙ refused-is
 
   pub weighted-of-run : weightedAnswer r a (p .cycle) l m ≡ weightedBy E n e d
-  unfolding closedOf
+  unfolding closingIn
   weighted-of-run =
       (λ i. settled (refusal-is i) (Is (settled (refused-is i) (weighted-is i) 0)) (Refused (refusal-is i)))
       ∙ settled-twice (closingRefusal E n e d) (weightedFigure E n e d)
 
   pub range-of-run : rangeAnswer r a (p .cycle) l m ≡ rangeBy E n e d
-  unfolding closedOf
+  unfolding closingIn
   range-of-run =
       (λ i. settled (refusal-is i) (Is (settled (refused-is i) (range-is i) 0)) (Refused (refusal-is i)))
       ∙ settled-twice (closingRefusal E n e d) (rangeFigure E n e d)
@@ -136,7 +136,7 @@ module _ (p : Plan) (l₀ : List ℤ) (m₀ : List ℕ) (xs ys : List Moment) {r
   s′ = momentIn (xs ++ ys)
 
   lawful : Lawful (courseOf p)
-  lawful = regular-lawful (p .cycle) (good p l₀ m₀ h) (p .tolerances)
+  lawful = regular-lawful (p .cycle) (p .tolerances)
 
   stays : Over (courseOf p) lawful s s′ (length xs) (length (xs ++ ys)) (more-samples xs ys) (same-samples xs ys)
   stays = over (courseOf p) lawful s s′ (length xs) (length (xs ++ ys)) (more-samples xs ys) (same-samples xs ys) (ap isOpen (sym (run-shows p l₀ m₀ h .end-is)) ∙ ended)

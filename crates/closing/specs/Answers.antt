@@ -13,7 +13,7 @@ use Rattle.state.specs.Refusals.{cyclesBy}
 use Rattle.consumption.specs.declared.Closed.{Closed}
 use Rattle.consumption.specs.declared.Figure.{Figure}
 use Rattle.consumption.specs.declared.Figure.the-variants.{Is}
-use Rattle.consumption.specs.Figures.{figureOr, chargedBy, closedOf}
+use Rattle.consumption.specs.Figures.{figureOr, chargedBy, closingIn}
 
 module _ (r : Run) (a : Amounts) (b : List ℕ) (l : List ℤ) (m : List ℕ) where
   -- "In a started run 1 and 2 come before all others": the amounts are numbers of the state
@@ -24,22 +24,22 @@ module _ (r : Run) (a : Amounts) (b : List ℕ) (l : List ℤ) (m : List ℕ) wh
   abbrev pub whole : ℤ
   whole = a .before +ℤ energyAll l
 
-  abbrev pub closed : Closed
-  closed = closedOf l (cyclesBy r) whole
+  abbrev pub closingBy : Closed
+  closingBy = closingIn l (cyclesBy r) whole
 
   -- 1, 2, 10, 11, 12, 13, or 0
   unfoldable pub refusalOf : ℕ
-  refusalOf = grounds (closed .refusal)
+  refusalOf = grounds (closingBy .refusal)
 
   abbrev pub weightedAnswer : Figure
-  weightedAnswer = figureOr refusalOf (Is (closed .weighted))
+  weightedAnswer = figureOr refusalOf (Is (closingBy .weighted))
 
   abbrev pub rangeAnswer : Figure
-  rangeAnswer = figureOr refusalOf (Is (closed .range))
+  rangeAnswer = figureOr refusalOf (Is (closingBy .range))
 
   abbrev pub rechargeAnswer : Figure
   rechargeAnswer = figureOr refusalOf (chargedBy whole (cyclesBy r) (energyIn l) (distanceIn l) (a .after) (a .charge))
 
   -- the closing with the refusals before it
   abbrev pub closingOf : Closed
-  closingOf = record { refusal = refusalOf; weighted = settled refusalOf (closed .weighted) 0; range = settled refusalOf (closed .range) 0 }
+  closingOf = record { refusal = refusalOf; weighted = settled refusalOf (closingBy .weighted) 0; range = settled refusalOf (closingBy .range) 0 }

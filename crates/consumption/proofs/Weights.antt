@@ -27,7 +27,7 @@ use Rattle.wide.proofs.Answers.{over-quotient}
 use Rattle.ledger.specs.Row.{bounded, energyIn, distanceIn}
 use Rattle.ledger.proofs.Bounded.{energy-sized, distance-natural}
 use Rattle.consumption.specs.declared.Closed.{Closed}
-use Rattle.consumption.specs.Figures.{closedOf, Closable}
+use Rattle.consumption.specs.Figures.{closingIn, Closable}
 
 -- ---- tests
 
@@ -181,8 +181,8 @@ module _ (l : List ℤ) (n : ℕ) (E : ℤ) where
   R = rangeFigure E n (energyIn l) (distanceIn l)
 
   pub closed-refused : (k : ℕ) → suc k ≡ closingRefusal E n (energyIn l) (distanceIn l)
-      → _≡_ {A = Closed} (record { refusal = suc k; weighted = 0; range = 0 }) (closedOf l n E)
-  unfolding closedOf
+      → _≡_ {A = Closed} (record { refusal = suc k; weighted = 0; range = 0 }) (closingIn l n E)
+  unfolding closingIn
   closed-refused k e =
       let none : (x : ℕ) → 0 ≡ settled refusal x 0 = λ x. sym (settled-refused x (λ (z : refusal ≡ 0). omega arith)) in
       λ i. record { refusal = e i; weighted = none W i; range = none R i }
@@ -190,8 +190,8 @@ module _ (l : List ℤ) (n : ℕ) (E : ℤ) where
   pub closed-taken : closingRefusal E n (energyIn l) (distanceIn l) ≡ 0
       → _≡_ {A = Closed}
       (record { refusal = 0; weighted = weightedFigure E n (energyIn l) (distanceIn l); range = rangeFigure E n (energyIn l) (distanceIn l) })
-      (closedOf l n E)
-  unfolding closedOf
+      (closingIn l n E)
+  unfolding closingIn
   closed-taken e =
       let is : (x : ℕ) → x ≡ settled refusal x 0 = λ x. sym (settled-taken 0 e) in
       λ i. record { refusal = sym e i; weighted = is W i; range = is R i }

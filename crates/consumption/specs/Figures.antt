@@ -44,8 +44,8 @@ module _ (E : ℤ) (n : ℕ) (e d : ℕ → ℤ) where
 -- ---- read off a ledger
 
 -- the two figures of n finished cycles with the whole energy E, or the number of the refusal
-unfoldable pub closedOf : List ℤ → ℕ → ℤ → Closed
-closedOf l n E =
+unfoldable pub closingIn : List ℤ → ℕ → ℤ → Closed
+closingIn l n E =
     let refusal = closingRefusal E n (energyIn l) (distanceIn l) in
     record {
       refusal = refusal;

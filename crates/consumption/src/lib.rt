@@ -15,7 +15,7 @@ ghost use Rattle.rules.specs.Closing.{isRate, rateOf, weightedFigure, recharge,
 ghost use Rattle.rules.specs.Bench.{mostCycles};
 ghost use Rattle.ledger.specs.Row.{bounded, energyIn, distanceIn};
 ghost use Rattle.wide.specs.Ratio.{ratio};
-ghost use Rattle.consumption.specs.Figures.{closedOf, Closable, rechargedBy};
+ghost use Rattle.consumption.specs.Figures.{closingIn, Closable, rechargedBy};
 
 // A figure, no figure, or the number of a refusal.
 pub enum Figure {
@@ -152,7 +152,7 @@ fn refused(refusal: u32) -> Closed
 fn finish(ledger: &[i64], n: usize, total: u64) -> Closed
     requires { ⌜ Closable (now ledger) n ⌝ }
     requires { ⌜ (total < 2 ^ 51) × (leZ (energyIn (now ledger) 0 +ℤ energyIn (now ledger) 1) (pos total) ≡ true) ⌝ }
-    ensures { λ r. ⌜ r ≡ closedOf (now (ledger .entry)) n (pos total) ⌝ }
+    ensures { λ r. ⌜ r ≡ closingIn (now (ledger .entry)) n (pos total) ⌝ }
 {
     let weighted = weighted_of(ledger, n, total);
     let range = 5 * total / (36 * weighted);
@@ -169,7 +169,7 @@ fn finish(ledger: &[i64], n: usize, total: u64) -> Closed
 // The closing of n finished cycles with the whole energy total.
 pub fn close(ledger: &[i64], n: usize, total: i64) -> Closed
     requires { ⌜ (bounded (now ledger) ≡ true) × (n ≤ mostCycles) × Sized mostWhole total ⌝ }
-    ensures { λ r. ⌜ r ≡ closedOf (now (ledger .entry)) n total ⌝ }
+    ensures { λ r. ⌜ r ≡ closingIn (now (ledger .entry)) n total ⌝ }
 {
     if n < 3 {
         return refused(10);

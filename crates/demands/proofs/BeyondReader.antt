@@ -31,7 +31,7 @@ use Rattle.opening.specs.Answers.{openOf, memoryAfter}
 use Rattle.reading.specs.declared.Reading.{Reading}
 use Rattle.reading.specs.declared.Step.the-variants as step
 use Rattle.reading.specs.Reading.{Tale, Answered, Read, taleAfter, brought, fieldAt, fieldsOf}
-use Rattle.reading.specs.Answers.{offeredOf, takeBlock, taleOf, planOf, readGround, readOf, readAllOf}
+use Rattle.reading.specs.Answers.{offeredOf, takeBlock, taleOf, readingPlan, readGround, readOf, readAllOf}
 use Rattle.reading.proofs.Onwards.{by-front, kept}
 use Rattle.reader.proofs.open
 use Rattle.demands.proofs.NoDoubt.{Call}
@@ -85,7 +85,7 @@ module _ (me : List ℕ) (p : Plan) (a : Memory) where
 
 module _ (r : Reading) (b : List ℕ) (l : List ℤ) (m i : List ℕ) where
   abbrev p : Plan
-  p = planOf r b
+  p = readingPlan r b
 
   abbrev a : Memory
   a = lent l m

@@ -32,9 +32,9 @@ use Rattle.reader.proofs.reading_of
 use Rattle.reader.proofs.read
 use Rattle.reader.proofs.read_all
 use Rattle.reader.proofs.ended
-use Rattle.sheet.specs.Laid.{laid}
+use Rattle.sheet.specs.Overlaid.{overlaid}
 use Rattle.sheet.specs.Text.{mostSheet}
-use Rattle.sheet.proofs.Laid.{too-short}
+use Rattle.sheet.proofs.Overlaid.{too-short}
 use Rattle.sheet.proofs.sheet_lines
 use Rattle.sheet.proofs.refusal_line
 use Rattle.figures.specs.declared.Found.{Found}
@@ -205,17 +205,17 @@ figures-of-refused-has-no-figure c h =
 
 -- ---- "every other lent buffer": lines shorter than 512 bytes stay as they were, and the result is 0; what lies beyond the text is never touched
 
--- a text was laid over out: r is the result, and o are the lines then
+-- a text was overlaid over out: r is the result, and o are the lines then
 module _ (text out : List ℕ) {r : ℕ} {o : List ℕ}
-    (p : r ≡ unless 0 (leb mostSheet (length out)) (length text)) (q : o ≡ unless out (leb mostSheet (length out)) (laid out 0 text)) where
+    (p : r ≡ unless 0 (leb mostSheet (length out)) (length text)) (q : o ≡ unless out (leb mostSheet (length out)) (overlaid out 0 text)) where
   short : length out < mostSheet → (r ≡ 0) × (o ≡ out)
   short h = let s = too-short out text h in (p ∙ sym (s .0), q ∙ sym (s .1))
 
   beyond : drop r o ≡ drop r out
-  unfolding unless laid
+  unfolding unless overlaid
   beyond = go (leb mostSheet (length out)) p q
     where
-      go : (t : Bool) → r ≡ unless 0 t (length text) → o ≡ unless out t (laid out 0 text) → drop r o ≡ drop r out
+      go : (t : Bool) → r ≡ unless 0 t (length text) → o ≡ unless out t (overlaid out 0 text) → drop r o ≡ drop r out
       go true u v = ap₂ drop u v ∙ drop-append-seam text (drop (0 + length text) out) ∙ ap (λ (k : ℕ). drop k out) (zero-add (length text) ∙ sym u)
       go false u v = ap (drop r) v
 

@@ -18,7 +18,7 @@ use Rattle.rules.proofs.Sound.{Sound, sound}
 use Rattle.rules.proofs.Band.{Widened}
 use Rattle.rules.proofs.Facts.{Orderly, Lawful, Wider}
 use Rattle.rules.proofs.Gathered.{PartKept, row-ends, phase-ends}
-use Rattle.rules.proofs.Regular.{regular-orderly, regular-lawful, regular-wider}
+use Rattle.rules.proofs.Regular.{regular-orderly, regular-lawful, regular-phase-ends, regular-wider}
 use Rattle.rules.proofs.Wider.{counted-wider, stopped-wider, part-wider, outside-finished}
 use Rattle.rules.proofs.Longer.{more-samples, same-samples, counted-longer, cycles-longer, stop-longer, part-longer, outside-longer, over}
 use Rattle.fields.specs.Values.{tolerancesIn}
@@ -29,7 +29,7 @@ use Rattle.figures.specs.Figured.{outsideTotal, figuresBy}
 use Rattle.figures.proofs.Ended.{figures-same}
 use Rattle.figures.proofs.WiderFigures.{NoEarlier, no-earlier, unstopped-same}
 use Rattle.prints.specs.Printed.{figuresTold, printed}
-use Rattle.demands.specs.Compared.{withFour, FirstThree, withTolerances, retold, samplesOf, closedOf, outsideOf, NoMoreOutside}
+use Rattle.demands.specs.Compared.{withFour, FirstThree, withTolerances, retold, momentsTold, closedTold, outsideTold, NoMoreOutside}
 use Rattle.demands.proofs.FieldFour.{told-four, tolerable-four, retold-four}
 use Rattle.demands.proofs.Lines.{belowOutside, sheet-lines}
 
@@ -63,12 +63,12 @@ module _ (b : List ℕ) (t t′ : Tolerances) (s : ℕ → Moment) (n : ℕ) (go
       (part-wider (regularLayout b) _ _ own wider s n (row-ends orderly c) d, outside-finished (regularLayout b) _ _ own wider s n orderly c d)
 
 -- n samples of s, and n′ of s′ that begin with them
-module _ (b : List ℕ) (t : Tolerances) (good : valid b ≡ true) (s s′ : ℕ → Moment) (n n′ : ℕ) (more : n ≤ n′) (same : (j : ℕ) → j < n → s′ j ≡ s j) where
+module _ (b : List ℕ) (t : Tolerances) (s s′ : ℕ → Moment) (n n′ : ℕ) (more : n ≤ n′) (same : (j : ℕ) → j < n → s′ j ≡ s j) where
   abbrev course : Course
   course = regular b t
 
   lawful : Lawful course
-  lawful = regular-lawful b (sound b good) t
+  lawful = regular-lawful b t
 
   -- "Samples added at the end move no stop given"
   pub longer-moves-no-stop : T (stopped course s n) → T (stopped course s′ n′) × (counted course s′ n′ ≡ counted course s n)
@@ -77,13 +77,14 @@ module _ (b : List ℕ) (t : Tolerances) (good : valid b ≡ true) (s s′ : ℕ
   -- "and change no phase or cycle finished."
   pub finished-phase-stays : (c k : ℕ) → T (finished (phasePart (regularLayout b) c k) (closed course s n))
       → PartKept own (phasePart (regularLayout b) c k) s s′ (closed course s n) (closed course s′ n′)
-  finished-phase-stays c k = part-longer course lawful s s′ n n′ more same (phase-ends (lawful .orderly) c k)
+  finished-phase-stays c k = part-longer course lawful s s′ n n′ more same (regular-phase-ends b c k)
 
-  pub finished-stays : (c : ℕ) → T (finished (rowPart (regularLayout b) c) (closed course s n))
+  pub finished-stays : valid b ≡ true → (c : ℕ) → T (finished (rowPart (regularLayout b) c) (closed course s n))
       → PartKept own (rowPart (regularLayout b) c) s s′ (closed course s n) (closed course s′ n′)
       × (outside course s′ c (judged course s′ n′) ≡ outside course s c (judged course s n))
-  finished-stays c d =
-      (part-longer course lawful s s′ n n′ more same (row-ends (lawful .orderly) c) d, outside-longer course lawful s s′ n n′ more same c d)
+  finished-stays good c d =
+      let orderly = regular-orderly b (sound b good) in
+      (part-longer course lawful s s′ n n′ more same (row-ends orderly c) d, outside-longer course lawful s s′ n n′ more same orderly c d)
 
 -- ---- over records: wider tolerances
 
@@ -137,7 +138,7 @@ longer-record = told-grows
 
 -- a part that the run of x finished is finished in that of x′, with the same energy and distance
 abbrev Stays : Told → Told → Part → Type 0
-Stays x x′ part = T (finished part (closedOf x)) → PartKept own part (samplesOf x) (samplesOf x′) (closedOf x) (closedOf x′)
+Stays x x′ part = T (finished part (closedTold x)) → PartKept own part (momentsTold x) (momentsTold x′) (closedTold x) (closedTold x′)
 
 -- "Samples added at the end move no stop given and change no phase or cycle finished."
 pub record Unmoved (x x′ : Told) : Type 0 where
@@ -146,7 +147,7 @@ pub record Unmoved (x x′ : Told) : Type 0 where
   pub cycles-no-less : figuresTold x .cycles ≤ figuresTold x′ .cycles
   pub phases-stay : (c k : ℕ) → Stays x x′ (phasePart (regularLayout (x .cycle)) c k)
   pub cycles-stay : (c : ℕ) → Stays x x′ (rowPart (regularLayout (x .cycle)) c)
-  pub outside-stays : (c : ℕ) → T (finished (rowPart (regularLayout (x .cycle)) c) (closedOf x)) → outsideOf x′ c ≡ outsideOf x c
+  pub outside-stays : (c : ℕ) → T (finished (rowPart (regularLayout (x .cycle)) c) (closedTold x)) → outsideTold x′ c ≡ outsideTold x c
 
 -- any two records, of which the second tells the samples of the first with others behind them: fields 6 and 7 may stand behind the added blocks
 module _ (x x′ : Told) (g : Grown x x′) where
@@ -169,7 +170,7 @@ module _ (x x′ : Told) (g : Grown x x′) where
 
   pub longer-told : (i : List ℕ) → sheetOf i ≡ told x → Unmoved x x′
   longer-told i e =
-      let good = told-valid i x e .0 in
+      let orderly = regular-orderly (x .cycle) (sound (x .cycle) (told-valid i x e .0)) in
       let xs = x .tale .run in
       let ys = g .samples .added in
       let s = momentIn xs in
@@ -177,26 +178,26 @@ module _ (x x′ : Told) (g : Grown x x′) where
       let more = more-samples xs ys in
       let same = same-samples xs ys in
       let y = courseOf (planTold x) in
-      let f = regular-lawful (x .cycle) (sound (x .cycle) good) (x .tolerances) in
+      let f = regular-lawful (x .cycle) (x .tolerances) in
       let n = length xs in
       let n′ = length (xs ++ ys) in
       subst (λ (z : Told). Unmoved x z) as-told (record {
         stop-stays = λ h. let v = over y f s s′ n n′ more same (ap isOpen h) in (v .ending-same ∙ h, v .counted-same);
         counted-no-less = counted-longer y f s s′ n n′ more same;
         cycles-no-less = cycles-longer y f s s′ n n′ more same;
-        phases-stay = λ c k. part-longer y f s s′ n n′ more same (phase-ends (f .orderly) c k);
-        cycles-stay = λ c. part-longer y f s s′ n n′ more same (row-ends (f .orderly) c);
-        outside-stays = outside-longer y f s s′ n n′ more same;
+        phases-stay = λ c k. part-longer y f s s′ n n′ more same (regular-phase-ends (x .cycle) c k);
+        cycles-stay = λ c. part-longer y f s s′ n n′ more same (row-ends orderly c);
+        outside-stays = outside-longer y f s s′ n n′ more same orderly;
       })
 
   -- "Later accepted samples raise only the number offered.": where the run of x has ended, no figure changes
   module _ (ended : isOpen (figuresTold x .end) ≡ false) (vehicle : x′ .vehicle ≡ x .vehicle) (passed : x′ .tale .passed ≡ x .tale .passed)
-      (amounts : x′ .tale .amounts ≡ x .tale .amounts) (i : List ℕ) (e : sheetOf i ≡ told x) where
+      (amounts : x′ .tale .amounts ≡ x .tale .amounts) where
     pub ended-told : figuresTold x′ ≡ figuresTold x
     ended-told =
         (λ j. figuresBy (vehicle j) (passed j) (amounts j) (plan (g .cycle j) (g .tolerances j)) (g .samples .joins j))
-        ∙ figures-same (planTold x) (sound (x .cycle) (told-valid i x e .0)) (x .tale .run) (g .samples .added) ended (x .vehicle) (x .tale .passed) (x .tale .amounts)
+        ∙ figures-same (planTold x) (x .tale .run) (g .samples .added) ended (x .vehicle) (x .tale .passed) (x .tale .amounts)
 
     -- nor a byte of what is printed
-    pub ended-prints : (i′ : List ℕ) → sheetOf i′ ≡ told x′ → printed (sheetOf i′) ≡ printed (sheetOf i)
-    ended-prints i′ e′ = ap printed e′ ∙ ap sheetText ended-told ∙ sym (ap printed e)
+    pub ended-prints : (i i′ : List ℕ) → sheetOf i ≡ told x → sheetOf i′ ≡ told x′ → printed (sheetOf i′) ≡ printed (sheetOf i)
+    ended-prints i i′ e e′ = ap printed e′ ∙ ap sheetText ended-told ∙ sym (ap printed e)

@@ -152,7 +152,7 @@ module _ {b : List ℕ} {t : Tolerances} {l₀ k₀ : List ℤ} {m₀ n₀ : Lis
   pub longer-run-moves-no-stop : r .progress .end ≡ stop → (r′ .progress .end ≡ stop) × (r′ .progress .counted ≡ r .progress .counted)
   longer-run-moves-no-stop e =
       let (stopped-too, same) =
-      demand.longer-moves-no-stop b t (good h) (momentIn xs) (momentIn (xs ++ ys)) (length xs) (length (xs ++ ys)) (more-samples xs ys) (same-samples xs ys)
+      demand.longer-moves-no-stop b t (momentIn xs) (momentIn (xs ++ ys)) (length xs) (length (xs ++ ys)) (more-samples xs ys) (same-samples xs ys)
       (true-T (stops-only-by-the-rules h e)) in
       (stops-by-the-rules h′ (T-true _ stopped-too), state-shows h′ .1 ∙ same ∙ sym (state-shows h .1))
 
@@ -160,13 +160,13 @@ module _ {b : List ℕ} {t : Tolerances} {l₀ k₀ : List ℤ} {m₀ n₀ : Lis
   pub finished-phases-stay : (c k : ℕ) → T (finished (phasePart (regularLayout b) c k) (closedBy r)) → PhaseStays b r r′ l l′ c k
   finished-phases-stay c k f =
       phase-stays h h′ c k f
-      (demand.finished-phase-stays b t (good h) (momentIn xs) (momentIn (xs ++ ys)) (length xs) (length (xs ++ ys)) (more-samples xs ys) (same-samples xs ys) c k
+      (demand.finished-phase-stays b t (momentIn xs) (momentIn (xs ++ ys)) (length xs) (length (xs ++ ys)) (more-samples xs ys) (same-samples xs ys) c k
       (by-the-rules h (phasePart (regularLayout b) c k) f))
 
   pub finished-cycles-stay : (c : ℕ) → T (finished (rowPart (regularLayout b) c) (closedBy r)) → CycleStays b r r′ l l′ c × (outsideIn l′ c ≡ outsideIn l c)
   finished-cycles-stay c f =
       let (kept, same) =
-      demand.finished-stays b t (good h) (momentIn xs) (momentIn (xs ++ ys)) (length xs) (length (xs ++ ys)) (more-samples xs ys) (same-samples xs ys) c
+      demand.finished-stays b t (momentIn xs) (momentIn (xs ++ ys)) (length xs) (length (xs ++ ys)) (more-samples xs ys) (same-samples xs ys) (good h) c
       (by-the-rules h (rowPart (regularLayout b) c) f) in
       let c<64 = cycle-small h h′ c f in (
         cycle-stays h h′ c f kept,

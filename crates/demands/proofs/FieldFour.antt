@@ -29,7 +29,7 @@ use Rattle.reading.specs.declared.Step.the-variants as step
 use Rattle.reader.specs.Answers.{endingOf}
 use Rattle.opening.specs.Opening.{Begun, Opened, OpenRead, openRefusal, openWhole, openByFront, openAt, openOnwards, openGoOn}
 use Rattle.reading.specs.Reading.{Read}
-use Rattle.records.specs.Records.{Told, Sheet, told, refused, startRefused, blank, openingIn, fieldsIn, closedBy, sheetBy, begunBy, sheetOf}
+use Rattle.records.specs.Records.{Told, Sheet, told, refused, startRefused, blank, openingIn, fieldsIn, endedBy, sheetBy, begunBy, sheetOf}
 use Rattle.records.proofs.OpenCuts.{openAll, unrolled, open-cut-whole}
 use Rattle.records.proofs.Sheets.{told-by, told-valid}
 use Rattle.demands.specs.Compared.{fieldFour, withFour, FirstThree, withTolerances, retold}
@@ -38,7 +38,7 @@ use Rattle.demands.specs.Compared.{fieldFour, withFour, FirstThree, with
 retold-by : (t : Tolerances) (s : Step) (x : Told) (n left : ℕ) → sheetBy s (withTolerances x t) n left ≡ retold t (sheetBy s x n left)
 retold-by t s x n left = go s
   where
-    ends : (e : Ending) → closedBy e (withTolerances x t) n ≡ retold t (closedBy e x n)
+    ends : (e : Ending) → endedBy e (withTolerances x t) n ≡ retold t (endedBy e x n)
     ends ending.Whole = refl
     ends (ending.Refused y) = refl
 

@@ -18,7 +18,7 @@ use Rattle.contents.specs.declared.Content.the-variants as content
 use Rattle.reading.specs.declared.Reading.{Reading}
 use Rattle.reading.specs.declared.Step.the-variants as step
 use Rattle.reading.specs.Reading.{Tale, Answered, stepOf, taleAfter, brought, fieldAt}
-use Rattle.reading.specs.Answers.{offeredOf, takeBlock, taleOf, readingOf, planOf, readGround, readOf}
+use Rattle.reading.specs.Answers.{offeredOf, takeBlock, taleOf, readingOf, readingPlan, readGround, readOf}
 use Rattle.reading.proofs.Onwards.{Ends, by-front}
 use Rattle.reader.specs.declared.ReadAnswer.{ReadAnswer}
 use Rattle.records.specs.Records.{Told, told, refused, sheetOf}
@@ -85,11 +85,11 @@ passed-read r b l m i n = go (eqb (readGround r b l m) 0)
   where
     call : Bool → Answered State
     call t =
-        cond t (fieldAt offeredOf (takeBlock (planOf r b)) (r .vehicle) (taleOf r l m) i)
+        cond t (fieldAt offeredOf (takeBlock (readingPlan r b)) (r .vehicle) (taleOf r l m) i)
         (record { step = step.Refused (readGround r b l m); tale = taleOf r l m })
 
     go : (t : Bool) → call t .step ≡ step.Passed n → call t .tale ≡ morePassed (taleOf r l m)
-    go true = passed-field offeredOf (takeBlock (planOf r b)) (r .vehicle) (taleOf r l m) i n
+    go true = passed-field offeredOf (takeBlock (readingPlan r b)) (r .vehicle) (taleOf r l m) i n
     go false = λ e. absurd (false≢true cc)
 
 -- the reading with one block more passed over

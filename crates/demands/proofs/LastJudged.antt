@@ -15,7 +15,7 @@ use Rattle.numbers.specs.Tests.{bit}
 use Rattle.rules.specs.declared.Moment.{Moment}
 use Rattle.rules.specs.declared.End.the-variants.{None as none, Stop as stop, Limit as limit}
 use Rattle.rules.specs.Bench.{mostCycles}
-use Rattle.rules.specs.Course.{Course, ends, outside, counted, stopped, judged, closed}
+use Rattle.rules.specs.Course.{Course, stopsAt, outside, counted, stopped, judged, closed}
 use Rattle.rules.specs.Regular.{cycleOf, Plan, courseOf, momentIn}
 use Rattle.rules.specs.Shown.{shownRow}
 use Rattle.rules.proofs.NineNumbers.{outside-figure}
@@ -53,7 +53,7 @@ module _ (p : Plan) (l₀ : List ℤ) (m₀ : List ℕ) {xs : List Moment} {r : 
     where
       go : (x : Bool) → stopped c s n ≡ x → counted c s n + bit x ≤ c .layout .most
       go true e = omega (arith, ltb-true (counted c s n) (min n (c .layout .most)) e)
-      go false e = omega (arith, counted-le (ends c s) (c .layout .most) n .1)
+      go false e = omega (arith, counted-le (stopsAt c s) (c .layout .most) n .1)
 
   pub last-cycle-is : lastCycle r (p .cycle) ≡ shownRow (c .layout) (judged c s n)
   last-cycle-is =

@@ -28,7 +28,7 @@ use Rattle.opening.specs.Answers.{Held, hold, cycleIn, begunOf, openGround, ope
 use Rattle.reading.specs.declared.Reading.{Reading}
 use Rattle.reading.specs.declared.Step.the-variants as step
 use Rattle.reading.specs.Reading.{Tale, Answered, Read, stepOf, brought, byFront, fieldAt, upto, fieldsOf}
-use Rattle.reading.specs.Answers.{offeredOf, takeBlock, taleOf, planOf, readGround, readOf, readAllOf}
+use Rattle.reading.specs.Answers.{offeredOf, takeBlock, taleOf, readingPlan, readGround, readOf, readAllOf}
 use Rattle.reading.proofs.Onwards.{by-step}
 use Rattle.reading.proofs.Cuts.{field-size, field-none, field-ends}
 use Rattle.reader.specs.declared.AllAnswer.{AllAnswer}
@@ -90,7 +90,7 @@ module _ (r : Reading) (b : List ℕ) (l : List ℤ) (m i : List ℕ) where
   me = r .vehicle
 
   abbrev takes : State → List ℕ → State
-  takes = takeBlock (planOf r b)
+  takes = takeBlock (readingPlan r b)
 
   abbrev at : Tale State → List ℕ → Answered State
   at = fieldAt offeredOf takes me

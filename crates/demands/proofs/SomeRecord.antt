@@ -7,7 +7,7 @@ use lib.Dec.{leb}
 use lib.ListN.{length, drop}
 use Rattle.numbers.specs.Tests.{unless}
 use Rattle.records.proofs.Calls.{Lent}
-use Rattle.sheet.specs.Laid.{laid}
+use Rattle.sheet.specs.Overlaid.{overlaid}
 use Rattle.sheet.specs.Text.{mostSheet}
 use Rattle.desk.specs.declared.Outcome.the-variants.{More}
 use Rattle.desk.specs.Feeding.{Laid, laidOf, emptyDesk, feedOf}
@@ -35,7 +35,7 @@ closeCall x left out =
       κs = ([], ([], ([], ([], tt))));
       args = (x .desk, (left, (to (x .room), (to (x .memory .ledger), (to (x .memory .map), (to out, tt))))));
       answer = unless 0 (leb mostSheet (length out)) (length text);
-      lasts = (tt, (tt, (tt, (tt, (tt, (unless out (leb mostSheet (length out)) (laid out 0 text), tt))))));
+      lasts = (tt, (tt, (tt, (tt, (tt, (unless out (leb mostSheet (length out)) (overlaid out 0 text), tt))))));
       kept = (refl, refl);
     }
 

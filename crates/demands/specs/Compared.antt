@@ -39,14 +39,14 @@ retold t (refused number field) = refused number field
 -- ---- what is printed
 
 -- the samples of what is told, how many of their shares are closed, and how many of cycle c are outside, the stopping one among them
-abbrev pub samplesOf : Told → ℕ → Moment
-samplesOf x = momentIn (x .tale .run)
+abbrev pub momentsTold : Told → ℕ → Moment
+momentsTold x = momentIn (x .tale .run)
 
-abbrev pub closedOf : Told → ℕ
-closedOf x = closedIn (planTold x) (x .tale .run)
+abbrev pub closedTold : Told → ℕ
+closedTold x = closedIn (planTold x) (x .tale .run)
 
-abbrev pub outsideOf : Told → ℕ → ℕ
-outsideOf x c = let y = courseOf (planTold x) in outside y (samplesOf x) c (judged y (samplesOf x) (length (x .tale .run)))
+abbrev pub outsideTold : Told → ℕ → ℕ
+outsideTold x c = let y = courseOf (planTold x) in outside y (momentsTold x) c (judged y (momentsTold x) (length (x .tale .run)))
 
 -- `outside` and a number
 abbrev pub outsideLine : ℕ → List ℕ

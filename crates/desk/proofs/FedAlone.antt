@@ -22,7 +22,7 @@ use Rattle.reading.specs.declared.Step.the-variants as step
 use Rattle.reading.specs.Reading.{Tale, Read, fieldsOf}
 use Rattle.opening.specs.Opening.{Begun, Opened, openAt}
 use Rattle.opening.specs.Answers.{Held, hold, cycleIn, begunOf, openGround, openOf}
-use Rattle.reading.specs.Answers.{offeredOf, takeBlock, taleOf, planOf, readGround, readAllOf}
+use Rattle.reading.specs.Answers.{offeredOf, takeBlock, taleOf, readingPlan, readGround, readAllOf}
 use Rattle.reading.proofs.Accepted.{fields-alone}
 use Rattle.records.proofs.OpenField.{Accepts, open-longer, open-alone}
 use Rattle.desk.specs.declared.Desk.{Desk}
@@ -134,7 +134,7 @@ read-alone x i = go (leb (x .desk .opening .cycle) (length (x .room))) (eqb refu
     refusal = readGround r (lentCycle x) (x .memory .ledger) (x .memory .map)
 
     taking : State → List ℕ → State
-    taking = takeBlock (planOf r (lentCycle x))
+    taking = takeBlock (readingPlan r (lentCycle x))
 
     tale : Tale State
     tale = taleOf r (x .memory .ledger) (x .memory .map)

@@ -17,7 +17,7 @@ use Rattle.reading.specs.declared.Step.{Step}
 use Rattle.reading.specs.declared.Step.the-variants as step
 use Rattle.step.specs.Step.{State}
 use Rattle.reading.specs.Reading.{Read}
-use Rattle.reading.specs.Answers.{offeredOf, takeBlock, taleOf, planOf, readGround, readAllOf}
+use Rattle.reading.specs.Answers.{offeredOf, takeBlock, taleOf, readingPlan, readGround, readAllOf}
 use Rattle.reader.specs.Answers.{endingOf}
 use Rattle.reader.specs.declared.Ending.{Ending}
 use Rattle.reader.specs.declared.Ending.the-variants as ended
@@ -57,7 +57,7 @@ unfolding readAllOf
 all-ended x i =
     let r = x .desk .reading in
     by-ground (λ (y : Read State). Ends (y .last)) (readGround r (lentCycle x) (x .memory .ledger) (x .memory .map))
-    (λ _. last-ends offeredOf (takeBlock (planOf r (lentCycle x))) (r .vehicle) (length i) (taleOf r (x .memory .ledger) (x .memory .map)) i) (λ m u. u)
+    (λ _. last-ends offeredOf (takeBlock (readingPlan r (lentCycle x))) (r .vehicle) (length i) (taleOf r (x .memory .ledger) (x .memory .map)) i) (λ m u. u)
 
 module _ (lent : Lent) where
   read-became : (p i room : List ℕ) (d : Desk) (l : List ℤ) (m : List ℕ) → d .started ≡ true → d .opening .cycle ≤ length room

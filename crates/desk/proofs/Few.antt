@@ -23,7 +23,7 @@ use Rattle.contents.specs.declared.Content.the-variants.{Own, Foreign, Before, 
 use Rattle.reading.specs.declared.Reading.{Reading}
 use Rattle.contents.specs.Content.{energyMayStand, mayStand, blockContent, energyContent, rechargeContent, contentOf}
 use Rattle.reading.specs.Reading.{Tale, Answered, Read, stepOf, taleAfter, brought, fieldAt, upto}
-use Rattle.reading.specs.Answers.{offeredOf, takeBlock, taleOf, planOf, readGround, readOf, readAllOf}
+use Rattle.reading.specs.Answers.{offeredOf, takeBlock, taleOf, readingPlan, readGround, readOf, readAllOf}
 use Rattle.contents.proofs.Brought.{own-block, block-bytes}
 use Rattle.reading.proofs.Onwards.{Uses, by-front, by-step}
 use Rattle.reading.proofs.Cuts.{field-ends}
@@ -139,13 +139,13 @@ module _ (r : Reading) (b : List ℕ) (l : List ℤ) (m i : List ℕ) where
   unfolding readOf
   call-weighs c =
       by-ground (λ (x : Answered State). Uses (x .step) c → 1 + weight (taleOf r l m) ≤ weight (x .tale)) (readGround r b l m)
-      (λ _. field-weighs (r .vehicle) (planOf r b) (taleOf r l m) i c) (λ u. absurd u)
+      (λ _. field-weighs (r .vehicle) (readingPlan r b) (taleOf r l m) i c) (λ u. absurd u)
 
   call-weighs-all : readAllOf r b l m i .fields + weight (taleOf r l m) ≤ weight (readAllOf r b l m i .tale)
   unfolding readAllOf
   call-weighs-all =
       by-ground (λ (x : Read State). x .fields + weight (taleOf r l m) ≤ weight (x .tale)) (readGround r b l m)
-      (λ _. fields-weigh (r .vehicle) (planOf r b) (length i) (taleOf r l m) i) (omega arith)
+      (λ _. fields-weigh (r .vehicle) (readingPlan r b) (length i) (taleOf r l m) i) (omega arith)
 
 -- ---- a record
 module _ (lent : Lent) where

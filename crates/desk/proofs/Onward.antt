@@ -14,7 +14,7 @@ use Rattle.rules.specs.Regular.{Plan}
 use Rattle.state.specs.State.{Left}
 use Rattle.step.specs.Step.{State}
 use Rattle.reading.specs.Reading.{Tale, Read, fieldAt, upto}
-use Rattle.reading.specs.Answers.{offeredOf, takeBlock, taleOf, planOf, readGround, readAllOf}
+use Rattle.reading.specs.Answers.{offeredOf, takeBlock, taleOf, readingPlan, readGround, readAllOf}
 use Rattle.reading.proofs.Onwards.{by-step}
 use Rattle.reading.proofs.Cuts.{field-size, used-most}
 use Rattle.reader.specs.declared.AllAnswer.{AllAnswer}
@@ -41,7 +41,7 @@ pub all-size : (x : Laid) (i : List ℕ) → (let y = readsBy x i in (3 * y .fie
 unfolding readAllOf
 all-size x i =
     let r = x .desk .reading in
-    let p = planOf r (lentCycle x) in
+    let p = readingPlan r (lentCycle x) in
     let k = taleOf r (x .memory .ledger) (x .memory .map) in
     by-ground (λ (y : Read State). (3 * y .fields ≤ y .used) × (y .used ≤ length i)) (readGround r (lentCycle x) (x .memory .ledger) (x .memory .map))
     (λ _. (few-fields p (r .vehicle) (length i) k i, used-most offeredOf (takeBlock p) (r .vehicle) k i)) (zero-le, zero-le)

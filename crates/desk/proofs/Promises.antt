@@ -10,7 +10,7 @@ use lib.ListN.{length, drop}
 use Rattle.rules.specs.Regular.{Plan}
 use Rattle.step.specs.Step.{State}
 use Rattle.reading.specs.Reading.{Tale, Read, fieldAt, upto}
-use Rattle.reading.specs.Answers.{offeredOf, takeBlock, taleOf, readingOf, planOf, readGround, readAllOf}
+use Rattle.reading.specs.Answers.{offeredOf, takeBlock, taleOf, readingOf, readingPlan, readGround, readAllOf}
 use Rattle.reading.proofs.Onwards.{by-step}
 use Rattle.reading.proofs.Cuts.{field-size, field-ends}
 use Rattle.desk.specs.Feeding.{Laid, Consumed, openOne, openUpto, lentCycle, readOn, mostFields, feedOf}
@@ -52,7 +52,7 @@ none-read-all x i =
     let r = x .desk .reading in
     let k = taleOf r (x .memory .ledger) (x .memory .map) in
     by-ground (λ (y : Read State). y .used ≡ 0 → y .tale ≡ k) (readGround r (lentCycle x) (x .memory .ledger) (x .memory .map))
-    (λ _. none-read (planOf r (lentCycle x)) (r .vehicle) (length i) k i) (λ _. refl)
+    (λ _. none-read (readingPlan r (lentCycle x)) (r .vehicle) (length i) k i) (λ _. refl)
 
 none-read-on : (x : Laid) (i : List ℕ) → Unchanged x (readOn x i)
 unfolding readOn

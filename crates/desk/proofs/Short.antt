@@ -29,7 +29,7 @@ use Rattle.reading.specs.declared.Step.the-variants as step
 use Rattle.reading.specs.Reading.{Tale, Read, stepOf, brought, byFront, fieldAt, upto}
 use Rattle.opening.specs.Opening.{Begun, Opened, openRefusal, openByFront, openAt}
 use Rattle.opening.specs.Answers.{Held, hold, cycleIn, begunOf, openGround, openOf}
-use Rattle.reading.specs.Answers.{offeredOf, takeBlock, taleOf, planOf, readGround, readAllOf}
+use Rattle.reading.specs.Answers.{offeredOf, takeBlock, taleOf, readingPlan, readGround, readAllOf}
 use Rattle.opening.proofs.Starting.{ground-ready}
 use Rattle.records.proofs.OpenField.{by-open, allowed}
 use Rattle.reading.proofs.Onwards.{by-step}
@@ -143,4 +143,4 @@ unfolding readAllOf
 all-short x i =
     let r = x .desk .reading in
     by-ground (λ (y : Read State). y .last ≡ step.Incomplete → length i < y .used + longest) (readGround r (lentCycle x) (x .memory .ledger) (x .memory .map))
-    (λ _. fields-short (planOf r (lentCycle x)) (r .vehicle) (length i) (taleOf r (x .memory .ledger) (x .memory .map)) i (le-refl (length i))) (λ z. absurd (false≢true cc))
+    (λ _. fields-short (readingPlan r (lentCycle x)) (r .vehicle) (length i) (taleOf r (x .memory .ledger) (x .memory .map)) i (le-refl (length i))) (λ z. absurd (false≢true cc))

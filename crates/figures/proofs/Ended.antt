@@ -16,7 +16,6 @@ use Rattle.rules.specs.Regular.{Plan, courseOf, momentIn}
 use Rattle.rules.proofs.Facts.{Lawful}
 use Rattle.rules.proofs.Longer.{more-samples, same-samples, Over, over, energy-over, distance-over, whole-over, outside-over}
 use Rattle.rules.proofs.Regular.{regular-lawful}
-use Rattle.rules.proofs.Sound.{Sound}
 use Rattle.judge.proofs.Runs.{Reached}
 use Rattle.consumption.specs.Figures.{weightedBy, rangeBy, rechargeBy}
 use Rattle.reading.specs.declared.Reading.{Reading}
@@ -26,7 +25,7 @@ use Rattle.figures.specs.Figured.{foundOf, closedIn, energies, distances
 use Rattle.figures.proofs.OfRun.{figures-of-run}
 
 -- the samples xs, after which the run has ended, and more behind them
-module _ (p : Plan) (good : Sound (p .cycle)) (xs ys : List Moment) where
+module _ (p : Plan) (xs ys : List Moment) where
   abbrev s : ℕ → Moment
   s = momentIn xs
 
@@ -37,7 +36,7 @@ module _ (p : Plan) (good : Sound (p .cycle)) (xs ys : List Moment) where
   c = courseOf p
 
   lawful : Lawful c
-  lawful = regular-lawful (p .cycle) good (p .tolerances)
+  lawful = regular-lawful (p .cycle) (p .tolerances)
 
   module _ (ended : isOpen (ending c s (length xs)) ≡ false) where
     abbrev stays : Over c lawful s s′ (length xs) (length (xs ++ ys)) (more-samples xs ys) (same-samples xs ys)

@@ -14,7 +14,7 @@ use lib.IntN.{ℤ}
 use lib.ListN.{length, take, drop, length-append, length-drop}
 use lib.Seq.{paste, take-add, take-paste, length-take-le, drop-at}
 use Rattle.numbers.specs.Tests.{unless}
-use Rattle.sheet.specs.Laid.{laid}
+use Rattle.sheet.specs.Overlaid.{overlaid}
 use Rattle.sheet.specs.Text.{mostSheet}
 use Rattle.edges.specs.declared.Got.{Got}
 use Rattle.edges.specs.declared.Got.the-variants as got
@@ -31,7 +31,7 @@ use Rattle.intake.specs.declared.Turn.{Turn}
 use Rattle.intake.specs.declared.Turned.{Turned}
 use Rattle.intake.proofs.Turned.{the-type as turned}
 use Rattle.intake.specs.declared.Turned.the-variants.{On, Ended, Failed, Refused}
-use Rattle.intake.specs.Turns.{turnedBy, heldBy, bufferBy, isOn, isFailed, Goes, Came, none, part, outcomeBy, placeOf, placeAfter, stoppedAt, placeBy, onwards, Stood, textOf, textBy, intakeOf, linesOf, Recorded, Unread}
+use Rattle.intake.specs.Turns.{turnedBy, heldBy, bufferBy, isOn, isFailed, Goes, Came, none, part, outcomeBy, roundOf, roundAfter, stoppedAt, roundBy, onwards, Stood, textOf, textBy, intakeOf, linesOf, Recorded, Unread}
 use Rattle.desk.proofs.Onward.{feed-used}
 use Rattle.desk.proofs.LeftOver.{feed-short}
 
@@ -64,7 +64,7 @@ within-more m n got.Again h w = tt
 within-more m n got.Failed h w = tt
 
 -- a reading that gave no bytes stops the turn
-pub stops : (g : Got) → OneOf (1 ∷ 2 ∷ 3 ∷ []) (tagOf got-type g) → (x : Laid) (held left : ℕ) (b : List ℕ) → stoppedAt g x held left b ≡ placeBy g x held left b
+pub stops : (g : Got) → OneOf (1 ∷ 2 ∷ 3 ∷ []) (tagOf got-type g) → (x : Laid) (held left : ℕ) (b : List ℕ) → stoppedAt g x held left b ≡ roundBy g x held left b
 stops (got.Bytes k) h x held left b = absurd (⊎-elim (λ e. omega arith) (⊎-elim (λ e. omega arith) (λ e. omega arith)) h)
 stops got.End h x held left b = refl
 stops got.Again h x held left b = refl
@@ -72,7 +72,7 @@ stops got.Failed h x held left b = refl
 
 -- what is held after a turn is shorter than the longest field, and a turn that goes on leaves fewer bytes to read
 pub goes-by : (g : Got) (x : Laid) (held left : ℕ) (b : List ℕ) → held < longest → held ≤ length b → Within (length b - held) g → Within left g
-    → Goes left (placeBy g x held left b .turn)
+    → Goes left (roundBy g x held left b .turn)
 goes-by (got.Bytes n) x held left b short h space rest =
     let i = take (held + n) b in
     record {
@@ -89,7 +89,7 @@ goes-by got.Failed x held left b short h space rest = record { held = short; fal
 
 -- before the first turn nothing came
 pub nothing-yet : (most : ℕ) (desk : Desk) (b room : List ℕ) (l : List ℤ) (m : List ℕ) → desk ≡ emptyDesk
-    → Stood (laidOf emptyDesk room l m) most (placeOf (onwards desk 0 most) b room l m)
+    → Stood (laidOf emptyDesk room l m) most (roundOf (onwards desk 0 most) b room l m)
 nothing-yet most desk b room l m e = record {
   bytes = [];
   rest = [];
@@ -106,16 +106,16 @@ is-on (Refused k) e = absurd (false≢true e)
 
 -- where another turn follows, it begins where the one before stood
 pub on-again : (x₀ : Laid) (most : ℕ) (t : Turn) (b room : List ℕ) (l : List ℤ) (m : List ℕ) → isOn (t .turned) ≡ true
-    → Stood x₀ most (placeOf t b room l m) → Stood x₀ most (placeOf (onwards (t .desk) (t .held) (t .left)) b room l m)
-on-again x₀ most t b room l m e s = subst (λ (z : Turned). Stood x₀ most (placeOf (record { turned = z; desk = t .desk; held = t .held; left = t .left }) b room l m)) (is-on (t .turned) e) s
+    → Stood x₀ most (roundOf t b room l m) → Stood x₀ most (roundOf (onwards (t .desk) (t .held) (t .left)) b room l m)
+on-again x₀ most t b room l m e s = subst (λ (z : Turned). Stood x₀ most (roundOf (record { turned = z; desk = t .desk; held = t .held; left = t .left }) b room l m)) (is-on (t .turned) e) s
 
-module _ (x₀ : Laid) (most : ℕ) (desk : Desk) (held left : ℕ) (b₀ room : List ℕ) (l : List ℤ) (m : List ℕ) (s : Stood x₀ most (placeOf (onwards desk held left) b₀ room l m))
+module _ (x₀ : Laid) (most : ℕ) (desk : Desk) (held left : ℕ) (b₀ room : List ℕ) (l : List ℤ) (m : List ℕ) (s : Stood x₀ most (roundOf (onwards desk held left) b₀ room l m))
     (b : List ℕ) (same : take held b ≡ take held b₀) where
   rest-is : s .rest ≡ take held b
   rest-is = s .held refl .0 ∙ sym same
 
   -- nothing came
-  pub nothing-came : (t : Turned) → outcomeBy t ≡ More → Stood x₀ most (placeOf (record { turned = t; desk = desk; held = held; left = left }) b room l m)
+  pub nothing-came : (t : Turned) → outcomeBy t ≡ More → Stood x₀ most (roundOf (record { turned = t; desk = desk; held = held; left = left }) b room l m)
   nothing-came t e = record {
     bytes = s .bytes;
     rest = s .rest;
@@ -148,7 +148,7 @@ module _ (x₀ : Laid) (most : ℕ) (desk : Desk) (held left : ℕ) (b₀ room :
     front-held More u h e = (to-the-front u (held + n) b h fits, omega (arith, length-drop u (take (held + n) b), length-take-le (held + n) b fits))
     front-held (refused k) u h e = absurd (false≢true cc)
 
-    digested : Stood x₀ most (placeAfter fed (held + n) (left - n) b)
+    digested : Stood x₀ most (roundAfter fed (held + n) (left - n) b)
     digested = record {
       bytes = s .bytes ++ came-new;
       rest = drop (fed .used) (take (held + n) b);
@@ -159,7 +159,7 @@ module _ (x₀ : Laid) (most : ℕ) (desk : Desk) (held left : ℕ) (b₀ room :
     }
 
   -- so whatever a reading gave, the record stands where it leads
-  pub stood-by : (g : Got) → held ≤ length b → Within (length b - held) g → Within left g → Stood x₀ most (placeBy g (laidOf desk room l m) held left b)
+  pub stood-by : (g : Got) → held ≤ length b → Within (length b - held) g → Within left g → Stood x₀ most (roundBy g (laidOf desk room l m) held left b)
   stood-by (got.Bytes n) h space rest = digested n (omega (arith, space)) (rest .1)
   stood-by got.End h space rest = nothing-came Ended refl
   stood-by got.Again h space rest = nothing-came Failed refl
@@ -167,13 +167,13 @@ module _ (x₀ : Laid) (most : ℕ) (desk : Desk) (held left : ℕ) (b₀ room :
 
 -- no more is to be read of the record
 pub all-came : (x₀ : Laid) (most : ℕ) (desk : Desk) (held left : ℕ) (b room : List ℕ) (l : List ℤ) (m : List ℕ) → left ≡ 0
-    → Stood x₀ most (placeOf (onwards desk held left) b room l m) → Stood x₀ most (placeOf (record { turned = Ended; desk = desk; held = held; left = 0 }) b room l m)
+    → Stood x₀ most (roundOf (onwards desk held left) b room l m) → Stood x₀ most (roundOf (record { turned = Ended; desk = desk; held = held; left = 0 }) b room l m)
 all-came x₀ most desk held left b room l m e s =
-    subst (λ (n : ℕ). Stood x₀ most (placeOf (record { turned = Ended; desk = desk; held = held; left = n }) b room l m)) e
+    subst (λ (n : ℕ). Stood x₀ most (roundOf (record { turned = Ended; desk = desk; held = held; left = n }) b room l m)) e
     (nothing-came x₀ most desk held left b room l m s b refl Ended refl)
 
 -- ---- a whole record
-module _ (x₀ : Laid) (most : ℕ) (out : List ℕ) (t : Turn) (b room : List ℕ) (l : List ℤ) (m : List ℕ) (s : Stood x₀ most (placeOf t b room l m)) where
+module _ (x₀ : Laid) (most : ℕ) (out : List ℕ) (t : Turn) (b room : List ℕ) (l : List ℤ) (m : List ℕ) (s : Stood x₀ most (roundOf t b room l m)) where
   abbrev x : Laid
   x = laidOf (t .desk) room l m
 
@@ -197,7 +197,7 @@ module _ (x₀ : Laid) (most : ℕ) (out : List ℕ) (t : Turn) (b room : List �
         came = s .came;
         all = s .all;
         printed = ap (λ (text : List ℕ). cond (isFailed (t .turned)) 0 (unless 0 (leb mostSheet (length out)) (length text))) same;
-        lines = q ∙ ap (λ (text : List ℕ). cond (isFailed (t .turned)) out (unless out (leb mostSheet (length out)) (laid out 0 text))) same;
+        lines = q ∙ ap (λ (text : List ℕ). cond (isFailed (t .turned)) out (unless out (leb mostSheet (length out)) (overlaid out 0 text))) same;
       })
 
 -- what is answered of a turn, where reading failed and where it did not
@@ -205,7 +205,7 @@ pub not-printed : (t : Turn) (x : Laid) (out : List ℕ) → isFailed (t .turned
     → (_≡_ {A = Intake} (record { printed = 0; left = t .left; failed = true }) (intakeOf t x out)) × (out ≡ linesOf t x out)
 not-printed t x out e = (
   (λ i. record { printed = cond (sym e i) 0 (unless 0 (leb mostSheet (length out)) (length (textBy t x))); left = t .left; failed = sym e i }),
-  (λ i. cond (sym e i) out (unless out (leb mostSheet (length out)) (laid out 0 (textBy t x)))),
+  (λ i. cond (sym e i) out (unless out (leb mostSheet (length out)) (overlaid out 0 (textBy t x)))),
 )
 
 pub printed-of : (t : Turn) (x : Laid) (out : List ℕ) → isFailed (t .turned) ≡ false → {n : ℕ} {after : List ℕ} → Prints (textBy t x) out n after
@@ -213,7 +213,7 @@ pub printed-of : (t : Turn) (x : Laid) (out : List ℕ) → isFailed (t .turned)
 printed-of t x out e p = (
   (λ i. record { printed = p .0 i; left = t .left; failed = false })
       ∙ (λ i. record { printed = cond (sym e i) 0 (unless 0 (leb mostSheet (length out)) (length (textBy t x))); left = t .left; failed = sym e i }),
-  p .1 ∙ (λ i. cond (sym e i) out (unless out (leb mostSheet (length out)) (laid out 0 (textBy t x)))),
+  p .1 ∙ (λ i. cond (sym e i) out (unless out (leb mostSheet (length out)) (overlaid out 0 (textBy t x)))),
 )
 
 -- no field was refused

@@ -10,7 +10,7 @@ use lib.ListN.{length, take, drop}
 use Rattle.numbers.specs.Tests.{unless}
 use Rattle.records.specs.Records.{refused, sheetOf}
 use Rattle.records.proofs.Calls.{Lent}
-use Rattle.sheet.specs.Laid.{laid}
+use Rattle.sheet.specs.Overlaid.{overlaid}
 use Rattle.sheet.specs.Text.{mostSheet}
 use Rattle.desk.specs.declared.Outcome.{Outcome}
 use Rattle.desk.specs.declared.Outcome.the-variants.{More, Refused}
@@ -46,7 +46,7 @@ module _ (lent : Lent) where
       let text = textOf (c .outcome) (laidOf (c .desk) room l m) (length (c .rest)) in
       text-is text out
       (c .printed ∙ ap (λ (t : Bool). cond t 0 (unless 0 (leb mostSheet (length out)) (length text))) e)
-      (c .lines ∙ ap (λ (t : Bool). cond t out (unless out (leb mostSheet (length out)) (laid out 0 text))) e) h
+      (c .lines ∙ ap (λ (t : Bool). cond t out (unless out (leb mostSheet (length out)) (overlaid out 0 text))) e) h
       ∙ came-prints (c .came)
 
   -- and where the buffer is too short for a field, a refusal before all else

@@ -19,7 +19,7 @@ use Rattle.desk.specs.Feeding.{Laid, laidOf, emptyDesk, Steady}
 use Rattle.desk.proofs.Grounds.{ground-steady}
 use Rattle.desk.proofs.Starts.{Waits, waits-steady, feed-waits}
 use Rattle.desk.proofs.Arriving.{Arrived, arrived-none, arrived-more, stands-ground}
-use Rattle.intake.specs.Turns.{Came, none, part, placeOf, onwards, Stood}
+use Rattle.intake.specs.Turns.{Came, none, part, roundOf, onwards, Stood}
 
 -- on a room, a ledger and a map that are long enough, the bytes that came are a record's
 module _ (lent : Lent) where
@@ -52,5 +52,5 @@ came-steady room l m {x = x} c = go (leb mostBytes (length room)) refl (leb ledg
 
 -- so every turn begins with a desk that needs none
 pub stood-steady : (room₀ : List ℕ) (l₀ : List ℤ) (m₀ : List ℕ) (most : ℕ) (desk : Desk) (held left : ℕ) (b room : List ℕ) (l : List ℤ) (m : List ℕ)
-    → Stood (laidOf emptyDesk room₀ l₀ m₀) most (placeOf (onwards desk held left) b room l m) → Steady (laidOf desk room l m)
+    → Stood (laidOf emptyDesk room₀ l₀ m₀) most (roundOf (onwards desk held left) b room l m) → Steady (laidOf desk room l m)
 stood-steady room₀ l₀ m₀ most desk held left b room l m s = came-steady room₀ l₀ m₀ (s .came)

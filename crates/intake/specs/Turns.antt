@@ -11,7 +11,7 @@ use lib.ListN.{length, take, drop}
 use lib.Seq.{paste}
 use Rattle.numbers.specs.Tests.{unless}
 use Rattle.state.specs.State.{Memory, lent}
-use Rattle.sheet.specs.Laid.{laid}
+use Rattle.sheet.specs.Overlaid.{overlaid}
 use Rattle.sheet.specs.Text.{mostSheet}
 use Rattle.prints.specs.Printed.{refuseText, closeText}
 use Rattle.edges.specs.declared.Got.{Got}
@@ -68,17 +68,17 @@ outcomeBy Failed = More
 outcomeBy (Refused k) = outcome.Refused k
 
 -- a turn with its buffer and memory
-pub record Place : Type 0 where
+pub record Round : Type 0 where
   pub turn : Turn
   pub buffer : List ℕ
   pub room : List ℕ
   pub memory : Memory
 
-abbrev pub placeOf : Turn → List ℕ → List ℕ → List ℤ → List ℕ → Place
-placeOf t buffer room l m = record { turn = t; buffer = buffer; room = room; memory = lent l m }
+abbrev pub roundOf : Turn → List ℕ → List ℕ → List ℤ → List ℕ → Round
+roundOf t buffer room l m = record { turn = t; buffer = buffer; room = room; memory = lent l m }
 
 -- the desk there, on its memory
-abbrev pub laidAt : Place → Laid
+abbrev pub laidAt : Round → Laid
 laidAt p = record { desk = p .turn .desk; room = p .room; memory = p .memory }
 
 -- a turn in which the desk took what y says of the first upto bytes of the buffer: what became of it, how many bytes are held, and the buffer: what the
@@ -95,8 +95,8 @@ abbrev pub bufferBy : Outcome → ℕ → ℕ → List ℕ → List ℕ
 bufferBy More used upto buffer = paste buffer 0 (drop used buffer) (upto - used)
 bufferBy (outcome.Refused k) used upto buffer = buffer
 
-abbrev pub placeAfter : Consumed → ℕ → ℕ → List ℕ → Place
-placeAfter y upto left buffer = record {
+abbrev pub roundAfter : Consumed → ℕ → ℕ → List ℕ → Round
+roundAfter y upto left buffer = record {
   turn = record { turned = turnedBy (y .outcome); desk = y .laid .desk; held = heldBy (y .outcome) (y .used) upto; left = left };
   buffer = bufferBy (y .outcome) (y .used) upto buffer;
   room = y .laid .room;
@@ -104,27 +104,27 @@ placeAfter y upto left buffer = record {
 }
 
 -- a turn in which the desk x is fed those bytes
-abbrev pub placeFed : Laid → ℕ → ℕ → List ℕ → Place
-placeFed x upto left buffer = placeAfter (feedOf x (take upto buffer)) upto left buffer
+abbrev pub roundFed : Laid → ℕ → ℕ → List ℕ → Round
+roundFed x upto left buffer = roundAfter (feedOf x (take upto buffer)) upto left buffer
 
 -- nothing came
-abbrev pub stoppedAt : Got → Laid → ℕ → ℕ → List ℕ → Place
+abbrev pub stoppedAt : Got → Laid → ℕ → ℕ → List ℕ → Round
 stoppedAt g x held left buffer =
     record { turn = record { turned = stoppedBy g; desk = x .desk; held = held; left = left }; buffer = buffer; room = x .room; memory = x .memory }
 
 -- what a reading makes of a turn, with so many bytes held and left: the bytes that came go to the desk with those held; without bytes the turn stops
-abbrev pub placeBy : Got → Laid → ℕ → ℕ → List ℕ → Place
-placeBy (got.Bytes n) x held left buffer = placeFed x (held + n) (left - n) buffer
-placeBy got.End x held left buffer = stoppedAt got.End x held left buffer
-placeBy got.Again x held left buffer = stoppedAt got.Again x held left buffer
-placeBy got.Failed x held left buffer = stoppedAt got.Failed x held left buffer
+abbrev pub roundBy : Got → Laid → ℕ → ℕ → List ℕ → Round
+roundBy (got.Bytes n) x held left buffer = roundFed x (held + n) (left - n) buffer
+roundBy got.End x held left buffer = stoppedAt got.End x held left buffer
+roundBy got.Again x held left buffer = stoppedAt got.Again x held left buffer
+roundBy got.Failed x held left buffer = stoppedAt got.Failed x held left buffer
 
 -- before a turn
 abbrev pub onwards : Desk → ℕ → ℕ → Turn
 onwards desk held left = record { turned = On; desk = desk; held = held; left = left }
 
 -- so a record of at most so many bytes stands there: the rest of the bytes that came is held at the front of the buffer
-pub record Stood (x₀ : Laid) (most : ℕ) (p : Place) : Type 0 where
+pub record Stood (x₀ : Laid) (most : ℕ) (p : Round) : Type 0 where
   pub bytes : List ℕ
   pub rest : List ℕ
   pub came : Came x₀ bytes (laidAt p) rest (outcomeBy (p .turn .turned))
@@ -132,7 +132,7 @@ pub record Stood (x₀ : Laid) (most : ℕ) (p : Place) : Type 0 where
   pub all : length bytes + p .turn .left ≡ most
 
 -- a turn leads from place to place: whatever record stood here stands there
-abbrev pub Leads : Place → Place → Type 0
+abbrev pub Leads : Round → Round → Type 0
 Leads p q = (x₀ : Laid) (most : ℕ) → Stood x₀ most p → Stood x₀ most q
 
 -- ---- a whole record
@@ -154,7 +154,7 @@ intakeOf t x out = record {
 }
 
 abbrev pub linesOf : Turn → Laid → List ℕ → List ℕ
-linesOf t x out = cond (isFailed (t .turned)) out (unless out (leb mostSheet (length out)) (laid out 0 (textBy t x)))
+linesOf t x out = cond (isFailed (t .turned)) out (unless out (leb mostSheet (length out)) (overlaid out 0 (textBy t x)))
 
 -- a record of at most so many bytes was read and printed to the lines out. Which bytes came, and in which parts, is the file's; all else follows from them
 pub record Recorded (x₀ : Laid) (most : ℕ) (out : List ℕ) (r : Intake) (room : List ℕ) (ledger : List ℤ) (map after : List ℕ) : Type 0 where
@@ -166,7 +166,7 @@ pub record Recorded (x₀ : Laid) (most : ℕ) (out : List ℕ) (r : Intake) (ro
   pub all : length bytes + r .left ≡ most
   -- where reading failed, nothing is printed
   pub printed : r .printed ≡ cond (r .failed) 0 (unless 0 (leb mostSheet (length out)) (length (textOf outcome (laidOf desk room ledger map) (length rest))))
-  pub lines : after ≡ cond (r .failed) out (unless out (leb mostSheet (length out)) (laid out 0 (textOf outcome (laidOf desk room ledger map) (length rest))))
+  pub lines : after ≡ cond (r .failed) out (unless out (leb mostSheet (length out)) (overlaid out 0 (textOf outcome (laidOf desk room ledger map) (length rest))))
 
 -- nothing was read, since the buffer is too short for a field: memory stays, and the lines say `refused 1 field 1`
 pub record Unread (x₀ : Laid) (most : ℕ) (out : List ℕ) (r : Intake) (room : List ℕ) (ledger : List ℤ) (map after : List ℕ) : Type 0 where
@@ -174,4 +174,4 @@ pub record Unread (x₀ : Laid) (most : ℕ) (out : List ℕ) (r : Intake) (room
   pub left : r .left ≡ most
   pub failed : r .failed ≡ false
   pub printed : r .printed ≡ unless 0 (leb mostSheet (length out)) (length (refuseText x₀ 1))
-  pub lines : after ≡ unless out (leb mostSheet (length out)) (laid out 0 (refuseText x₀ 1))
+  pub lines : after ≡ unless out (leb mostSheet (length out)) (overlaid out 0 (refuseText x₀ 1))

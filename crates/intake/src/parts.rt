@@ -13,7 +13,7 @@ ghost use lib.ListN.{length, drop};
 ghost use lib.Seq.{paste};
 ghost use Rattle.desk.specs.Feeding.{laidOf, emptyDesk, longest, Steady};
 ghost use Rattle.edges.specs.Answers.{Within};
-ghost use Rattle.intake.specs.Turns.{isOn, isFailed, stoppedBy, placeOf, placeFed, placeBy, Goes, onwards, Stood, Leads};
+ghost use Rattle.intake.specs.Turns.{isOn, isFailed, stoppedBy, roundOf, roundFed, roundBy, Goes, onwards, Stood, Leads};
 
 // The smaller of the two.
 pub fn at_most(space: usize, left: u64) -> usize
@@ -52,8 +52,8 @@ fn digest(
 ) -> Turn
     requires { ⌜ (upto ≤ length (now buffer)) × Steady (laidOf desk (now room) (now ledger) (now map)) ⌝ }
     ensures { λ r. ⌜
-        placeOf r (now (buffer .exit)) (now (room .exit)) (now (ledger .exit)) (now (map .exit))
-        ≡ placeFed (laidOf desk (now (room .entry)) (now (ledger .entry)) (now (map .entry))) upto left (now (buffer .entry))
+        roundOf r (now (buffer .exit)) (now (room .exit)) (now (ledger .exit)) (now (map .exit))
+        ≡ roundFed (laidOf desk (now (room .entry)) (now (ledger .entry)) (now (map .entry))) upto left (now (buffer .entry))
         ⌝ }
 {
     let x = feed_on(desk, &buffer[..upto], &mut *room, &mut *ledger, &mut *map);
@@ -103,8 +103,8 @@ fn turn_by(
         (held ≤ length (now buffer)) × Within (length (now buffer) - held) got × Within left got × Steady (laidOf desk (now room) (now ledger) (now map))
         ⌝ }
     ensures { λ r. ⌜
-        placeOf r (now (buffer .exit)) (now (room .exit)) (now (ledger .exit)) (now (map .exit))
-        ≡ placeBy got (laidOf desk (now (room .entry)) (now (ledger .entry)) (now (map .entry))) held left (now (buffer .entry))
+        roundOf r (now (buffer .exit)) (now (room .exit)) (now (ledger .exit)) (now (map .exit))
+        ≡ roundBy got (laidOf desk (now (room .entry)) (now (ledger .entry)) (now (map .entry))) held left (now (buffer .entry))
         ⌝ }
 {
     let Got::Bytes(n) = got else {
@@ -139,8 +139,8 @@ fn read_once(
     requires { ⌜ (held < longest) × (longest ≤ length (now buffer)) × (1 ≤ left) × Steady (laidOf desk (now room) (now ledger) (now map)) ⌝ }
     ensures { λ r. ⌜ Goes left r ⌝ }
     ensures { λ r. ⌜
-        Leads (placeOf (onwards desk held left) (now (buffer .entry)) (now (room .entry)) (now (ledger .entry)) (now (map .entry)))
-        (placeOf r (now (buffer .exit)) (now (room .exit)) (now (ledger .exit)) (now (map .exit)))
+        Leads (roundOf (onwards desk held left) (now (buffer .entry)) (now (room .entry)) (now (ledger .entry)) (now (map .entry)))
+        (roundOf r (now (buffer .exit)) (now (room .exit)) (now (ledger .exit)) (now (map .exit)))
         ⌝ }
 {
     let space = buffer.len() - held;
@@ -193,7 +193,7 @@ pub fn read_through(
     requires { ⌜ longest ≤ length (now buffer) ⌝ }
     ensures { λ r. ⌜
         Stood (laidOf emptyDesk (now (room .entry)) (now (ledger .entry)) (now (map .entry))) most
-        (placeOf r (now (buffer .exit)) (now (room .exit)) (now (ledger .exit)) (now (map .exit)))
+        (roundOf r (now (buffer .exit)) (now (room .exit)) (now (ledger .exit)) (now (map .exit)))
         ⌝ }
 {
     let mut desk = empty();

@@ -12,7 +12,7 @@ use borrow.Author.Tests.{ltb-true, ltb-false, lt-ltb, le-leb, eq-eqb}
 use Rattle.rules.specs.declared.End.the-variants.{None as none, Stop as stop, Limit as limit}
 use Rattle.rules.specs.Cycle.{phases, phaseEnd}
 use Rattle.rules.specs.declared.Moment.{Moment}
-use Rattle.rules.specs.Course.{Course, ends, counted, stopped, closed, ending}
+use Rattle.rules.specs.Course.{Course, stopsAt, counted, stopped, closed, ending}
 use Rattle.rules.specs.Tally.{room}
 use Rattle.rules.proofs.Next.{closed-own}
 use Rattle.rules.proofs.Tally.{counted-le}
@@ -38,12 +38,12 @@ progress-is c s own n = go (stopped c s n) (ltb (closed c s n) most) refl refl
     go false true e f =
         let h = ltb-false m (room most n) e in
         let g = ltb-true (closed c s n) most f in
-        let all = counted-le (ends c s) most n in
+        let all = counted-le (stopsAt c s) most n in
         simp (eq-eqb m n (omega (arith, closed-own c s own n)), lt-ltb m most (omega (arith, closed-own c s own n)))
     go false false e f =
         let h = ltb-false m (room most n) e in
         let g = ltb-false (closed c s n) most f in
-        let all = counted-le (ends c s) most n in
+        let all = counted-le (stopsAt c s) most n in
         simp (eq-eqb m most (omega (arith, closed-own c s own n)), le-leb most n (omega (arith, closed-own c s own n)))
 
 -- the ends of a cycle's phases

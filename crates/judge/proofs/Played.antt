@@ -17,13 +17,13 @@ use Rattle.rules.specs.declared.Moment.{Moment}
 use Rattle.rules.specs.declared.End.the-variants.{None as none, Stop as stop, Limit as limit}
 use Rattle.rules.specs.Bench.{isOpen, mostPositions, mostCycles, mostPhases}
 use Rattle.rules.specs.Cycle.{positions}
-use Rattle.rules.specs.Course.{Course, ends, counted, judged, closed, ending}
+use Rattle.rules.specs.Course.{Course, stopsAt, counted, judged, closed, ending}
 use Rattle.rules.specs.Regular.{most, regularLayout, regularRule, Plan, courseOf}
 use Rattle.rules.specs.Shown.{ledgerNumbers, mapWords, shownRow, marked}
-use Rattle.rules.proofs.Facts.{Lawful}
+use Rattle.rules.proofs.Facts.{Lawful, Orderly}
 use Rattle.rules.proofs.Longer.{over, judged-over}
 use Rattle.rules.proofs.Next.{Going, going, judged-all, Next, limits, stops, goes, next, closed-own}
-use Rattle.rules.proofs.Regular.{regular-lawful}
+use Rattle.rules.proofs.Regular.{regular-orderly, regular-lawful}
 use Rattle.rules.proofs.Sound.{Sound, real}
 use Rattle.rules.proofs.Tally.{counted-le}
 use Rattle.map.proofs.Marks.{set-cleared, ones-cleared}
@@ -47,7 +47,10 @@ module _ (p : Plan) (s : ℕ → Moment) (l₀ : List ℤ) (m₀ : List ℕ) (so
   c = courseOf p
 
   lawful : Lawful c
-  lawful = regular-lawful (p .cycle) sound (p .tolerances)
+  lawful = regular-lawful (p .cycle) (p .tolerances)
+
+  orderly : Orderly (c .layout)
+  orderly = regular-orderly (p .cycle) sound
 
   -- memory that shows k closed shares and j judged samples shows those after n samples, where these are as many
   with-counts : {n k j : ℕ} {a : State} → closed c s n ≡ k → judged c s n ≡ j → a .progress ≡ progressOf c s n
@@ -91,20 +94,20 @@ module _ (p : Plan) (s : ℕ → Moment) (l₀ : List ℤ) (m₀ : List ℕ) (so
 
     module _ (short : n < most (p .cycle)) where
       row-small : c .layout .row n < mostCycles
-      row-small = lawful .orderly .few-rows n short
+      row-small = orderly .few-rows n short
 
       phase-small : c .layout .phase n < mostPhases
-      phase-small = lawful .orderly .few-phases n
+      phase-small = orderly .few-phases n
 
       -- the code's test is the rules'
-      tested : overNow c a₀ (s n) ≡ ends c s n
+      tested : overNow c a₀ (s n) ≡ stopsAt c s n
       tested = test-over (regularLayout (p .cycle)) (regularRule (p .cycle) (p .tolerances)) s l₀ n (a .memory .ledger) row-small phase-small hl
 
       position-small : n - c .layout .begin (c .layout .row n) < mostPositions
       position-small = omega (arith, div-add-mod' n (positions (p .cycle)), mod-lt n (real sound), sound .short)
 
       -- the progress after it, where x says whether it stops the run
-      progress-after : (x : Bool) → ends c s n ≡ x
+      progress-after : (x : Bool) → stopsAt c s n ≡ x
           → judge c a₀ (s n) .progress ≡ record { offered = suc n; counted = cond x n (suc n); end = cond x stop (cond (ltb (suc n) (most (p .cycle))) none limit) }
       unfolding judge
       progress-after x e =
@@ -112,9 +115,9 @@ module _ (p : Plan) (s : ℕ → Moment) (l₀ : List ℤ) (m₀ : List ℕ) (so
 
       map-after : MapShows c s m₀ (suc n) (judge c a₀ (s n) .memory .map)
       unfolding judge
-      map-after = map-next c (lawful .orderly) s n row-small position-small m₀ (a .memory .map) hm
+      map-after = map-next c (orderly) s n row-small position-small m₀ (a .memory .map) hm
 
-      stopped : ends c s n ≡ true → counted c s (suc n) ≡ n → judged c s (suc n) ≡ suc n → ending c s (suc n) ≡ stop → Shows c s l₀ m₀ (suc n) (judge c a₀ (s n))
+      stopped : stopsAt c s n ≡ true → counted c s (suc n) ≡ n → judged c s (suc n) ≡ suc n → ending c s (suc n) ≡ stop → Shows c s l₀ m₀ (suc n) (judge c a₀ (s n))
       unfolding judge
       stopped e m j d =
           with-counts (closed-own c s refl (suc n) ∙ m) j
@@ -122,7 +125,7 @@ module _ (p : Plan) (s : ℕ → Moment) (l₀ : List ℤ) (m₀ : List ℕ) (so
           (ledger-stops (regularLayout (p .cycle)) (regularRule (p .cycle) (p .tolerances)) s l₀ n (a .memory .ledger) row-small phase-small hl (tested ∙ e))
           map-after
 
-      went : ends c s n ≡ false → counted c s (suc n) ≡ suc n → judged c s (suc n) ≡ suc n → ending c s (suc n) ≡ cond (ltb (closed c s (suc n)) (most (p .cycle))) none limit
+      went : stopsAt c s n ≡ false → counted c s (suc n) ≡ suc n → judged c s (suc n) ≡ suc n → ending c s (suc n) ≡ cond (ltb (closed c s (suc n)) (most (p .cycle))) none limit
           → Shows c s l₀ m₀ (suc n) (judge c a₀ (s n))
       unfolding judge
       went e m j d =
@@ -176,7 +179,7 @@ module _ (p : Plan) (s : ℕ → Moment) (l₀ : List ℤ) (m₀ : List ℕ) (so
 
     -- before the first sample
     none-counted : counted c s 0 ≡ 0
-    none-counted = omega (arith, counted-le (ends c s) (most (p .cycle)) 0 .0)
+    none-counted = omega (arith, counted-le (stopsAt c s) (most (p .cycle)) 0 .0)
 
     pub shows : (n : ℕ) → Shows c s l₀ m₀ n (samplesTaken c (startOf l₀ m₀) s n)
     unfolding fold

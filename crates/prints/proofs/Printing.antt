@@ -13,7 +13,7 @@ use Rattle.numbers.proofs.Tests.{not-refused}
 use Rattle.reader.specs.declared.Ending.{Ending}
 use Rattle.reader.specs.declared.Ending.the-variants as ending
 use Rattle.reading.specs.declared.Reading.{Reading}
-use Rattle.reading.specs.Answers.{planOf, isReading, readGround}
+use Rattle.reading.specs.Answers.{readingPlan, isReading, readGround}
 use Rattle.reader.specs.Answers.{endingOf}
 use Rattle.records.specs.Records.{sheetOf}
 use Rattle.records.proofs.Calls.{Lent}
@@ -45,7 +45,7 @@ module _ (lent : Lent) where
     sheet-printed e =
         let y = h .ends-whole e in
         let r = x .desk .reading in
-        let found = figures-of-run (planOf r (lentCycle x)) (lent .l₀) (lent .m₀) r (y .reached) (reading-in-limits r (lentCycle x) (x .memory .ledger) (x .memory .map) (y .ground)) in
+        let found = figures-of-run (readingPlan r (lentCycle x)) (lent .l₀) (lent .m₀) r (y .reached) (reading-in-limits r (lentCycle x) (x .memory .ledger) (x .memory .map) (y .ground)) in
         ap (λ (f : Found). sheetText (f .figures)) found ∙ ap printed (sym (y .tells))
 
     -- "Every figure equals the rules of document 01": where the input ends, the bytes printed are those that the rules give for the bytes read

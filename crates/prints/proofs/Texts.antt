@@ -11,7 +11,7 @@ use Rattle.numbers.specs.Tests.{unless}
 use Rattle.numbers.proofs.Tests.{pass, settled-taken, settled-refused}
 use Rattle.reader.specs.declared.Ending.{Ending}
 use Rattle.reader.specs.Answers.{endingOf}
-use Rattle.sheet.specs.Laid.{laid}
+use Rattle.sheet.specs.Overlaid.{overlaid}
 use Rattle.sheet.specs.Text.{mostSheet}
 use Rattle.desk.specs.Feeding.{Laid, deskGround}
 use Rattle.prints.specs.Printed.{Prints, refuseText, textBy, closeText}
@@ -22,8 +22,8 @@ as-text out {after = after} {r = r} e h = subst (λ (x : List ℕ). Prints x out
 
 -- the bytes printed are the text, where the lines are at least 512 bytes
 pub text-is : (text out : List ℕ) {r : ℕ} {after : List ℕ} → r ≡ unless 0 (leb mostSheet (length out)) (length text)
-    → after ≡ unless out (leb mostSheet (length out)) (laid out 0 text) → mostSheet ≤ length out → take r after ≡ text
-unfolding laid
+    → after ≡ unless out (leb mostSheet (length out)) (overlaid out 0 text) → mostSheet ≤ length out → take r after ≡ text
+unfolding overlaid
 text-is text out p q h =
     let t = le-leb mostSheet (length out) h in
     ap₂ take (p ∙ sym (pass 0 t refl)) (q ∙ sym (pass out t refl)) ∙ take-at text (drop (0 + length text) out) (length text) refl

@@ -12,7 +12,7 @@ use Rattle.reader.specs.declared.Ending.the-variants as ending
 use Rattle.reader.specs.Answers.{endingOf}
 use Rattle.records.specs.Records.{Told, Sheet, told, refused, planTold}
 use Rattle.sheet.specs.declared.Figures.{Figures}
-use Rattle.sheet.specs.Laid.{laid}
+use Rattle.sheet.specs.Overlaid.{overlaid}
 use Rattle.sheet.specs.Text.{mostSheet, sheetText, refusalText}
 use Rattle.figures.specs.declared.Found.{Found}
 use Rattle.figures.specs.Figured.{foundOf, figuresBy}
@@ -20,7 +20,7 @@ use Rattle.desk.specs.Feeding.{Laid, lentCycle, deskGround}
 
 -- the text stands at the front of the lines out, where they are long enough, and r is its length
 abbrev pub Prints : List ℕ → List ℕ → ℕ → List ℕ → Type 0
-Prints text out r after = (r ≡ unless 0 (leb mostSheet (length out)) (length text)) × (after ≡ unless out (leb mostSheet (length out)) (laid out 0 text))
+Prints text out r after = (r ≡ unless 0 (leb mostSheet (length out)) (length text)) × (after ≡ unless out (leb mostSheet (length out)) (overlaid out 0 text))
 
 -- ---- of a desk
 

@@ -11,7 +11,7 @@ ghost use Prim.Native.Nat.{_≤_};
 ghost use lib.Dec.{leb};
 ghost use lib.ListN.{length};
 ghost use Rattle.numbers.specs.Tests.{unless};
-ghost use Rattle.sheet.specs.Laid.{laid};
+ghost use Rattle.sheet.specs.Overlaid.{overlaid};
 ghost use Rattle.sheet.specs.Text.{mostSheet, refusalText};
 ghost use Rattle.reader.specs.declared.Ending.the-variants.{Whole};
 ghost use Rattle.desk.specs.Feeding.{laidOf};
@@ -32,7 +32,7 @@ pub fn refuse(desk: Desk, number: u32, out: &mut [u8]) -> usize
     ensures { λ r. ⌜ r ≡ unless 0 (leb mostSheet (length (now (out .entry)))) (length (refusalText number (nextField (desk .fields)))) ⌝ }
     ensures { λ _. ⌜
         now (out .exit)
-        ≡ unless (now (out .entry)) (leb mostSheet (length (now (out .entry)))) (laid (now (out .entry)) 0 (refusalText number (nextField (desk .fields))))
+        ≡ unless (now (out .entry)) (leb mostSheet (length (now (out .entry)))) (overlaid (now (out .entry)) 0 (refusalText number (nextField (desk .fields))))
         ⌝ }
 {
     refusal_line(number, next_field(desk.fields), &mut *out)
@@ -48,7 +48,7 @@ fn print_run(desk: Desk, room: &[u8], ledger: &[i64], map: &[u64], out: &mut [u8
     ensures { λ _. ⌜
         now (out .exit)
         ≡ unless (now (out .entry)) (leb mostSheet (length (now (out .entry))))
-        (laid (now (out .entry)) 0 (textBy Whole (laidOf desk (now (room .entry)) (now (ledger .entry)) (now (map .entry)))))
+        (overlaid (now (out .entry)) 0 (textBy Whole (laidOf desk (now (room .entry)) (now (ledger .entry)) (now (map .entry)))))
         ⌝ }
 {
     let opening = desk.opening;
@@ -74,7 +74,7 @@ pub fn close(
     ensures { λ _. ⌜
         now (out .exit)
         ≡ unless (now (out .entry)) (leb mostSheet (length (now (out .entry))))
-        (laid (now (out .entry)) 0 (closeText (laidOf desk (now (room .entry)) (now (ledger .entry)) (now (map .entry))) left))
+        (overlaid (now (out .entry)) 0 (closeText (laidOf desk (now (room .entry)) (now (ledger .entry)) (now (map .entry))) left))
         ⌝ }
 {
     let refusal = desk_refusal(desk, room, ledger, map);

@@ -24,7 +24,7 @@ use Rattle.reading.specs.declared.Reading.{Reading}
 use Rattle.reading.specs.declared.Step.the-variants.{Refused}
 use Rattle.reading.specs.declared.Stepped.{Stepped}
 use Rattle.reading.specs.Reading.{Answered, Read}
-use Rattle.reading.specs.Answers.{taleOf, readingOf, planOf, isReading, readGround, readOf, readAllOf}
+use Rattle.reading.specs.Answers.{taleOf, readingOf, readingPlan, isReading, readGround, readOf, readAllOf}
 use Rattle.reading.specs.Along.{alongAt, withAlong, steppedLeft, passageLeft, frontTaken, allTaken, Ready}
 use Rattle.reader.specs.declared.ReadAnswer.{ReadAnswer}
 use Rattle.reader.specs.declared.AllAnswer.{AllAnswer}
@@ -55,9 +55,9 @@ module _ (r : Reading) (b : List ℕ) (l : List ℤ) (m : List ℕ) where
     along-asked = (grounded .sound, grounded .same-seconds, grounded .limits .tolerated .time)
 
     module _ {k : Along} (p : k ≡ alongAt r b) where
-      pub ready-at : length (r .vehicle) ≡ 17 → Ready (r .vehicle) (planOf r b) (left k l m)
+      pub ready-at : length (r .vehicle) ≡ 17 → Ready (r .vehicle) (readingPlan r b) (left k l m)
       ready-at h =
-          subst⁻¹ (λ (y : Along). Ready (r .vehicle) (planOf r b) (left y l m)) p
+          subst⁻¹ (λ (y : Along). Ready (r .vehicle) (readingPlan r b) (left y l m)) p
           (record { number = omega arith; valid = valid-number; kept = kept-ground (r .run) b l m grounded; few = grounded .limits .offered })
 
       -- what is read from k on is what the call reads
@@ -67,25 +67,25 @@ module _ (r : Reading) (b : List ℕ) (l : List ℤ) (m : List ℕ) where
         read-taken {x} h q =
             ap (λ (z : Reading). asRead z x) q
             ∙ ap (λ (z : Left Stepped). asRead (withAlong r (z .answer .along)) z)
-            (h ∙ ap (λ (z : Along). frontTaken b t z l m (r .vehicle) i) p ∙ ap (steppedLeft (planOf r b)) (sym (settled-taken _ e)))
+            (h ∙ ap (λ (z : Along). frontTaken b t z l m (r .vehicle) i) p ∙ ap (steppedLeft (readingPlan r b)) (sym (settled-taken _ e)))
 
         pub all-taken : {x : Left Passage} → x ≡ allTaken b t k l m (r .vehicle) i → y ≡ withAlong r (x .answer .along) → asAll y x ≡ allLeft r b l m i
         unfolding readAllOf
         all-taken {x} h q =
             ap (λ (z : Reading). asAll z x) q
             ∙ ap (λ (z : Left Passage). asAll (withAlong r (z .answer .along)) z)
-            (h ∙ ap (λ (z : Along). allTaken b t z l m (r .vehicle) i) p ∙ ap (passageLeft (planOf r b)) (sym (settled-taken _ e)))
+            (h ∙ ap (λ (z : Along). allTaken b t z l m (r .vehicle) i) p ∙ ap (passageLeft (readingPlan r b)) (sym (settled-taken _ e)))
 
   -- ---- a test refuses
   module _ (i : List ℕ) {x : ℕ} (e : x ≡ readGround r b l m) (some : x ≡ 0 → ⊥) where
     pub read-refuses : left (record { step = Refused x; reading = r }) l m ≡ readLeft r b l m i
     unfolding readOf
     read-refuses =
-        ap (λ (y : Answered State). asRead (readingOf r (y .tale)) (steppedLeft (planOf r b) y))
+        ap (λ (y : Answered State). asRead (readingOf r (y .tale)) (steppedLeft (readingPlan r b) y))
         (settled-answer (λ k. record { step = Refused k; tale = taleOf r l m }) _ e some)
 
     pub all-refuses : left (record { reading = r; fields = 0; used = 0; last = Refused x }) l m ≡ allLeft r b l m i
     unfolding readAllOf
     all-refuses =
-        ap (λ (y : Read State). asAll (readingOf r (y .tale)) (passageLeft (planOf r b) y))
+        ap (λ (y : Read State). asAll (readingOf r (y .tale)) (passageLeft (readingPlan r b) y))
         (settled-answer (λ k. record { tale = taleOf r l m; fields = 0; used = 0; last = Refused k }) _ e some)

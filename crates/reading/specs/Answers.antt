@@ -43,8 +43,8 @@ abbrev pub readingOf : Reading → Tale State → Reading
 readingOf r k = record { vehicle = r .vehicle; place = k .place; passed = k .passed; amounts = k .amounts; run = withProgress (r .run) (k .run .progress) }
 
 -- the plan of its run, on the cycle b
-abbrev pub planOf : Reading → List ℕ → Plan
-planOf r b = plan b (r .run .track .tolerances)
+abbrev pub readingPlan : Reading → List ℕ → Plan
+readingPlan r b = plan b (r .run .track .tolerances)
 
 -- no number of the reader's own is beyond its limits (the run's are tested with its memory)
 unfoldable pub isReading : Reading → Bool
@@ -59,11 +59,11 @@ unfoldable pub readOf : Reading → List ℕ → List ℤ → List ℕ → List 
 readOf r b l m i =
     let x = readGround r b l m in
     let k = taleOf r l m in
-    settled x (fieldAt offeredOf (takeBlock (planOf r b)) (r .vehicle) k i) (record { step = step.Refused x; tale = k })
+    settled x (fieldAt offeredOf (takeBlock (readingPlan r b)) (r .vehicle) k i) (record { step = step.Refused x; tale = k })
 
 -- a call of `read_all`
 unfoldable pub readAllOf : Reading → List ℕ → List ℤ → List ℕ → List ℕ → Read State
 readAllOf r b l m i =
     let x = readGround r b l m in
     let k = taleOf r l m in
-    settled x (fieldsOf offeredOf (takeBlock (planOf r b)) (r .vehicle) k i) (record { tale = k; fields = 0; used = 0; last = step.Refused x })
+    settled x (fieldsOf offeredOf (takeBlock (readingPlan r b)) (r .vehicle) k i) (record { tale = k; fields = 0; used = 0; last = step.Refused x })

@@ -18,7 +18,7 @@ use Rattle.opening.specs.Opening.{Begun, Opened, openAt}
 use Rattle.opening.specs.Answers.{Held, hold, cycleIn, nothing, begunOf, openingOf, openGround, openOf}
 use Rattle.opening.specs.declared.Opening.{Opening}
 use Rattle.reading.specs.declared.Reading.{Reading}
-use Rattle.reading.specs.Answers.{startedReading, offeredOf, takeBlock, taleOf, readingOf, readGround, readOf, readAllOf, planOf}
+use Rattle.reading.specs.Answers.{startedReading, offeredOf, takeBlock, taleOf, readingOf, readGround, readOf, readAllOf, readingPlan}
 use Rattle.reading.specs.declared.Step.the-variants as step
 use Rattle.opening.specs.declared.OpenStep.the-variants as opening
 use Rattle.reading.proofs.Onwards.{Uses, Ends}
@@ -82,9 +82,9 @@ read-changes-nothing r b l m i = go (eqb (readGround r b l m) 0)
   where
     call : Bool → Answered State
     call t =
-        cond t (fieldAt offeredOf (takeBlock (planOf r b)) (r .vehicle) (taleOf r l m) i)
+        cond t (fieldAt offeredOf (takeBlock (readingPlan r b)) (r .vehicle) (taleOf r l m) i)
         (record { step = step.Refused (readGround r b l m); tale = taleOf r l m })
 
     go : (t : Bool) → Ends (call t .step) → call t .tale ≡ taleOf r l m
-    go true = field-ends offeredOf (takeBlock (planOf r b)) (r .vehicle) (taleOf r l m) i
+    go true = field-ends offeredOf (takeBlock (readingPlan r b)) (r .vehicle) (taleOf r l m) i
     go false = λ _. refl

@@ -14,7 +14,7 @@ use Rattle.fields.specs.Values.{isNumber, sameNumber}
 use Rattle.reading.specs.Reading.{Read}
 use Rattle.opening.specs.Opening.{OpenRead}
 use Rattle.reader.specs.Answers.{endingOf}
-use Rattle.records.specs.Records.{Told, Sheet, told, refused, withBlock, openingIn, fieldsIn, closedBy, sheetBy, sheetOf}
+use Rattle.records.specs.Records.{Told, Sheet, told, refused, withBlock, openingIn, fieldsIn, endedBy, sheetBy, sheetOf}
 use Rattle.reading.specs.declared.Step.{Step}
 use Rattle.reading.specs.declared.Step.the-variants as step
 use Rattle.opening.specs.declared.OpenStep.{OpenStep}
@@ -48,7 +48,7 @@ oneMore (refused number k) = refused number (suc k)
 one-more : (s : Step) (x : Told) (n left : ℕ) → sheetBy s (withTale x (morePassed (x .tale))) (suc n) left ≡ oneMore (sheetBy s x n left)
 one-more s x n left = go s
   where
-    ends : (e : Ending) → closedBy e (withTale x (morePassed (x .tale))) (suc n) ≡ oneMore (closedBy e x n)
+    ends : (e : Ending) → endedBy e (withTale x (morePassed (x .tale))) (suc n) ≡ oneMore (endedBy e x n)
     ends ending.Whole = refl
     ends (ending.Refused y) = refl
 

@@ -25,7 +25,7 @@ use Rattle.reading.specs.Reading.{Tale, Answered, Read, fieldAt, fieldsOf}
 use Rattle.opening.specs.Opening.{Begun, Opened}
 use Rattle.opening.specs.Answers.{Held, cycleIn, begunOf}
 use Rattle.reading.specs.declared.Reading.{Reading}
-use Rattle.reading.specs.Answers.{startedReading, offeredOf, takeBlock, taleOf, readingOf, isReading, readGround, readOf, readAllOf, planOf}
+use Rattle.reading.specs.Answers.{startedReading, offeredOf, takeBlock, taleOf, readingOf, isReading, readGround, readOf, readAllOf, readingPlan}
 use Rattle.records.specs.Records.{Told, withBlock, sheetBy, sheetOf}
 use Rattle.reading.specs.declared.Step.{Step}
 use Rattle.reading.specs.declared.Step.the-variants as step
@@ -53,14 +53,14 @@ toldOf r b xs = record {
 
 -- a reading within its limits, whose memory is that of its run, has no 1 or 2
 module _ {b : List ℕ} {l₀ : List ℤ} {m₀ : List ℕ} {xs : List Moment} (r : Reading) (l : List ℤ) (m : List ℕ) (limits : InLimits (taleOf r l m)) (number : isNumber (r .vehicle) ≡ true)
-    (reached : Reached (planOf r b) l₀ m₀ xs (r .run) l m) where
+    (reached : Reached (readingPlan r b) l₀ m₀ xs (r .run) l m) where
   is-reading : isReading r ≡ true
   unfolding isReading
   is-reading = rw (le-leb _ _ (limits .place), le-leb _ _ (limits .passed), limits .amounts, number)
 
   reached-ground : readGround r b l m ≡ 0
   unfolding readGround
-  reached-ground = sym (pass 1 is-reading (sym (runs.never-refused (planOf r b) l₀ m₀ reached 0)))
+  reached-ground = sym (pass 1 is-reading (sym (runs.never-refused (readingPlan r b) l₀ m₀ reached 0)))
 
 -- a run that has just started, on whatever memory granted it
 module _ (l : List ℤ) (m : List ℕ) (k : Begun Held) (i : List ℕ) (n : ℕ) (r : Run) (e : onRoom l m k i .step ≡ opening.Started n r) where
@@ -91,7 +91,7 @@ module _ (lent : Lent) where
     pub fields : ℕ
     pub count : n ≡ 4 + fields
     pub tells : Tells p (toldOf r b samples) fields
-    pub reached : Reached (planOf r b) l₀ m₀ samples (r .run) l m
+    pub reached : Reached (readingPlan r b) l₀ m₀ samples (r .run) l m
     pub limits : InLimits (taleOf r l m)
     pub number : isNumber (r .vehicle) ≡ true
 
@@ -101,10 +101,10 @@ module _ (lent : Lent) where
 
     -- the run of the state a is that of the samples xs
     Ran : State → List Moment → Type 0
-    Ran a xs = Reached (planOf r b) l₀ m₀ xs (withProgress (r .run) (a .progress)) (a .memory .ledger) (a .memory .map)
+    Ran a xs = Reached (readingPlan r b) l₀ m₀ xs (withProgress (r .run) (a .progress)) (a .memory .ledger) (a .memory .map)
 
     abbrev taking : State → List ℕ → State
-    taking = takeBlock (planOf r b)
+    taking = takeBlock (readingPlan r b)
 
     abbrev read : List ℕ → Read State
     read = fieldsOf offeredOf taking (r .vehicle) (taleOf r l m)
@@ -114,11 +114,11 @@ module _ (lent : Lent) where
     unfolding Ran
     same q =
         same-fields offeredOf taking length withBlock Ran
-        (λ a xs g. runs.run-shows (planOf r b) l₀ m₀ g .offered)
+        (λ a xs g. runs.run-shows (readingPlan r b) l₀ m₀ g .offered)
         (λ a xs g q block room samples.
         runs.Reached.block g (a .progress .offered) q
         (accepted-by (withProgress (r .run) (a .progress)) b (a .memory .ledger) (a .memory .map) (a .progress .offered) q
-        (record { ground = runs.never-refused (planOf r b) l₀ m₀ g 0; block = block; first = refl; room = room; samples = samples })))
+        (record { ground = runs.never-refused (readingPlan r b) l₀ m₀ g 0; block = block; first = refl; room = room; samples = samples })))
         (r .vehicle) (taleOf r l m) _ q (record { place = refl; passed = refl; amounts = refl; run = h .reached })
 
     -- the whole fields q more, as y was read of them

@@ -17,7 +17,7 @@ use Rattle.reading.specs.declared.Reading.{Reading}
 use Rattle.reader.specs.declared.ReadAnswer.{ReadAnswer}
 use Rattle.reader.specs.declared.AllAnswer.{AllAnswer}
 use Rattle.opening.specs.Answers.{openingOf, openOf, openAnswer, memoryAfter}
-use Rattle.reading.specs.Answers.{offeredOf, takeBlock, taleOf, readingOf, readGround, readOf, readAllOf, planOf}
+use Rattle.reading.specs.Answers.{offeredOf, takeBlock, taleOf, readingOf, readGround, readOf, readAllOf, readingPlan}
 use Rattle.reader.specs.Answers.{readAnswer, allAnswer}
 use Rattle.reading.specs.declared.Step.{Step}
 use Rattle.reading.specs.declared.Step.the-variants as step
@@ -81,7 +81,7 @@ unfolding readAllOf
 none-read r b l m i = go (eqb (readGround r b l m) 0)
   where
     take′ : State → List ℕ → State
-    take′ = takeBlock (planOf r b)
+    take′ = takeBlock (readingPlan r b)
 
     at : Step
     at = fieldAt offeredOf take′ (r .vehicle) (taleOf r l m) i .step
@@ -121,13 +121,13 @@ module _ (r : Reading) (b : List ℕ) (l : List ℤ) (m i : List ℕ) where
   all-refused-changes-nothing = go (eqb (readGround r b l m) 0)
     where
       all : List ℕ → Read State
-      all q = fieldsOf offeredOf (takeBlock (planOf r b)) (r .vehicle) (taleOf r l m) q
+      all q = fieldsOf offeredOf (takeBlock (readingPlan r b)) (r .vehicle) (taleOf r l m) q
 
       call : Bool → List ℕ → Read State
       call t q = cond t (all q) (record { tale = taleOf r l m; fields = 0; used = 0; last = step.Refused (readGround r b l m) })
 
       go : (t : Bool) → call t (take (call t i .used) i) .tale ≡ call t i .tale
-      go true = ap (λ (x : Read State). x .tale) (fields-alone offeredOf (takeBlock (planOf r b)) (r .vehicle) (taleOf r l m) i)
+      go true = ap (λ (x : Read State). x .tale) (fields-alone offeredOf (takeBlock (readingPlan r b)) (r .vehicle) (taleOf r l m) i)
       go false = refl
 
   -- and where no field was accepted, all is as it was

@@ -24,7 +24,7 @@ use Rattle.opening.specs.Opening.{Opened}
 use Rattle.opening.specs.Answers.{Held, begunOf, openGround, openOf}
 use Rattle.opening.specs.declared.Opening.{Opening}
 use Rattle.reading.specs.declared.Reading.{Reading}
-use Rattle.reading.specs.Answers.{taleOf, readingOf, readGround, readOf, readAllOf, planOf}
+use Rattle.reading.specs.Answers.{taleOf, readingOf, readGround, readOf, readAllOf, readingPlan}
 use Rattle.reader.specs.Answers.{endingOf}
 use Rattle.records.specs.Records.{Told, told, refused, withBlock, openingIn, sheetBy, sheetOf}
 use Rattle.reading.specs.declared.Step.{Step}
@@ -104,7 +104,7 @@ module _ (lent : Lent) where
   pub record Handed (p b : List ℕ) (r : Reading) (l : List ℤ) (m : List ℕ) : Type 0 where
     pub samples : List Moment
     pub tells : sheetOf p ≡ told (toldOf r b samples)
-    pub reached : Reached (planOf r b) l₀ m₀ samples (r .run) l m
+    pub reached : Reached (readingPlan r b) l₀ m₀ samples (r .run) l m
     pub ground : readGround r b l m ≡ 0
 
   module _ {p b : List ℕ} {n : ℕ} {r : Reading} {l : List ℤ} {m : List ℕ} (h : Since lent p b n r l m) where

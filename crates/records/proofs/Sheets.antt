@@ -24,7 +24,7 @@ use Rattle.contents.specs.declared.Content.the-variants.{Own, Foreign, Before, 
 use Rattle.reading.specs.Reading.{Tale, Answered, Read, runAfter, brought, fieldAt, fieldsOf}
 use Rattle.opening.specs.Opening.{OpenRead}
 use Rattle.reader.specs.Answers.{endingOf}
-use Rattle.records.specs.Records.{Told, told, withBlock, startRefused, blank, openingIn, fieldsIn, closedBy, sheetBy, begunBy, sheetOf}
+use Rattle.records.specs.Records.{Told, told, withBlock, startRefused, blank, openingIn, fieldsIn, endedBy, sheetBy, begunBy, sheetOf}
 use Rattle.reading.specs.declared.Step.{Step}
 use Rattle.reading.specs.declared.Step.the-variants as step
 use Rattle.opening.specs.declared.OpenStep.{OpenStep}
@@ -118,11 +118,11 @@ tells-one p x n n′ h g =
     let f = ap (λ (y : OpenRead (List ℕ)). y .used) (sym (h .opened) ∙ g .opened) in
     ap (λ (y : Read (List Moment)). y .fields) (sym (h .read) ∙ ap (λ (c : ℕ). fieldsIn (x .vehicle) (drop c p)) f ∙ g .read)
 
-closed : (left : ℕ) (x y : Told) (n : ℕ) → closedBy (endingOf true left) x n ≡ told y → (left ≡ 0) × (x ≡ y)
+closed : (left : ℕ) (x y : Told) (n : ℕ) → endedBy (endingOf true left) x n ≡ told y → (left ≡ 0) × (x ≡ y)
 unfolding endingOf unless
 closed left x y n = go (eqb left 0) refl
   where
-    go : (b : Bool) → eqb left 0 ≡ b → closedBy (unless (ending.Refused 15) b ending.Whole) x n ≡ told y → (left ≡ 0) × (x ≡ y)
+    go : (b : Bool) → eqb left 0 ≡ b → endedBy (unless (ending.Refused 15) b ending.Whole) x n ≡ told y → (left ≡ 0) × (x ≡ y)
     go true e f = (eqb-true left 0 e, cc)
     go false e f = absurd (false≢true cc)
 

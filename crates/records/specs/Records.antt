@@ -62,15 +62,15 @@ abbrev pub fieldsIn : List ℕ → List ℕ → Read (List Moment)
 fieldsIn me = fieldsOf length withBlock me untold
 
 -- "K is the number of accepted fields, passed-over ones among them, plus one"
-abbrev pub closedBy : Ending → Told → ℕ → Sheet
-closedBy ending.Whole x n = told x
-closedBy (ending.Refused y) x n = refused y (suc n)
+abbrev pub endedBy : Ending → Told → ℕ → Sheet
+endedBy ending.Whole x n = told x
+endedBy (ending.Refused y) x n = refused y (suc n)
 
 -- the sheet, by the answer after the last accepted field, of which there are n, with so many bytes left
 abbrev pub sheetBy : Step → Told → ℕ → ℕ → Sheet
-sheetBy (step.Taken m) x n left = closedBy (endingOf true left) x n
-sheetBy (step.Passed m) x n left = closedBy (endingOf true left) x n
-sheetBy step.Incomplete x n left = closedBy (endingOf true left) x n
+sheetBy (step.Taken m) x n left = endedBy (endingOf true left) x n
+sheetBy (step.Passed m) x n left = endedBy (endingOf true left) x n
+sheetBy step.Incomplete x n left = endedBy (endingOf true left) x n
 sheetBy (step.Refused y) x n left = refused y (suc n)
 
 abbrev pub begunBy : OpenStep → Begun (List ℕ) → List ℕ → Sheet

@@ -30,8 +30,8 @@ pub record Near (h : Share) : Type 0 where
   pub energy-most : (s : ℕ → Moment) (j x : ℕ) → ((i : ℕ) → i ≤ j + h .ahead → Sized x (s i .energy)) → Sized (x * suc (h .ahead)) (h .energy s j)
   pub distance-most : (s : ℕ → Moment) (j v : ℕ) → ((i : ℕ) → i ≤ j + h .ahead → s i .speed ≤ v) → h .distance s j ≤ v * suc (h .ahead)
 
+-- what is settled of a run by the samples up to one stays settled
 pub record Lawful (c : Course) : Type 0 where
-  pub orderly : Orderly (c .layout)
   pub back : LooksBack (c .rule)
   pub near : Near (c .share)
 

@@ -11,7 +11,7 @@ use Rattle.numbers.proofs.Firsts.{first-later}
 use Rattle.numbers.proofs.Tests.{both-T, not-mono, leb-mono}
 use Rattle.rules.proofs.Tally.{counted-le}
 use Rattle.rules.specs.Bench.{Moment, mostCycles}
-use Rattle.rules.specs.Course.{Bound, never, after, reached, Layout, Share, Course, ends, counted, closed, judged}
+use Rattle.rules.specs.Course.{Bound, never, after, reached, Layout, Share, Course, stopsAt, counted, closed, judged}
 use Rattle.rules.specs.Parts.{Part, rowPart, phasePart, finished, cycles, partEnergy, partDistance}
 use Rattle.rules.proofs.Facts.{Orderly}
 
@@ -25,16 +25,19 @@ reached-more (after e) m m′ l t = leb-mono (le-refl e) l t
 pub record Ends (p : Part) : Type 0 where
   pub past : (j : ℕ) → T (p .of j) → T (reached (p .behind) j) → ⊥
 
+pub phase-ends-by : (l : Layout) → ((j : ℕ) → T (reached (l .phaseEnd (l .row j) (l .phase j)) j) → ⊥) → (c k : ℕ) → Ends (phasePart l c k)
+phase-ends-by l before c k = record {
+  past = λ j t r.
+      let (tc, tk) = both-T (eqb (l .row j) c) (eqb (l .phase j) k) t in
+      before j (rw (eqb→eq (l .row j) c tc, eqb→eq (l .phase j) k tk) r);
+}
+
 module _ {l : Layout} (o : Orderly l) where
   pub row-ends : (c : ℕ) → Ends (rowPart l c)
   row-ends c = record { past = λ j t r. o .row-open j (rw (eqb→eq (l .row j) c t) r) }
 
   pub phase-ends : (c k : ℕ) → Ends (phasePart l c k)
-  phase-ends c k = record {
-    past = λ j t r.
-        let (tc, tk) = both-T (eqb (l .row j) c) (eqb (l .phase j) k) t in
-        o .phase-open j (rw (eqb→eq (l .row j) c tc, eqb→eq (l .phase j) k tk) r);
-  }
+  phase-ends = phase-ends-by l (o .phase-open)
 
 -- no sample from m on is of a part that is finished there
 pub past-finished : {p : Part} → Ends p → (m : ℕ) → T (finished p m) → (j : ℕ) → m ≤ j → T (p .of j) → ⊥
@@ -77,7 +80,7 @@ module _ (c : Course) (s : ℕ → Moment) (n : ℕ) where
   closed-counted = omega arith
 
   pub closed-most : closed c s n ≤ c .layout .most
-  closed-most = omega (arith, counted-le (ends c s) (c .layout .most) n .1)
+  closed-most = omega (arith, counted-le (stopsAt c s) (c .layout .most) n .1)
 
   pub closed-offered : (j : ℕ) → j < closed c s n → j + c .share .ahead < n
   closed-offered j l = omega arith

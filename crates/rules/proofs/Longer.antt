@@ -15,10 +15,10 @@ use Rattle.numbers.proofs.Range.{fold-same, gather-rest, gather-same}
 use Rattle.numbers.proofs.Tests.{true-T, T-true}
 use Rattle.rules.specs.Bench.{Moment, none, stop, limit, isOpen}
 use Rattle.rules.proofs.Tally as tally
-use Rattle.rules.specs.Course.{Course, out, outside, ends, counted, stopped, judged, closed, ending}
+use Rattle.rules.specs.Course.{Course, out, outside, stopsAt, counted, stopped, judged, closed, ending}
 use Rattle.rules.specs.Parts.{Part, rowPart, finished, cycles, partEnergy, partDistance, energy}
 use Rattle.rules.specs.Regular.{momentIn}
-use Rattle.rules.proofs.Facts.{Lawful}
+use Rattle.rules.proofs.Facts.{Orderly, Lawful}
 use Rattle.rules.proofs.Gathered.{Ends, row-ends, past-finished, cycles-more, PartKept, Alike, kept, closed-offered, closed-judged}
 
 -- the samples of a list, and more behind them
@@ -34,18 +34,18 @@ module _ (c : Course) (f : Lawful c) (s s′ : ℕ → Moment) (n n′ : ℕ) (m
   out-longer : (j : ℕ) → j < n → out c s′ j ≡ out c s j
   out-longer j l = ap (λ (x : Moment). c .rule .outside j (x .speed)) (same j l)
 
-  ends-longer : (j : ℕ) → j < n → ends c s′ j ≡ ends c s j
+  ends-longer : (j : ℕ) → j < n → stopsAt c s′ j ≡ stopsAt c s j
   ends-longer j l =
       let h = f .back .halts-by (λ i. s i .speed) (λ i. s′ i .speed) j (λ i g. ap (λ (x : Moment). x .speed) (same i (omega arith))) in
       let o = tally.over-longer (c .layout .row) (out c s) (out c s′) n out-longer (c .rule .allowance) j l in
       λ i. h i || o i
 
   pub counted-longer : counted c s n ≤ counted c s′ n′
-  counted-longer = tally.counted-longer (ends c s) (ends c s′) (c .layout .most) n n′ more ends-longer
+  counted-longer = tally.counted-longer (stopsAt c s) (stopsAt c s′) (c .layout .most) n n′ more ends-longer
 
   -- a stop stays, at its sample
   pub stop-longer : T (stopped c s n) → T (stopped c s′ n′) × (counted c s′ n′ ≡ counted c s n)
-  stop-longer = tally.stop-longer (ends c s) (ends c s′) (c .layout .most) n n′ more ends-longer
+  stop-longer = tally.stop-longer (stopsAt c s) (stopsAt c s′) (c .layout .most) n n′ more ends-longer
 
   pub closed-longer : closed c s n ≤ closed c s′ n′
   closed-longer = omega (arith, counted-longer)
@@ -64,10 +64,10 @@ module _ (c : Course) (f : Lawful c) (s s′ : ℕ → Moment) (n n′ : ℕ) (m
   pub part-longer : {p : Part} → Ends p → T (finished p (closed c s n)) → PartKept (c .share) p s s′ (closed c s n) (closed c s′ n′)
   part-longer e = kept _ e alike closed-longer
 
-  pub outside-longer : (k : ℕ) → T (finished (rowPart (c .layout) k) (closed c s n))
+  pub outside-longer : Orderly (c .layout) → (k : ℕ) → T (finished (rowPart (c .layout) k) (closed c s n))
       → outside c s′ k (judged c s′ n′) ≡ outside c s k (judged c s n)
-  outside-longer k d =
-      let past = past-finished (row-ends (f .orderly) k) (closed c s n) d in
+  outside-longer o k d =
+      let past = past-finished (row-ends o k) (closed c s n) d in
       gather-rest _+_ 0 add-zero _ _ _ past (judged c s′ n′) (le-trans closed-longer (closed-judged c s′ n′))
       ∙ tally.outside-longer (c .layout .row) (out c s) (out c s′) n out-longer k (closed c s n) (omega arith)
       ∙ sym (gather-rest _+_ 0 add-zero _ _ _ past (judged c s n) (closed-judged c s n))
@@ -77,7 +77,7 @@ module _ (c : Course) (f : Lawful c) (s s′ : ℕ → Moment) (n n′ : ℕ) (m
     where
       go : (x : Bool) → stopped c s n ≡ x → counted c s n + bit x ≤ n
       go true e = omega (arith, ltb-true (counted c s n) (min n (c .layout .most)) e)
-      go false e = omega (arith, tally.counted-le (ends c s) (c .layout .most) n .0)
+      go false e = omega (arith, tally.counted-le (stopsAt c s) (c .layout .most) n .0)
 
   -- ---- after the end
 
@@ -106,8 +106,8 @@ module _ (c : Course) (f : Lawful c) (s s′ : ℕ → Moment) (n n′ : ℕ) (m
       go false false e q o =
           let l = ltb-false (closed c s n) (c .layout .most) q in
           let g = ltb-false (counted c s n) (min n (c .layout .most)) e in
-          let m = tally.counted-le (ends c s) (c .layout .most) n .1 in
-          let m′ = tally.counted-le (ends c s′) (c .layout .most) n′ .1 in
+          let m = tally.counted-le (stopsAt c s) (c .layout .most) n .1 in
+          let m′ = tally.counted-le (stopsAt c s′) (c .layout .most) n′ .1 in
           let a : counted c s′ n′ ≡ counted c s n = omega (arith, counted-longer) in
           let e′ = le-ltb (counted c s′ n′) (min n′ (c .layout .most)) (omega arith) in
           record {
@@ -129,7 +129,7 @@ module _ (c : Course) (f : Lawful c) (s s′ : ℕ → Moment) (n n′ : ℕ) (m
     whole-over = ap (energy (c .share) s′) (v .closed-same) ∙ fold-same _+ℤ_ (pos 0) _ _ _ (alike .energies)
 
     pub judged-over : judged c s′ n′ ≡ judged c s n
-    judged-over = tally.judged-alike (ends c s) (ends c s′) (c .layout .most) n n′ (v .counted-same) (v .stopped-same)
+    judged-over = tally.judged-alike (stopsAt c s) (stopsAt c s′) (c .layout .most) n n′ (v .counted-same) (v .stopped-same)
 
     pub outside-over : (k : ℕ) → outside c s′ k (judged c s′ n′) ≡ outside c s k (judged c s n)
     outside-over k =

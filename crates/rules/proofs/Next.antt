@@ -9,7 +9,7 @@ use borrow.Author.Tests.{ltb-true, ltb-false, lt-ltb, le-ltb}
 use lib.Dec.{ltb}
 use Rattle.numbers.proofs.Order.{side}
 use Rattle.rules.specs.Bench.{Moment, none, stop, limit, isOpen}
-use Rattle.rules.specs.Course.{Course, ends, counted, stopped, judged, closed, ending}
+use Rattle.rules.specs.Course.{Course, stopsAt, counted, stopped, judged, closed, ending}
 use Rattle.rules.proofs.Tally as tally
 
 module _ (c : Course) (soon : c .share .ahead ≤ 1) (s : ℕ → Moment) where
@@ -31,7 +31,7 @@ module _ (c : Course) (soon : c .share .ahead ≤ 1) (s : ℕ → Moment) where
       go false true e q o =
           let few = ltb-true (closed c s n) most q in
           let none-stopped = ltb-false (counted c s n) (min n most) e in
-          let (le, le-most) = tally.counted-le (ends c s) most n in
+          let (le, le-most) = tally.counted-le (stopsAt c s) most n in
           record { all = omega (arith, soon); no-stop = e; short = omega (arith, soon) }
 
   -- it is judged
@@ -41,24 +41,24 @@ module _ (c : Course) (soon : c .share .ahead ≤ 1) (s : ℕ → Moment) where
   -- sample n comes after the last that can count, and is not judged; or it stops the run; or it counts
   pub data Next (n : ℕ) : Type 0 where
     limits : n ≡ most → counted c s (suc n) ≡ n → Next n
-    stops : n < most → ends c s n ≡ true → counted c s (suc n) ≡ n → judged c s (suc n) ≡ suc n → ending c s (suc n) ≡ stop → Next n
-    goes : n < most → ends c s n ≡ false → counted c s (suc n) ≡ suc n → judged c s (suc n) ≡ suc n
+    stops : n < most → stopsAt c s n ≡ true → counted c s (suc n) ≡ n → judged c s (suc n) ≡ suc n → ending c s (suc n) ≡ stop → Next n
+    goes : n < most → stopsAt c s n ≡ false → counted c s (suc n) ≡ suc n → judged c s (suc n) ≡ suc n
         → ending c s (suc n) ≡ cond (ltb (closed c s (suc n)) most) none limit → Next n
 
   pub next : {n : ℕ} → Going n → Next n
-  next {n} g = ⊎-elim (λ (l : n < most). inner l (ends c s n) refl) outer (side (suc n) most)
+  next {n} g = ⊎-elim (λ (l : n < most). inner l (stopsAt c s n) refl) outer (side (suc n) most)
     where
       outer : most < suc n → Next n
-      outer l = limits (omega (arith, g .all, tally.counted-le (ends c s) most n .1)) (tally.next-none (ends c s) most n (g .all) (omega arith))
+      outer l = limits (omega (arith, g .all, tally.counted-le (stopsAt c s) most n .1)) (tally.next-none (stopsAt c s) most n (g .all) (omega arith))
 
-      inner : n < most → (x : Bool) → ends c s n ≡ x → Next n
+      inner : n < most → (x : Bool) → stopsAt c s n ≡ x → Next n
       inner l true e =
-          let m : counted c s (suc n) ≡ n = tally.next-counted (ends c s) most n (g .all) l ∙ ap (λ (x : Bool). cond x n (suc n)) e in
-          stops l e m (tally.next-judged (ends c s) most n (g .all) l) (rw (lt-ltb (counted c s (suc n)) (min (suc n) most) (omega arith)))
+          let m : counted c s (suc n) ≡ n = tally.next-counted (stopsAt c s) most n (g .all) l ∙ ap (λ (x : Bool). cond x n (suc n)) e in
+          stops l e m (tally.next-judged (stopsAt c s) most n (g .all) l) (rw (lt-ltb (counted c s (suc n)) (min (suc n) most) (omega arith)))
       inner l false e =
-          let m : counted c s (suc n) ≡ suc n = tally.next-counted (ends c s) most n (g .all) l ∙ ap (λ (x : Bool). cond x n (suc n)) e in
-          goes l e m (tally.next-judged (ends c s) most n (g .all) l) (rw (le-ltb (counted c s (suc n)) (min (suc n) most) (omega arith)))
+          let m : counted c s (suc n) ≡ suc n = tally.next-counted (stopsAt c s) most n (g .all) l ∙ ap (λ (x : Bool). cond x n (suc n)) e in
+          goes l e m (tally.next-judged (stopsAt c s) most n (g .all) l) (rw (le-ltb (counted c s (suc n)) (min (suc n) most) (omega arith)))
 
 -- where a sample closes its own share, as many are closed as are counted
 pub closed-own : (c : Course) (s : ℕ → Moment) → c .share .ahead ≡ 0 → (n : ℕ) → closed c s n ≡ counted c s n
-closed-own c s e n = omega (arith, tally.counted-le (ends c s) (c .layout .most) n .0)
+closed-own c s e n = omega (arith, tally.counted-le (stopsAt c s) (c .layout .most) n .0)

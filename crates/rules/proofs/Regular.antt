@@ -1,4 +1,4 @@
--- The regular method is a course that has the facts, and wider tolerances make a wider rule. The cycle breaks no rule.
+-- The regular method is a course that has the facts, and wider tolerances make a wider rule.
 -- Assumes nothing.
 use mathlib.Core.Bool.{Bool, true, false, not, cond}
 use mathlib.Core.List.{List}
@@ -26,6 +26,7 @@ use Rattle.rules.proofs.Band.{Widened, inside-wider}
 use Rattle.rules.proofs.Facts.{Orderly, Near, Lawful, Wider}
 use Rattle.rules.proofs.Bounds.{Within, rowPlaces, places-row, figure-in-bounds}
 use Rattle.rules.proofs.Maps.{shown-cycle}
+use Rattle.rules.proofs.Gathered.{Ends, phase-ends-by}
 
 pub own-near : Near own
 own-near = record {
@@ -36,7 +37,11 @@ own-near = record {
   distance-most = λ s j v h. omega (arith, h j (omega arith));
 }
 
-module _ (b : List ℕ) (o : Sound b) where
+-- any bytes as the cycle: a sample is settled by itself, and stands before the end of its phase
+module _ (b : List ℕ) where
+  pub regular-lawful : (t : Tolerances) → Lawful (regular b t)
+  regular-lawful t = record { back = record { halts-by = λ v v′ j e. refl }; near = own-near }
+
   phase-not-past : (j k : ℕ) → phaseAt b (positionOf b j) ≡ k → (x : Bool) → ltb k (phases b) ≡ x
       → T (reached (cond x (after (cycleOf b j * positions b + 20 * phaseEnd b k)) never) j) → ⊥
   phase-not-past j k e true g t =
@@ -44,20 +49,22 @@ module _ (b : List ℕ) (o : Sound b) where
       omega (arith, phase-before b (positionOf b j) k (ltb-true k (phases b) g) e, div-add-mod' j (positions b))
   phase-not-past j k e false g t = t
 
+  pub regular-phase-ends : (c k : ℕ) → Ends (phasePart (regularLayout b) c k)
+  regular-phase-ends = phase-ends-by (regularLayout b) (λ j. phase-not-past j _ refl _ refl)
+
+-- a cycle that breaks no rule
+module _ (b : List ℕ) (o : Sound b) where
   pub regular-orderly : Orderly (regularLayout b)
   regular-orderly = record {
     begun = λ j. omega (arith, div-add-mod' j (positions b));
     row-open = λ j t. omega (arith, leb→le (suc (cycleOf b j) * positions b) j t, div-add-mod' j (positions b), mod-lt j (real o));
-    phase-open = λ j. phase-not-past j _ refl _ refl;
+    phase-open = λ j. phase-not-past b j _ refl _ refl;
     few-rows = λ j l. div-lt-iff-lt-mul {x = j} {y = mostCycles} (real o) .1 l;
     few-phases = λ j. four b (positionOf b j) o (mod-lt j (real o));
     joined = λ j h.
         let q = suc j / positions b in
         sym (digits j (positions b) q (j - q * positions b) (omega (arith, div-add-mod' (suc j) (positions b), mod-lt (suc j) (real o))) (omega arith) .1);
   }
-
-  pub regular-lawful : (t : Tolerances) → Lawful (regular b t)
-  regular-lawful t = record { orderly = regular-orderly; back = record { halts-by = λ v v′ j e. refl }; near = own-near }
 
   pub regular-wider : (t t′ : Tolerances) → Widened t t′ → Wider (regularRule b t) (regularRule b t′)
   regular-wider t t′ w = record {

@@ -12,7 +12,7 @@ use Rattle.numbers.proofs.Tests.{refuted, true-T, T-true}
 use Rattle.rules.specs.Tally.{over}
 use Rattle.rules.proofs.Tally as tally
 use Rattle.rules.specs.Bench.{Moment, none, stop, limit}
-use Rattle.rules.specs.Course.{Layout, Rule, Share, Course, course, out, outside, ends, counted, stopped, judged, closed, ending}
+use Rattle.rules.specs.Course.{Layout, Rule, Share, Course, course, out, outside, stopsAt, counted, stopped, judged, closed, ending}
 use Rattle.rules.specs.Parts.{Part, rowPart, finished, cycles}
 use Rattle.rules.proofs.Facts.{Orderly, Wider}
 use Rattle.rules.proofs.Gathered.{Ends, row-ends, past-finished, cycles-more, PartKept, kept, alike-refl, closed-judged}
@@ -35,7 +35,7 @@ module _ (l : Layout) (r r′ : Rule) (h : Share) (w : Wider r r′) (s : ℕ �
   outside-wider : (k m : ℕ) → outside c′ s k m ≤ outside c s k m
   outside-wider = tally.outside-fewer (l .row) (out c s) (out c′ s) out-wider
 
-  ends-wider : (j : ℕ) → T (ends c′ s j) → T (ends c s j)
+  ends-wider : (j : ℕ) → T (stopsAt c′ s j) → T (stopsAt c s j)
   ends-wider j =
       let v : ℕ → ℕ = λ i. s i .speed in
       or-mono (r′ .halts v j) (over (l .row) (out c′ s) (r′ .allowance) j) (r .halts v j) (over (l .row) (out c s) (r .allowance) j)
@@ -45,13 +45,13 @@ module _ (l : Layout) (r r′ : Rule) (h : Share) (w : Wider r r′) (s : ℕ �
   module _ (n : ℕ) where
     -- the stop comes no earlier, and no stop comes where none was
     pub counted-wider : counted c s n ≤ counted c′ s n
-    counted-wider = tally.counted-fewer (ends c s) (ends c′ s) ends-wider (l .most) n
+    counted-wider = tally.counted-fewer (stopsAt c s) (stopsAt c′ s) ends-wider (l .most) n
 
     pub closed-wider : closed c s n ≤ closed c′ s n
     closed-wider = omega (arith, counted-wider)
 
     pub stopped-wider : T (stopped c′ s n) → T (stopped c s n)
-    stopped-wider = tally.stopped-fewer (ends c s) (ends c′ s) ends-wider (l .most) n
+    stopped-wider = tally.stopped-fewer (stopsAt c s) (stopsAt c′ s) ends-wider (l .most) n
 
     pub stop-wider : ending c′ s n ≡ stop → ending c s n ≡ stop
     stop-wider e = rw (T-true (stopped c s n) (stopped-wider (true-T (ended (stopped c′ s n) (ltb (closed c′ s n) (l .most)) e))))
@@ -88,9 +88,9 @@ module _ (l : Layout) (r r′ : Rule) (h : Share) (w : Wider r r′) (s : ℕ �
 
     pub unstopped-wider : stopped c s n ≡ false → Unstopped
     unstopped-wider e =
-        let counted-same = tally.counted-all (ends c s) (ends c′ s) ends-wider (l .most) n e in
+        let counted-same = tally.counted-all (stopsAt c s) (stopsAt c′ s) ends-wider (l .most) n e in
         let no-stop = refuted (stopped c′ s n) (λ g. subst T e (stopped-wider (true-T g))) in
-        let judged-same = tally.judged-alike (ends c s) (ends c′ s) (l .most) n n counted-same (no-stop ∙ sym e) in
+        let judged-same = tally.judged-alike (stopsAt c s) (stopsAt c′ s) (l .most) n n counted-same (no-stop ∙ sym e) in
         let closed-same : closed c′ s n ≡ closed c s n = omega arith in
         record {
           no-stop = no-stop;

@@ -11,7 +11,7 @@ use Rattle.numbers.specs.Whole.{eqZ}
 use Rattle.rules.specs.Bench.{Moment, Tolerances, End, none, stop, limit, drawn}
 use Rattle.rules.specs.Cycle.{valid}
 use Rattle.rules.specs.Band.{inside}
-use Rattle.rules.specs.Course.{closedOf, endingOf, outside, counted, judged}
+use Rattle.rules.specs.Course.{closedWhere, endingWhere, outside, counted, judged}
 use Rattle.rules.specs.Parts.{cycles}
 use Rattle.rules.specs.Regular.{positionOf, regular}
 use Rattle.rules.specs.Closing.{weighted, closingRefusal}
@@ -104,7 +104,7 @@ holds (drive j s a e m c os) =
     let y = regular (bytes (record { a = 100; b = 100; c = 100 })) (tolerances s 20 a) in
     let x = fastFrom j in
     let o : ℕ → Bool = λ k. eqb (outside y x k (judged y x 120)) (getD os k 0) in
-    eqb (counted y x 120) m && sameEnd (endingOf y 120 m) e && eqb (cycles (y .layout) (closedOf y 120 m)) c && o 0 && o 1 && o 2
+    eqb (counted y x 120) m && sameEnd (endingWhere y 120 m) e && eqb (cycles (y .layout) (closedWhere y 120 m)) c && o 0 && o 1 && o 2
 holds (draws u i z) = eqZ (drawn (record { speed = 0; voltage = u; current = i })) z
 holds (weighs E e₁ e₂ n qs W) = eqb (weighted E n (λ c. getD (e₁ ∷ e₂ ∷ []) c 0) (λ c. getD qs c 0)) W
 holds (closes E es ds k) = eqb (closingRefusal E (length es) (λ c. getD es c (pos 0)) (λ c. getD ds c (pos 0))) k

@@ -55,12 +55,12 @@ course l r h = record { layout = l; rule = r; share = h }
 -- of n samples offered, where m are counted
 module _ (c : Course) (n m : ℕ) where
   -- how many shares are closed: those of counted samples, so far as the samples that close them are offered
-  abbrev pub closedOf : ℕ
-  closedOf = min (n - c .share .ahead) m
+  abbrev pub closedWhere : ℕ
+  closedWhere = min (n - c .share .ahead) m
 
   -- "The run also ends, by limit, when" as many shares as can be are closed
-  abbrev pub endingOf : End
-  endingOf = cond (ltb m (tally.room (c .layout .most) n)) stop (cond (ltb closedOf (c .layout .most)) none limit)
+  abbrev pub endingWhere : End
+  endingWhere = cond (ltb m (tally.room (c .layout .most) n)) stop (cond (ltb closedWhere (c .layout .most)) none limit)
 
 module _ (c : Course) (s : ℕ → Moment) where
   -- sample j is outside
@@ -72,21 +72,21 @@ module _ (c : Course) (s : ℕ → Moment) where
   outside = tally.outside (c .layout .row) out
 
   -- sample j stops the run
-  abbrev pub ends : ℕ → Bool
-  ends j = c .rule .halts (λ i. s i .speed) j || tally.over (c .layout .row) out (c .rule .allowance) j
+  abbrev pub stopsAt : ℕ → Bool
+  stopsAt j = c .rule .halts (λ i. s i .speed) j || tally.over (c .layout .row) out (c .rule .allowance) j
 
   -- how many are counted, whether the run stopped, how many are judged, how many shares are closed, how the run ended
   abbrev pub counted : ℕ → ℕ
-  counted = tally.counted ends (c .layout .most)
+  counted = tally.counted stopsAt (c .layout .most)
 
   abbrev pub stopped : ℕ → Bool
-  stopped = tally.stopped ends (c .layout .most)
+  stopped = tally.stopped stopsAt (c .layout .most)
 
   abbrev pub judged : ℕ → ℕ
-  judged = tally.judged ends (c .layout .most)
+  judged = tally.judged stopsAt (c .layout .most)
 
   abbrev pub closed : ℕ → ℕ
-  closed n = closedOf c n (counted n)
+  closed n = closedWhere c n (counted n)
 
   abbrev pub ending : ℕ → End
-  ending n = endingOf c n (counted n)
+  ending n = endingWhere c n (counted n)

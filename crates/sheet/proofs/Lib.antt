@@ -1,5 +1,5 @@
 -- The laws of what is printed.
 pub mod Digits
 pub mod Signs
-pub mod Laid
+pub mod Overlaid
 pub mod Rows

@@ -1,4 +1,4 @@
 -- What the report prints, byte for byte.
-pub mod Laid
+pub mod Overlaid
 pub mod Text
 pub mod Rows

@@ -5,7 +5,7 @@ ghost use mathlib.Core.Path.{_≡_};
 ghost use lib.Dec.{leb};
 ghost use lib.ListN.{length};
 ghost use Rattle.numbers.specs.Tests.{unless};
-ghost use Rattle.sheet.specs.Laid.{laid};
+ghost use Rattle.sheet.specs.Overlaid.{overlaid};
 ghost use Rattle.sheet.specs.Text.{mostSheet, sheetText, refusalText};
 
 mod lines;
@@ -33,7 +33,7 @@ pub fn sheet_lines(f: Figures, out: &mut [u8]) -> usize
     ensures { λ r. ⌜ r ≡ unless 0 (leb mostSheet (length (now (out .entry)))) (length (sheetText f)) ⌝ }
     ensures { λ _. ⌜
         now (out .exit)
-        ≡ unless (now (out .entry)) (leb mostSheet (length (now (out .entry)))) (laid (now (out .entry)) 0 (sheetText f))
+        ≡ unless (now (out .entry)) (leb mostSheet (length (now (out .entry)))) (overlaid (now (out .entry)) 0 (sheetText f))
         ⌝ }
 {
     if out.len() < MOST_SHEET {
@@ -49,7 +49,7 @@ pub fn refusal_line(number: u32, field: u64, out: &mut [u8]) -> usize
     ensures { λ r. ⌜ r ≡ unless 0 (leb mostSheet (length (now (out .entry)))) (length (refusalText number field)) ⌝ }
     ensures { λ _. ⌜
         now (out .exit)
-        ≡ unless (now (out .entry)) (leb mostSheet (length (now (out .entry)))) (laid (now (out .entry)) 0 (refusalText number field))
+        ≡ unless (now (out .entry)) (leb mostSheet (length (now (out .entry)))) (overlaid (now (out .entry)) 0 (refusalText number field))
         ⌝ }
 {
     if out.len() < MOST_SHEET {

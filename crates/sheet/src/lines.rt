@@ -9,7 +9,7 @@ use rules::End;
 ghost use mathlib.Core.Path.{_≡_};
 ghost use Prim.Native.Nat.{_+_, _≤_};
 ghost use lib.ListN.{length};
-ghost use Rattle.sheet.specs.Laid.{Wrote};
+ghost use Rattle.sheet.specs.Overlaid.{Wrote};
 ghost use Rattle.sheet.specs.Text.{digits, signed, line, endLine, isRefused, figureLine, headLines, countLines, closingLines};
 
 fn text_line(out: &mut [u8], at: usize, word: &[u8], value: &[u8]) -> usize

@@ -17,7 +17,7 @@ use Rattle.numbers.proofs.Signed.{sfits, read}
 use Rattle.rules.specs.Closing.{isRate, rateOf, closingRefusal, mostWhole}
 use Rattle.ledger.specs.Row.{energyIn, distanceIn}
 use Rattle.ledger.proofs.Bounded.{energy-sized}
-use Rattle.consumption.specs.Figures.{Closable, closedOf}
+use Rattle.consumption.specs.Figures.{Closable, closingIn}
 use Rattle.consumption.proofs.Weights.{Positive, positive, Cast, cast, machine, some, closed-refused}
 use Rattle.consumption.proofs.close.Statement.{statement}
 use Rattle.consumption.proofs.close.Tie as tie
@@ -181,7 +181,7 @@ finish-requires c κs =
 returns-5 : tie.Need-returns-5
 returns-5 c =
     let a = begin (c .before) .args in
-    c .finish .ensures ∙ ap (closedOf (a .ledger .now) (a .n)) (total-is (c .before))
+    c .finish .ensures ∙ ap (closingIn (a .ledger .now) (a .n)) (total-is (c .before))
 
 pub close-spec : {M : Type 1} → statement M
 close-spec =

@@ -3,7 +3,7 @@
 use native.Mathlib.Omega.{arith}
 use borrow.Author.Needs.{needs}
 use Rattle.sheet.specs.Text.{refusalText}
-use Rattle.sheet.proofs.Laid.{wrote-then, kept-whole, too-short}
+use Rattle.sheet.proofs.Overlaid.{wrote-then, kept-whole, too-short}
 use Rattle.sheet.proofs.refusal_line.Statement.{statement}
 use Rattle.sheet.proofs.refusal_line.Tie as tie
 

@@ -2,7 +2,7 @@
 -- Assumes nothing.
 use native.Mathlib.Omega.{arith}
 use borrow.Author.Needs.{needs}
-use Rattle.sheet.proofs.Laid.{wrote-then, kept-whole, too-short}
+use Rattle.sheet.proofs.Overlaid.{wrote-then, kept-whole, too-short}
 use Rattle.sheet.proofs.sheet_lines.Statement.{statement}
 use Rattle.sheet.proofs.sheet_lines.Tie as tie
 

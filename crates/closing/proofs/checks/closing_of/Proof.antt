@@ -4,7 +4,7 @@ use mathlib.Core.Path.{_≡_, sym, ap, ap₂, _∙_}
 use Prim.Native.Nat.{ℕ}
 use native.Mathlib.Omega.{arith}
 use borrow.Author.Needs.{needs}
-use Rattle.consumption.specs.Figures.{closedOf}
+use Rattle.consumption.specs.Figures.{closingIn}
 use Rattle.closing.specs.Answers.{grounds}
 use Rattle.closing.proofs.Grounds.{Standing, standing, closing-refused, closing-taken, whole-fits, whole-read}
 use Rattle.closing.proofs.checks.closing_of.Statement.{statement}
@@ -48,7 +48,7 @@ returns-2 c =
     let on = c .before .before .before .before .before in
     let s = facts on in
     c .close .ensures
-    ∙ ap₂ (closedOf (on .before .before .before .before .args .ledger .now)) (c .before .before .before .before .cycles-of .ensures .0) (whole-read s _ (c .before .before .before .energy-all .ensures))
+    ∙ ap₂ (closingIn (on .before .before .before .before .args .ledger .now)) (c .before .before .before .before .cycles-of .ensures .0) (whole-read s _ (c .before .before .before .energy-all .ensures))
     ∙ closing-taken _ _ _ _ _ (taken on)
 
 pub closing-of-spec : {M : Type 1} → statement M

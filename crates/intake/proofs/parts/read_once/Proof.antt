@@ -7,7 +7,7 @@ use native.Mathlib.Omega.{arith}
 use lib.ListN.{length, take, drop, length-take, length-drop}
 use borrow.Rule.Slice.PartMut.{putMid, take-put}
 use Rattle.edges.specs.Answers.{Within}
-use Rattle.intake.specs.Turns.{Place, Goes, Stood}
+use Rattle.intake.specs.Turns.{Round, Goes, Stood}
 use Rattle.intake.proofs.Coming.{within-more, goes-by, stood-by}
 use borrow.Author.Needs.{needs}
 use Rattle.intake.proofs.parts.read_once.Statement.{statement}
@@ -99,7 +99,7 @@ returns c =
     let s = f .before .before .before .before .before .before in
     let w = space came in
     let e = turned .turn-by .ensures in (
-      subst⁻¹ (Goes (s .args .left)) (ap (λ (p : Place). p .turn) e) (goes-by (f .fill .result) _ (s .args .held) (s .args .left) (filled f) (s .pre .0) (w .0) (w .1) (w .2)),
+      subst⁻¹ (Goes (s .args .left)) (ap (λ (p : Round). p .turn) e) (goes-by (f .fill .result) _ (s .args .held) (s .args .left) (filled f) (s .pre .0) (w .0) (w .1) (w .2)),
       λ x₀ most stood. subst⁻¹ (Stood x₀ most) e (stood-by x₀ most _ _ _ _ _ _ _ stood (filled f) (still-held f) (f .fill .result) (w .0) (w .1) (w .2)),
     )
 

@@ -7,7 +7,7 @@ use lib.ListN.{length}
 use Rattle.edges.specs.declared.Got.{Got}
 use Rattle.edges.specs.Answers.{Within}
 use Rattle.desk.specs.Feeding.{Laid, laidOf}
-use Rattle.intake.specs.Turns.{placeOf, placeBy}
+use Rattle.intake.specs.Turns.{roundOf, roundBy}
 use Rattle.intake.proofs.Coming.{stops}
 use borrow.Author.Needs.{needs}
 use Rattle.intake.proofs.parts.turn_by.Statement.{statement}
@@ -37,7 +37,7 @@ returns : tie.Need-returns
 returns c =
     let s = c .before .before .before .before .before in
     let e = c .stopped-by .ensures in
-    (λ i. placeOf (record { turned = e i; desk = s .args .desk; held = s .args .held; left = s .args .left }) (s .args .buffer .now) (s .args .room .now) (s .args .ledger .now) (s .args .map .now))
+    (λ i. roundOf (record { turned = e i; desk = s .args .desk; held = s .args .held; left = s .args .left }) (s .args .buffer .now) (s .args .room .now) (s .args .ledger .now) (s .args .map .now))
     ∙ stops (s .args .got) (c .before .match .keys2) (laid s) (s .args .held) (s .args .left) (s .args .buffer .now)
 
 add-digest : tie.Need-add-digest
@@ -67,7 +67,7 @@ returns-2 c =
     let known = taken .before .before .before .before .before .before in
     let s = entry known in
     taken .digest .ensures
-    ∙ ap (λ (g : Got). placeBy g (laid s) (s .args .held) (s .args .left) (s .args .buffer .now)) (sym (known .got .given .1))
+    ∙ ap (λ (g : Got). roundBy g (laid s) (s .args .held) (s .args .left) (s .args .buffer .now)) (sym (known .got .given .1))
 
 pub turn-by-spec : {M : Type 1} → statement M
 turn-by-spec =

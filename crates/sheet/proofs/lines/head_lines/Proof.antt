@@ -5,7 +5,7 @@ use native.Mathlib.Omega.{arith}
 use borrow.Author.Needs.{needs}
 use lib.ListN.{length}
 use Rattle.sheet.specs.Text.{headLines}
-use Rattle.sheet.proofs.Laid.{wrote-then, wrote-most}
+use Rattle.sheet.proofs.Overlaid.{wrote-then, wrote-most}
 use Rattle.sheet.proofs.lines.head_lines.Statement.{statement}
 use Rattle.sheet.proofs.lines.head_lines.Tie as tie
 

@@ -3,7 +3,7 @@
 use native.Mathlib.Omega.{arith}
 use borrow.Author.Needs.{needs}
 use Rattle.sheet.specs.Text.{line}
-use Rattle.sheet.proofs.Laid.{wrote-then, wrote-most}
+use Rattle.sheet.proofs.Overlaid.{wrote-then, wrote-most}
 use Rattle.sheet.proofs.lines.number_line.Statement.{statement}
 use Rattle.sheet.proofs.lines.number_line.Tie as tie
 

@@ -7,7 +7,7 @@ use borrow.Author.Needs.{needs}
 use lib.IntN.{ℤ}
 use Rattle.numbers.proofs.Signed.{read}
 use Rattle.sheet.specs.Text.{line, signed}
-use Rattle.sheet.proofs.Laid.{wrote-then, wrote-most, wrote-is}
+use Rattle.sheet.proofs.Overlaid.{wrote-then, wrote-most, wrote-is}
 use Rattle.sheet.proofs.lines.signed_line.Statement.{statement}
 use Rattle.sheet.proofs.lines.signed_line.Tie as tie
 

@@ -12,7 +12,7 @@ use lib.Dec.{lit<}
 use lib.ListN.{length, length-append}
 use Rattle.sheet.specs.Text.{digits}
 use Rattle.sheet.proofs.Digits.{tenth, digits-small, digits-more}
-use Rattle.sheet.proofs.Laid.{one-byte, wrote-is, wrote-tight, wrote-byte}
+use Rattle.sheet.proofs.Overlaid.{one-byte, wrote-is, wrote-tight, wrote-byte}
 use Rattle.sheet.proofs.text.put_digits.Reads as reads
 use Rattle.sheet.proofs.text.put_digits.Kinds as kinds
 use Rattle.sheet.proofs.text.+put_digits.Lts-put_digits as lts

@@ -8,7 +8,7 @@ use native.Mathlib.Numerals.{add-one}
 use native.Mathlib.Omega.{arith}
 use lib.ListN.{length, getD, set, take, drop}
 use lib.Seq.{paste, paste-zero, paste-suc, length-paste, take-length}
-use Rattle.sheet.specs.Laid.{laid}
+use Rattle.sheet.specs.Overlaid.{overlaid}
 use Rattle.sheet.proofs.text.put.Statement.{statement}
 use Rattle.sheet.proofs.text.put.Tie as tie
 
@@ -60,7 +60,7 @@ same-length : tie.Need-same-length Inv-loop μ-loop
 same-length c = long (c .before)
 
 returns : tie.Need-returns Inv-loop μ-loop
-unfolding laid
+unfolding overlaid
 returns c =
     let on = c .before in
     let s = on .before in

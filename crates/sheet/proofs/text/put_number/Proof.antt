@@ -6,7 +6,7 @@ use borrow.Author.Needs.{needs}
 use lib.ListN.{length}
 use Rattle.sheet.specs.Text.{digits}
 use Rattle.sheet.proofs.Digits.{digits-most}
-use Rattle.sheet.proofs.Laid.{wrote-most, wrote-byte}
+use Rattle.sheet.proofs.Overlaid.{wrote-most, wrote-byte}
 use Rattle.sheet.proofs.text.put_number.Statement.{statement}
 use Rattle.sheet.proofs.text.put_number.Tie as tie
 

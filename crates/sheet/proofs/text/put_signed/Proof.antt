@@ -10,7 +10,7 @@ use lib.ListN.{length-set}
 use Rattle.numbers.proofs.Signed.{read}
 use Rattle.sheet.proofs.Digits.{signed-negative, signed-natural}
 use Rattle.sheet.proofs.Signs.{sign-read}
-use Rattle.sheet.proofs.Laid.{one-byte, wrote-then, wrote-most, wrote-is}
+use Rattle.sheet.proofs.Overlaid.{one-byte, wrote-then, wrote-most, wrote-is}
 use Rattle.sheet.proofs.text.put_signed.Statement.{statement}
 use Rattle.sheet.proofs.text.put_signed.Tie as tie
 

@@ -2,7 +2,7 @@
 -- Assumes nothing.
 use native.Mathlib.Omega.{arith}
 use borrow.Author.Needs.{needs}
-use Rattle.sheet.proofs.Laid.{wrote-byte}
+use Rattle.sheet.proofs.Overlaid.{wrote-byte}
 use Rattle.sheet.proofs.text.put_text.Statement.{statement}
 use Rattle.sheet.proofs.text.put_text.Tie as tie
 

@@ -1,4 +1,4 @@
--- Text laid over bytes: one text after another is both in one, and a byte is stored.
+-- Text overlaid over bytes: one text after another is both in one, and a byte is stored.
 -- Assumes nothing.
 use mathlib.Core.List.{List, [], _∷_, _++_, append-assoc}
 use mathlib.Core.Path.{_≡_, refl, sym, ap, ap₂, _∙_, subst}
@@ -11,12 +11,12 @@ use lib.ListN.{length, take, drop, set, length-append}
 use lib.Seq.{length-take-le, take-at, drop-at, drop-drop, set-split, append-snoc, paste-zero}
 use Rattle.numbers.specs.Tests.{unless}
 use Rattle.numbers.proofs.Tests.{pass, stop, tests}
-use Rattle.sheet.specs.Laid.{laid, Wrote}
+use Rattle.sheet.specs.Overlaid.{overlaid, Wrote}
 use Rattle.sheet.specs.Text.{mostSheet}
 
-pub laid-then : (out : List ℕ) (at : ℕ) (a b : List ℕ) → at ≤ length out → laid (laid out at a) (at + length a) b ≡ laid out at (a ++ b)
-unfolding laid
-laid-then out at a b h =
+pub overlaid-then : (out : List ℕ) (at : ℕ) (a b : List ℕ) → at ≤ length out → overlaid (overlaid out at a) (at + length a) b ≡ overlaid out at (a ++ b)
+unfolding overlaid
+overlaid-then out at a b h =
     let p : List ℕ = take at out ++ a in
     let d : List ℕ = drop (at + length a) out in
     let n : length p ≡ at + length a = length-append (take at out) a ∙ ap (λ (k : ℕ). k + length a) (length-take-le at out h) in
@@ -26,9 +26,9 @@ laid-then out at a b h =
     (sym (drop-drop (length b) (at + length a) (p ++ d)) ∙ ap (drop (length b)) (drop-at p d (at + length a) n) ∙ drop-drop (length b) (at + length a) out)
     ∙ ap₂ (λ (x : List ℕ) (k : ℕ). x ++ drop k out) (append-assoc (take at out) a b) e
 
-pub laid-byte : (out : List ℕ) (at v : ℕ) → at < length out → set out at v ≡ laid out at (v ∷ [])
-unfolding laid
-laid-byte out at v h =
+pub overlaid-byte : (out : List ℕ) (at v : ℕ) → at < length out → set out at v ≡ overlaid out at (v ∷ [])
+unfolding overlaid
+overlaid-byte out at v h =
     set-split out at v h
     ∙ sym (append-snoc (take at out) v _)
     ∙ ap (λ (k : ℕ). take at out ++ v ∷ [] ++ drop k out) (sym (add-one at))
@@ -36,11 +36,11 @@ laid-byte out at v h =
 -- ---- what the functions promise
 
 pub nothing : (out : List ℕ) (at : ℕ) → Wrote 0 out at [] out at
-unfolding laid
+unfolding overlaid
 nothing out at = record { most = le-refl 0; place = sym (add-zero at); bytes = paste-zero out at [] }
 
 pub one-byte : (out : List ℕ) (at v : ℕ) → at < length out → Wrote 1 out at (v ∷ []) (set out at v) (at + 1)
-one-byte out at v h = record { most = le-refl 1; place = refl; bytes = laid-byte out at v h }
+one-byte out at v h = record { most = le-refl 1; place = refl; bytes = overlaid-byte out at v h }
 
 module _ {out o₁ o₂ : List ℕ} {at r₁ r₂ : ℕ} {a b : List ℕ} where
   -- one text, and then another
@@ -48,7 +48,7 @@ module _ {out o₁ o₂ : List ℕ} {at r₁ r₂ : ℕ} {a b : List ℕ} where
   wrote-then w v h = record {
     most = omega (arith, length-append a b, w .most, v .most);
     place = omega (arith, length-append a b, w .place, v .place);
-    bytes = v .bytes ∙ ap₂ (λ (l : List ℕ) (k : ℕ). laid l k b) (w .bytes) (w .place) ∙ laid-then out at a b h;
+    bytes = v .bytes ∙ ap₂ (λ (l : List ℕ) (k : ℕ). overlaid l k b) (w .bytes) (w .place) ∙ overlaid-then out at a b h;
   }
 
 module _ {out o₁ : List ℕ} {at r₁ : ℕ} {a : List ℕ} where
@@ -71,9 +71,9 @@ module _ {out o₁ : List ℕ} {at r₁ : ℕ} {a : List ℕ} where
 
 module _ (out text : List ℕ) where
   pub kept-whole : {m r : ℕ} {o : List ℕ} → Wrote m out 0 text o r → mostSheet ≤ length out
-      → (r ≡ unless 0 (leb mostSheet (length out)) (length text)) × (o ≡ unless out (leb mostSheet (length out)) (laid out 0 text))
+      → (r ≡ unless 0 (leb mostSheet (length out)) (length text)) × (o ≡ unless out (leb mostSheet (length out)) (overlaid out 0 text))
   kept-whole w h = (pass 0 (omega tests) (w .place ∙ zero-add (length text)), pass out (omega tests) (w .bytes))
 
   pub too-short : length out < mostSheet
-      → (_≡_ {A = ℕ} 0 (unless 0 (leb mostSheet (length out)) (length text))) × (out ≡ unless out (leb mostSheet (length out)) (laid out 0 text))
-  too-short h = (stop (length text) (omega tests), stop (laid out 0 text) (omega tests))
+      → (_≡_ {A = ℕ} 0 (unless 0 (leb mostSheet (length out)) (length text))) × (out ≡ unless out (leb mostSheet (length out)) (overlaid out 0 text))
+  too-short h = (stop (length text) (omega tests), stop (overlaid out 0 text) (omega tests))
