@@ -2,12 +2,11 @@
 -- Assumes nothing.
 use mathlib.Core.Bool.{Bool, true, false, cond}
 use mathlib.Core.List.{List}
-use mathlib.Core.Path.{_≡_, refl, sym, ap, _∙_}
-use Prim.Native.Nat.{ℕ, _+_, _-_, _*_, _≤_, _<_, min}
+use mathlib.Core.Path.{_≡_, sym, ap, _∙_}
+use Prim.Native.Nat.{ℕ, _+_, _-_, _*_, _≤_, _<_}
 use native.Mathlib.Nat.{add-zero, div-lt-iff-lt-mul}
 use native.Mathlib.Numerals.{add-one}
 use native.Mathlib.Omega.{arith}
-use borrow.Author.Tests.{ltb-true}
 use lib.Dec.{ltb}
 use lib.IntN.{ℤ, pos}
 use lib.ListN.{length}
@@ -21,7 +20,7 @@ use Rattle.rules.specs.Shown.{shownRow}
 use Rattle.rules.proofs.NineNumbers.{outside-figure}
 use Rattle.rules.proofs.Regular.{shown-last}
 use Rattle.rules.proofs.Sound.{real}
-use Rattle.rules.proofs.Tally.{counted-le}
+use Rattle.rules.proofs.Tally.{judged-le}
 use Rattle.ledger.specs.Row.{outsideIn}
 use Rattle.state.specs.declared.Run.{Run}
 use Rattle.state.specs.Refusals.{judgedBy, lastCycle}
@@ -49,11 +48,7 @@ module _ (p : Plan) (l₀ : List ℤ) (m₀ : List ℕ) {xs : List Moment} {r : 
       go false false k = sym (add-zero k)
 
   judged-most : judged c s n ≤ c .layout .most
-  judged-most = go (stopped c s n) refl
-    where
-      go : (x : Bool) → stopped c s n ≡ x → counted c s n + bit x ≤ c .layout .most
-      go true e = omega (arith, ltb-true (counted c s n) (min n (c .layout .most)) e)
-      go false e = omega (arith, counted-le (stopsAt c s) (c .layout .most) n .1)
+  judged-most = judged-le (stopsAt c s) (c .layout .most) n .1
 
   pub last-cycle-is : lastCycle r (p .cycle) ≡ shownRow (c .layout) (judged c s n)
   last-cycle-is =

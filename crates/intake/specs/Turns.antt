@@ -131,7 +131,7 @@ pub record Stood (x₀ : Laid) (most : ℕ) (p : Round) : Type 0 where
   pub held : outcomeBy (p .turn .turned) ≡ More → (rest ≡ take (p .turn .held) (p .buffer)) × (length rest ≡ p .turn .held)
   pub all : length bytes + p .turn .left ≡ most
 
--- a turn leads from place to place: whatever record stood here stands there
+-- a turn leads from round to round: whatever record stood here stands there
 abbrev pub Leads : Round → Round → Type 0
 Leads p q = (x₀ : Laid) (most : ℕ) → Stood x₀ most p → Stood x₀ most q
 

@@ -52,11 +52,7 @@ first-later p q m n l h =
     ⊎-elim (λ g. omega (arith, first-le p m)) (λ g. first-least p m (first q n) (h (first q n) g (first-at q n (omega arith))))
     (side m (first q n))
 
--- a first that is below n stays in a longer range, and one more number is looked at where there is none
-pub first-stays : (p : ℕ → Bool) (m n : ℕ) → m ≤ n → first p m < m → first p n ≡ first p m
-first-stays p m n l h =
-    le-antisymm (first-least p n (first p m) (first-at p m h)) (first-later p p m n l (λ k g t. t))
-
+-- one more number is looked at where there is none
 pub first-next : (p : ℕ → Bool) (n : ℕ) → first p n ≡ n → first p (suc n) ≡ cond (p n) n (suc n)
 first-next p n e = go (p n) refl
   where

@@ -76,9 +76,6 @@ kept {h} {p} {s} {s′} {m} m′ e a l f =
 -- ---- how many are closed: no more than are counted, and each with the samples that close it
 
 module _ (c : Course) (s : ℕ → Moment) (n : ℕ) where
-  pub closed-counted : closed c s n ≤ counted c s n
-  closed-counted = omega arith
-
   pub closed-most : closed c s n ≤ c .layout .most
   closed-most = omega (arith, counted-le (stopsAt c s) (c .layout .most) n .1)
 

@@ -10,7 +10,6 @@ use borrow.Author.Tests.{ltb-true, ltb-false, le-ltb}
 use lib.Dec.{T, ltb}
 use lib.IntN.{pos, _+ℤ_}
 use lib.ListN.{length, length-append, List·getD-append}
-use Rattle.numbers.specs.Tests.{bit}
 use Rattle.numbers.proofs.Range.{fold-same, gather-rest, gather-same}
 use Rattle.numbers.proofs.Tests.{true-T, T-true}
 use Rattle.rules.specs.Bench.{Moment, none, stop, limit, isOpen}
@@ -72,13 +71,6 @@ module _ (c : Course) (f : Lawful c) (s s′ : ℕ → Moment) (n n′ : ℕ) (m
       ∙ tally.outside-longer (c .layout .row) (out c s) (out c s′) n out-longer k (closed c s n) (omega arith)
       ∙ sym (gather-rest _+_ 0 add-zero _ _ _ past (judged c s n) (closed-judged c s n))
 
-  judged-in : judged c s n ≤ n
-  judged-in = go (stopped c s n) refl
-    where
-      go : (x : Bool) → stopped c s n ≡ x → counted c s n + bit x ≤ n
-      go true e = omega (arith, ltb-true (counted c s n) (min n (c .layout .most)) e)
-      go false e = omega (arith, tally.counted-le (stopsAt c s) (c .layout .most) n .0)
-
   -- ---- after the end
 
   -- what is counted and closed stays, and the end itself
@@ -134,4 +126,4 @@ module _ (c : Course) (f : Lawful c) (s s′ : ℕ → Moment) (n n′ : ℕ) (m
     pub outside-over : (k : ℕ) → outside c s′ k (judged c s′ n′) ≡ outside c s k (judged c s n)
     outside-over k =
         ap (outside c s′ k) judged-over
-        ∙ tally.outside-longer (c .layout .row) (out c s) (out c s′) n out-longer k (judged c s n) judged-in
+        ∙ tally.outside-longer (c .layout .row) (out c s) (out c s′) n out-longer k (judged c s n) (tally.judged-le (stopsAt c s) (c .layout .most) n .0)

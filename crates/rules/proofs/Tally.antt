@@ -18,12 +18,12 @@ module _ (ends : ℕ → Bool) (most : ℕ) where
   pub counted-le : (n : ℕ) → (counted ends most n ≤ n) × (counted ends most n ≤ most)
   counted-le n = let h = first-le ends (room most n) in (omega arith, omega arith)
 
-  pub judged-le : (n : ℕ) → judged ends most n ≤ n
+  pub judged-le : (n : ℕ) → (judged ends most n ≤ n) × (judged ends most n ≤ most)
   judged-le n = go (stopped ends most n) refl
     where
-      go : (x : Bool) → stopped ends most n ≡ x → counted ends most n + bit x ≤ n
-      go true e = omega (arith, ltb-true (counted ends most n) (room most n) e)
-      go false e = omega (arith, counted-le n .0)
+      go : (x : Bool) → stopped ends most n ≡ x → (counted ends most n + bit x ≤ n) × (counted ends most n + bit x ≤ most)
+      go true e = let h = ltb-true (counted ends most n) (room most n) e in (omega arith, omega arith)
+      go false e = let h = counted-le n in (omega arith, omega arith)
 
   -- ---- one more sample, where all before it count
 

@@ -19,9 +19,9 @@ module _ (cycle : ℕ → ℕ) (out : ℕ → Bool) where
 abbrev pub room : ℕ → ℕ → ℕ
 room most n = min n most
 
--- `ends j` says whether sample j brings its count above the allowance
+-- `ends j` says whether sample j stops the run, as one that brings its count above the allowance does
 module _ (ends : ℕ → Bool) (most n : ℕ) where
-  -- "The run stops at the first sample" that does; its "energy and distance are not counted"
+  -- "The run stops at the first sample" that does so; its "energy and distance are not counted"
   abbrev pub counted : ℕ
   counted = first ends (room most n)
 
