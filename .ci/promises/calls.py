@@ -1,14 +1,37 @@
-# The functions and constants of the sources, which names which, and in which of them a must-fail edit stands.
+# The functions and constants of the sources, which names which; the wrong programs of the must-fail edits, and in which function each stands.
 import glob
 import os
 import re
+import sys
+
+os.chdir(os.path.join(os.path.dirname(os.path.abspath(__file__)), "..", ".."))
 
 
-def line_of(edit):
-    """The file that the edit changes, and the line of it."""
-    crate, name = edit.split("/")
-    lines = open(f"crates/{crate}/must-fail/{name}.edit").read().splitlines()
-    return lines[0].split(": ")[1], lines[1][len("old: "):]
+def wrong_programs():
+    """Of each wrong program, `crate/name`: its edit's path, the file of the crate that it changes, and the line of it. An edit holds one wrong program, or
+    several, each in another function: every one begins with a line `# wrong: NAME`."""
+    found = {}
+    for path in sorted(glob.glob("crates/*/must-fail/*.edit")):
+        crate, name = path.split("/")[1], None
+        for line in open(path).read().splitlines():
+            if line.startswith("# wrong: "):
+                name = f"{crate}/{line[len('# wrong: '):]}"
+                if name in found:
+                    sys.exit(f"{name} is in two edits")
+                found[name] = [path, None, None]
+            elif line.startswith("file: "):
+                found[name][1] = line[len("file: "):]
+            elif line.startswith("old: "):
+                found[name][2] = line[len("old: "):]
+    return found
+
+
+WRONG = wrong_programs()
+
+
+def line_of(wrong):
+    """The file that the wrong program changes, and the line of it."""
+    return WRONG[wrong][1:]
 
 
 def functions_of(path):

@@ -1,7 +1,7 @@
 // The bench controller's question about one sample, exported to C.
 use rules::Tolerances;
 ghost use mathlib.Core.Path.{_≡_};
-ghost use Rattle.bench.specs.Question.{question};
+ghost use Rattle.rules.specs.Question.{question};
 
 // The greatest speed, as wide as the controller's numbers are.
 const MOST_SPEED: u32 = rules::limits::MOST_SPEED as u32;

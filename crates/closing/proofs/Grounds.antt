@@ -12,24 +12,26 @@ use lib.IntN.{ℤ, pos, negsuc, _+ℤ_}
 use lib.Signed.{leZ}
 use mir.Syntax.{w64}
 use mir.Val.{SFits, toZ, ofZ}
-use Rattle.numbers.specs.Tests.{unless, settled}
-use Rattle.numbers.specs.Whole.{up, Sized}
+use Rattle.rules.specs.Words.{unless, settled, up}
+use Rattle.numbers.specs.Whole.{Sized}
 use Rattle.numbers.proofs.Tests.{not-refused, both, pass, settled-taken, settled-refused}
 use Rattle.numbers.proofs.Whole.{abs-is, sized-add, sized-between, weaken}
 use Rattle.numbers.proofs.Signed.{sum-fits, sum-read}
 use Rattle.rules.specs.declared.Charge.the-variants.{Wh as wh}
 use Rattle.rules.specs.declared.Amounts.{Amounts}
-use Rattle.rules.specs.Closing.{mostRate, isCharge, areAmounts, weightedFigure, rangeFigure, closingRefusal, rechargeFigure, rechargeRefusal, mostTransfer, mostWhole, mostCharge}
-use Rattle.rules.proofs.Closes.{closes, some-energy}
+use Rattle.rules.specs.Closing.{mostRate, isCharge, weightedFigure, rangeFigure, closingRefusal, rechargeFigure, rechargeRefusal, mostTransfer, mostCharge, chargedBy}
+use Rattle.values.specs.Limits.{areAmounts}
+use Rattle.laws.specs.Beside.{mostWhole}
+use Rattle.laws.proofs.Closes.{closes, some-energy}
 use Rattle.ledger.specs.Row.{energyIn, distanceIn, energyAll}
 use Rattle.ledger.proofs.Bounded.{energy-all-sized}
 use Rattle.state.specs.declared.Run.{Run}
 use Rattle.state.specs.State.{ground}
 use Rattle.state.specs.Refusals.{cyclesBy}
 use Rattle.state.proofs.Checked.{Ground, ground-passed, ground-zero, ground-on, ground-off}
-use Rattle.consumption.specs.declared.Figure.{Figure}
-use Rattle.consumption.specs.declared.Figure.the-variants.{Is, Refused}
-use Rattle.consumption.specs.Figures.{chargedBy, closingIn, rechargedBy}
+use Rattle.rules.specs.declared.Figure.{Figure}
+use Rattle.rules.specs.declared.Figure.the-variants.{Is, Refused}
+use Rattle.consumption.specs.Figures.{closingIn, rechargedBy}
 use Rattle.closing.specs.Answers.{grounds, whole, closingBy, refusalOf, closingOf}
 
 -- ---- an answer by the number of its refusal

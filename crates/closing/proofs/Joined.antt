@@ -12,22 +12,24 @@ use Rattle.rules.specs.declared.Moment.{Moment}
 use Rattle.rules.specs.declared.Amounts.{Amounts}
 use Rattle.rules.specs.declared.Charge.{Charge}
 use Rattle.rules.specs.declared.Charge.the-variants.{Absent as absent, Wh as wh}
-use Rattle.rules.specs.Bench.{isOpen, mostCycles}
+use Rattle.laws.specs.Beside.{isOpen}
+use Rattle.rules.specs.Bench.{mostCycles}
 use Rattle.rules.specs.Course.{closed}
 use Rattle.rules.specs.Parts.{rowPart, cycles, partEnergy, partDistance}
 use Rattle.rules.specs.Regular.{Plan, courseOf, momentIn}
-use Rattle.rules.specs.Closing.{wholeEnergy, areAmounts, weightedFigure, rangeFigure, closingRefusal, rechargeFigure, rechargeRefusal}
-use Rattle.rules.proofs.Facts.{Lawful}
-use Rattle.rules.proofs.Longer.{more-samples, same-samples, Over, over, energy-over, distance-over, whole-over}
-use Rattle.rules.proofs.Regular.{regular-lawful}
-use Rattle.rules.proofs.Same.{weighted-same, range-same, refusal-same, recharge-same, recharge-refusal-same}
+use Rattle.rules.specs.Closing.{wholeEnergy, weightedFigure, rangeFigure, closingRefusal, rechargeFigure, rechargeRefusal, weightedBy, rangeBy, chargedBy, rechargeBy}
+use Rattle.values.specs.Limits.{areAmounts}
+use Rattle.laws.proofs.Facts.{Lawful}
+use Rattle.laws.proofs.Longer.{more-samples, same-samples, Over, over, energy-over, distance-over, whole-over}
+use Rattle.laws.proofs.Regular.{regular-lawful}
+use Rattle.laws.proofs.Same.{weighted-same, range-same, refusal-same, recharge-same, recharge-refusal-same}
 use Rattle.ledger.specs.Row.{energyIn, distanceIn, energyAll}
 use Rattle.state.specs.declared.Run.{Run}
 use Rattle.state.specs.Refusals.{cyclesBy}
-use Rattle.numbers.specs.Tests.{settled}
+use Rattle.rules.specs.Words.{settled}
 use Rattle.judge.proofs.Runs.{Reached, run-shows, cycle-energies, cycle-distances, few-cycles, never-refused}
-use Rattle.consumption.specs.declared.Figure.the-variants.{Is, Refused}
-use Rattle.consumption.specs.Figures.{weightedBy, rangeBy, chargedBy, rechargeBy, closingIn}
+use Rattle.rules.specs.declared.Figure.the-variants.{Is, Refused}
+use Rattle.consumption.specs.Figures.{closingIn}
 use Rattle.closing.specs.Answers.{refusalOf, weightedAnswer, rangeAnswer, rechargeAnswer}
 
 -- two closings that are alike in the whole energy, the number of cycles and each cycle

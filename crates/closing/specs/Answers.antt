@@ -3,17 +3,18 @@
 use mathlib.Core.List.{List}
 use Prim.Native.Nat.{ℕ}
 use lib.IntN.{ℤ, _+ℤ_}
-use Rattle.numbers.specs.Tests.{unless, settled}
+use Rattle.rules.specs.Words.{unless, settled}
 use Rattle.rules.specs.declared.Amounts.{Amounts}
-use Rattle.rules.specs.Closing.{areAmounts}
+use Rattle.values.specs.Limits.{areAmounts}
+use Rattle.rules.specs.Closing.{figureOr, chargedBy}
 use Rattle.ledger.specs.Row.{energyIn, distanceIn, energyAll}
 use Rattle.state.specs.declared.Run.{Run}
 use Rattle.state.specs.State.{ground}
 use Rattle.state.specs.Refusals.{cyclesBy}
 use Rattle.consumption.specs.declared.Closed.{Closed}
-use Rattle.consumption.specs.declared.Figure.{Figure}
-use Rattle.consumption.specs.declared.Figure.the-variants.{Is}
-use Rattle.consumption.specs.Figures.{figureOr, chargedBy, closingIn}
+use Rattle.rules.specs.declared.Figure.{Figure}
+use Rattle.rules.specs.declared.Figure.the-variants.{Is}
+use Rattle.consumption.specs.Figures.{closingIn}
 
 module _ (r : Run) (a : Amounts) (b : List ℕ) (l : List ℤ) (m : List ℕ) where
   -- "In a started run 1 and 2 come before all others": the amounts are numbers of the state

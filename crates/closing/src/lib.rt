@@ -1,7 +1,7 @@
 // The closing figures of a started run: weighted consumption, range and recharge figure.
-use consumption::Figure;
 use rules::Amounts;
 use rules::Charge;
+use rules::Figure;
 use state::Run;
 ghost use mathlib.Core.Path.{_≡_};
 ghost use Rattle.closing.specs.Answers.{weightedAnswer, rangeAnswer, rechargeAnswer};

@@ -13,12 +13,12 @@ use lib.IntN.{ℤ, pos, negsuc, natAbs, _+ℤ_}
 use lib.Signed.{leZ, ltZ, nonNeg}
 use mir.Syntax.{w64}
 use mir.Val.{Fits, toZ, ofZ}
-use Rattle.numbers.specs.Tests.{allBelow, unless, settled}
-use Rattle.numbers.specs.Whole.{up, down, Sized}
+use Rattle.rules.specs.Words.{allBelow, unless, settled, up}
+use Rattle.numbers.specs.Whole.{down, Sized}
 use Rattle.numbers.proofs.Tests.{both, all-more, all-fails, all-at, refuted, pass, settled-taken, settled-refused}
 use Rattle.numbers.proofs.Whole.{sum-is, le-up, up-le, le-not, sized-upto}
 use Rattle.rules.specs.Closing.{mostRate, isRate, rateOf, weighing, weight, weightedFigure, rangeFigure, closingRefusal}
-use Rattle.rules.proofs.Weighing.{greatest-rate, weight-pos, weighted-at-least-one}
+use Rattle.laws.proofs.Weighing.{greatest-rate, weight-pos, weighted-at-least-one}
 use Rattle.rules.specs.Bench.{mostPhases, mostCycles}
 use Rattle.rules.specs.Shown.{mostEnergy, mostDistance}
 use Rattle.wide.specs.declared.Ratio.the-variants.{Over}

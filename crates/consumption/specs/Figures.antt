@@ -1,4 +1,4 @@
--- The figures of n finished cycles: by the rules alone, and read off a ledger.
+-- The figures of n finished cycles, read off a ledger.
 -- Assumes nothing.
 use mathlib.Core.Bool.{true}
 use mathlib.Core.List.{List}
@@ -7,41 +7,13 @@ use Prim.Native.Nat.{ℕ, _≤_}
 use lib.Dec.{leb}
 use lib.IntN.{ℤ, pos, _+ℤ_}
 use lib.Signed.{leZ, ltZ}
-use Rattle.numbers.specs.Tests.{allBelow, unless, settled}
-use Rattle.numbers.specs.Whole.{up}
-use Rattle.rules.specs.declared.Charge.{Charge}
-use Rattle.rules.specs.declared.Charge.the-variants.{Absent as absent, Wh as wh}
-use Rattle.rules.specs.Closing.{mostRate, isRate, rateOf, recharge, weightedFigure, rangeFigure, closingRefusal, rechargeFigure, rechargeRefusal}
+use Rattle.rules.specs.Words.{allBelow, unless, settled, up}
+use Rattle.rules.specs.Closing.{mostRate, isRate, rateOf, recharge, weightedFigure, rangeFigure, closingRefusal}
 use Rattle.rules.specs.Bench.{mostCycles}
 use Rattle.ledger.specs.Row.{bounded, energyIn, distanceIn}
 use Rattle.consumption.specs.declared.Closed.{Closed}
-use Rattle.consumption.specs.declared.Figure.{Figure}
-use Rattle.consumption.specs.declared.Figure.the-variants.{Is, Absent, Refused}
-
--- ---- by the rules alone
-
--- "A closing refusal gives `refused N` in place of `weighted`, a recharge refusal in place of `ac`": the number of a refusal, or the figure
-abbrev pub figureOr : ℕ → Figure → Figure
-figureOr n f = settled n f (Refused n)
-
--- n finished cycles of energies e and distances d, the whole energy E
-module _ (E : ℤ) (n : ℕ) (e d : ℕ → ℤ) where
-  abbrev pub weightedBy : Figure
-  weightedBy = figureOr (closingRefusal E n e d) (Is (weightedFigure E n e d))
-
-  abbrev pub rangeBy : Figure
-  rangeBy = figureOr (closingRefusal E n e d) (Is (rangeFigure E n e d))
-
-  -- "A missing 7 gives the recharge figure "absent".": with F and the recharge
-  abbrev pub chargedBy : ℤ → Charge → Figure
-  chargedBy F absent = Absent
-  chargedBy F (wh A) = figureOr (rechargeRefusal E n e d F A) (Is (rechargeFigure E n e d F A))
-
-  -- "Recharge: whatever closing refuses, then absent, 14, 12."
-  abbrev pub rechargeBy : ℤ → Charge → Figure
-  rechargeBy F charge = figureOr (closingRefusal E n e d) (chargedBy F charge)
-
--- ---- read off a ledger
+use Rattle.rules.specs.declared.Figure.{Figure}
+use Rattle.rules.specs.declared.Figure.the-variants.{Is, Refused}
 
 -- the two figures of n finished cycles with the whole energy E, or the number of the refusal
 unfoldable pub closingIn : List ℤ → ℕ → ℤ → Closed

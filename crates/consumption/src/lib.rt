@@ -1,6 +1,7 @@
 // The figures of n finished cycles, exact.
 use ledger::totals::distance_in;
 use ledger::totals::energy_in;
+use rules::Figure;
 use rules::limits::MOST_RATE;
 use wide::Ratio;
 ghost use mathlib.Core.Path.{_≡_};
@@ -8,21 +9,14 @@ ghost use mathlib.Core.Bool.{true, _&&_};
 ghost use Prim.Native.Nat.{_+_, _-_, _*_, _/_, _≤_, _<_, _^_};
 ghost use lib.IntN.{pos, _+ℤ_};
 ghost use lib.Signed.{leZ, ltZ};
-ghost use Rattle.numbers.specs.Range.{sum};
-ghost use Rattle.numbers.specs.Tests.{allBelow};
+ghost use Rattle.rules.specs.Words.{sum, allBelow};
 ghost use Rattle.numbers.specs.Whole.{Sized};
-ghost use Rattle.rules.specs.Closing.{isRate, rateOf, weightedFigure, recharge, mostRate, mostWhole, mostCharge, mostTransfer};
+ghost use Rattle.rules.specs.Closing.{isRate, rateOf, weightedFigure, recharge, mostRate, mostCharge, mostTransfer};
+ghost use Rattle.laws.specs.Beside.{mostWhole};
 ghost use Rattle.rules.specs.Bench.{mostCycles};
 ghost use Rattle.ledger.specs.Row.{bounded, energyIn, distanceIn};
 ghost use Rattle.wide.specs.Ratio.{ratio};
 ghost use Rattle.consumption.specs.Figures.{closingIn, Closable, rechargedBy};
-
-// A figure, no figure, or the number of a refusal.
-pub enum Figure {
-    Is(u64),
-    Absent,
-    Refused(u32),
-}
 
 // The closing of a run: W and the range, or the number of a refusal.
 pub struct Closed {

@@ -1,84 +1,132 @@
--- What a field after the start brings, and what that says of its value.
+-- What a field after the start brings, tag by tag.
 -- Assumes nothing.
-use mathlib.Core.Bool.{Bool, true, false, cond}
-use mathlib.Core.List.{List}
-use mathlib.Core.Path.{_≡_, refl, ap, subst, _∙_}
-use Prim.Native.Nat.{ℕ, _+_, _-_, _≤_}
+use mathlib.Core.Bool.{Bool, true, false, cond, false≢true}
+use mathlib.Core.List.{List, [], _∷_}
+use mathlib.Core.Path.{_≡_, refl, sym, ap, subst, _∙_}
+use Prim.Native.Nat.{ℕ, _+_}
+use native.Mathlib.Omega.{arith}
+use borrow.Author.Tests.{leb-true, eq-eqb, ne-eqb}
 use lib.Dec.{leb, eqb}
-use lib.ListN.{length, getD, length-drop}
-use borrow.Author.Tests.{leb-true, eqb-true}
-use Rattle.numbers.specs.Tests.{unless}
-use Rattle.rules.specs.declared.Charge.the-variants.{Wh as wh}
-use Rattle.rules.specs.Bench.{mostOffered, mostPassed}
-use Rattle.rules.specs.Closing.{isTransfer, isCharge}
-use Rattle.blocks.specs.Blocks.{samplesIn, areSamples, isBlock}
-use Rattle.fields.specs.declared.Front.the-variants.{Field as field}
-use Rattle.fields.specs.Fields.{valueIn, frontOf}
-use Rattle.fields.specs.Values.{isNumber, sameNumber, firstIn, samplesOf, transferIn, rechargeIn}
-use Rattle.fields.proofs.Fronts.{front-whole, sizes, value-length}
-use Rattle.contents.specs.declared.Content.{Content}
-use Rattle.contents.specs.declared.Content.the-variants.{Own, Foreign, Before, After, Recharge, Refused}
-use Rattle.contents.specs.Content.{mayStand, blockContent, energyContent, rechargeContent, contentOf}
+use lib.ListN.{getD}
+use Rattle.rules.specs.Words.{allBelow}
+use Rattle.numbers.proofs.Tests.{pass, stop}
+use Rattle.rules.specs.Table.{Matter, block, energyBefore, energyAfter, recharge, begins, among, byRow, lengthAllowed, behindTolerances, blockPlaces, tags, RUN1}
+use Rattle.laws.specs.Beside.{mayStand}
+use Rattle.rules.specs.Front.{Field}
+use Rattle.rules.specs.Record.{Content as Comes, brought, foreign, wrong, nothing, aNumber, aCycle, theTolerances, ownSamples, before, after, charged, contentOf}
+use Rattle.laws.proofs.Contents.{content-order, block-place, recharge-place, not-first}
+use Rattle.laws.proofs.Tags.{pick, by-tag, no-length}
+use Rattle.fields.specs.Fields.{hasRow}
+use Rattle.fields.proofs.Fronts.{row-of-energy}
+use Rattle.contents.specs.Content.{Content, Bring, bringSaid, contentSaid, laterContent}
+use Rattle.contents.specs.declared.Content.the-variants.{Brought, Foreign, Refused}
+use Rattle.contents.specs.declared.Bring.the-variants.{Samples, Before, After, Recharge}
 
--- a block of the vehicle me that follows the samples offered
-pub record OwnBlock (me : List ℕ) (offered : ℕ) (v : List ℕ) : Type 0 where
-  pub number : isNumber v ≡ true
-  pub same : sameNumber me v ≡ true
-  pub first : firstIn v ≡ offered
-  pub room : offered + samplesIn (samplesOf v) ≤ mostOffered
-  pub samples : areSamples (samplesOf v) (samplesIn (samplesOf v)) ≡ true
+-- ---- 8, 9, then its content
 
-module _ (me : List ℕ) (passed offered tag : ℕ) (v : List ℕ) where
-  -- what each content says
-  abbrev pub Says : Content → Type 0
-  Says Own = (tag ≡ 5) × OwnBlock me offered v
-  Says Foreign = passed + 1 ≤ mostPassed
-  Says (Before e) = isTransfer e ≡ true
-  Says (After e) = isTransfer e ≡ true
-  Says (Recharge w) = isCharge (wh w) ≡ true
-  Says (Refused x) = Unit {0}
+module _ (me : List ℕ) (place passed offered tag : ℕ) (v : List ℕ) where
+  abbrev content : Matter → List ℕ → Comes
+  content = contentOf passed me [] offered
 
-  tested : (x : ℕ) (t : Bool) (c : Content) → (t ≡ true → Says c) → Says (unless (Refused x) t c)
-  unfolding unless
-  tested x true c f = f refl
-  tested x false c f = tt
+  abbrev f : Field
+  f = record { tag = tag; value = v }
 
-  chosen : (t : Bool) (c d : Content) → (t ≡ true → Says c) → Says d → Says (cond t c d)
-  chosen true c d f g = f refl
-  chosen false c d f g = g
+  pub no-row : hasRow tag v ≡ false → wrong 8 ≡ laterContent me place passed offered f
+  no-row e = stop _ e ∙ sym (content-order (behindTolerances + place) content f)
 
-  says-block : tag ≡ 5 → Says (blockContent me passed offered v)
-  unfolding blockContent
-  says-block e =
-      tested 4 (isNumber v) _ λ number.
-      chosen (sameNumber me v) _ _
-      (λ same.
-      tested _ (eqb (firstIn v) offered) _ λ first.
-      tested 7 (leb (offered + samplesIn (samplesOf v)) mostOffered) _ λ room.
-      tested 5 (areSamples (samplesOf v) (samplesIn (samplesOf v))) Own λ samples.
-      (e, record { number = number; same = same; first = eqb-true _ _ first; room = leb-true _ _ room; samples = samples }))
-      (tested 7 (leb (passed + 1) mostPassed) Foreign λ room. leb-true _ _ room)
+  module _ (row : hasRow tag v ≡ true) where
+    pub no-place : mayStand tags (behindTolerances + place) tag v ≡ false → wrong 9 ≡ laterContent me place passed offered f
+    no-place e = pass _ row (stop _ e) ∙ sym (content-order (behindTolerances + place) content f)
 
-  says-energy : Says (energyContent v)
-  unfolding energyContent
-  says-energy = tested 14 (isTransfer (transferIn v)) _ λ e. chosen (eqb (getD v 0 0) 0) (Before (transferIn v)) (After (transferIn v)) (λ _. e) e
+    pub content-is : mayStand tags (behindTolerances + place) tag v ≡ true → {c : Comes} → c ≡ byRow tags tag v (λ r. content (r .holds) v) (wrong 8)
+        → c ≡ laterContent me place passed offered f
+    content-is e h = pass _ row (pass _ e h) ∙ sym (content-order (behindTolerances + place) content f)
 
-  says-recharge : Says (rechargeContent v)
-  unfolding rechargeContent
-  says-recharge = tested 14 (isCharge (wh (rechargeIn v))) (Recharge (rechargeIn v)) λ e. e
+-- ---- the rows after the start
 
-  pub says : (place : ℕ) → Says (contentOf me place passed offered tag v)
-  unfolding contentOf
-  says place =
-      tested 9 (mayStand place tag v) _ λ _.
-      chosen (eqb tag 5) _ _ (λ e. says-block (eqb-true tag 5 e)) (chosen (eqb tag 6) (energyContent v) (rechargeContent v) (λ _. says-energy) says-recharge)
+-- a kind that has a row is 0 or 1
+kind : (v : List ℕ) → hasRow 6 v ≡ true → (getD v 0 0 ≡ 0 → ⊥) → getD v 0 0 ≡ 1
+kind v e n = let m = leb-true (getD v 0 0) 1 (sym (row-of-energy v) ∙ e) in omega arith
 
-  pub own-block : (place : ℕ) → contentOf me place passed offered tag v ≡ Own → (tag ≡ 5) × OwnBlock me offered v
-  own-block place e = subst Says e (says place)
+module _ {A : Type 0} (g : Matter → A) (z : A) (v : List ℕ) (tag : ℕ) where
+  abbrev at : ℕ → A
+  at t = byRow tags t v (λ r. g (r .holds)) z
 
--- the samples of a field 5 are a block's
-pub block-bytes : (i : List ℕ) (tag n : ℕ) → frontOf i ≡ field tag n → tag ≡ 5 → isBlock (length (samplesOf (valueIn i n))) ≡ true
-block-bytes i tag n e five =
-    let w = front-whole i tag n e in
-    let l : length (samplesOf (valueIn i n)) ≡ n - 21 = length-drop 21 (valueIn i n) ∙ ap (λ (m : ℕ). m - 21) (value-length i n (w .long)) in
-    ap isBlock l ∙ sizes tag n (w .allowed) .block five .1
+  pub row-of-block : tag ≡ 5 → at tag ≡ g block
+  unfolding byRow begins allBelow
+  row-of-block e = ap at e
+
+  pub row-of-recharge : tag ≡ 7 → at tag ≡ g recharge
+  unfolding byRow begins allBelow
+  row-of-recharge e = ap at e
+
+  pub row-of-kind : tag ≡ 6 → hasRow tag v ≡ true → at tag ≡ cond (eqb (getD v 0 0) 0) (g energyBefore) (g energyAfter)
+  unfolding byRow begins allBelow
+  row-of-kind e h = ap at e ∙ go (subst (λ (t : ℕ). hasRow t v ≡ true) e h)
+    where
+      go : hasRow 6 v ≡ true → at 6 ≡ cond (eqb (getD v 0 0) 0) (g energyBefore) (g energyAfter)
+      go r = pick (getD v 0 0) 0 (λ k. rw (eq-eqb _ 0 k)) (λ n. rw (ne-eqb _ 0 n, eq-eqb (getD v 0 0) 1 (kind v r n)))
+
+module _ (p : ℕ) (v : List ℕ) (tag : ℕ) where
+  abbrev may : ℕ → Bool
+  may t = mayStand tags (behindTolerances + p) t v
+
+  pub stands-block : tag ≡ 5 → may tag ≡ leb p 2
+  unfolding byRow begins allBelow
+  stands-block e = ap may e ∙ block-place p
+
+  pub stands-recharge : tag ≡ 7 → may tag ≡ leb p 3
+  unfolding byRow begins allBelow
+  stands-recharge e = ap may e ∙ recharge-place p
+
+  pub stands-energy : tag ≡ 6 → hasRow tag v ≡ true
+      → may tag ≡ cond (eqb (getD v 0 0) 0) (among (behindTolerances + p) (behindTolerances ∷ [])) (among (behindTolerances + p) blockPlaces)
+  unfolding byRow begins allBelow
+  stands-energy e h = ap may e ∙ go (subst (λ (t : ℕ). hasRow t v ≡ true) e h)
+    where
+      go : hasRow 6 v ≡ true → may 6 ≡ cond (eqb (getD v 0 0) 0) (among (behindTolerances + p) (behindTolerances ∷ [])) (among (behindTolerances + p) blockPlaces)
+      go r = pick (getD v 0 0) 0 (λ k. rw (eq-eqb _ 0 k)) (λ n. rw (ne-eqb _ 0 n, eq-eqb (getD v 0 0) 1 (kind v r n)))
+
+  never : (b : Bool) → cond b false false ≡ false
+  never true = refl
+  never false = refl
+
+  stands-mark : mayStand tags (behindTolerances + p) 1 v ≡ false
+  unfolding byRow
+  stands-mark = ap (λ (x : Bool). cond (begins RUN1 v) x false) (not-first p 0 (omega arith)) ∙ never (begins RUN1 v)
+
+  -- the first four fields stand nowhere there
+  pub stands-first : (n : ℕ) → lengthAllowed tags tag n ≡ true → (tag ≡ 5 → ⊥) → (tag ≡ 6 → ⊥) → (tag ≡ 7 → ⊥) → mayStand tags (behindTolerances + p) tag v ≡ false
+  unfolding byRow begins allBelow
+  stands-first n =
+      by-tag (λ t. lengthAllowed tags t n ≡ true → (t ≡ 5 → ⊥) → (t ≡ 6 → ⊥) → (t ≡ 7 → ⊥) → mayStand tags (behindTolerances + p) t v ≡ false) tag
+      (λ _ _ _ _. stands-mark) (λ _ _ _ _. not-first p 1 (omega arith)) (λ _ _ _ _. not-first p 2 (omega arith)) (λ _ _ _ _. not-first p 3 (omega arith))
+      (λ _ a _ _. absurd (a refl)) (λ _ _ a _. absurd (a refl)) (λ _ _ _ a. absurd (a refl))
+      (λ w l _ _ _. absurd (false≢true (sym (no-length tag n w) ∙ l)))
+
+-- ---- one answer: each case is known by what it says
+abbrev caseOf : Comes → Content
+caseOf (brought nothing) = Refused 9
+caseOf (brought (aNumber v)) = Refused 9
+caseOf (brought (aCycle v)) = Refused 9
+caseOf (brought (theTolerances t)) = Refused 9
+caseOf (brought (ownSamples xs)) = Brought Samples
+caseOf (brought (before e)) = Brought (Before e)
+caseOf (brought (after e)) = Brought (After e)
+caseOf (brought (charged w)) = Brought (Recharge w)
+caseOf foreign = Foreign
+caseOf (wrong n) = Refused n
+
+case-said : (v : List ℕ) (c : Content) → caseOf (contentSaid v c) ≡ c
+case-said v (Brought b) = brings b
+  where
+    brings : (b : Bring) → caseOf (brought (bringSaid v b)) ≡ Brought b
+    brings Samples = refl
+    brings (Before e) = refl
+    brings (After e) = refl
+    brings (Recharge w) = refl
+case-said v Foreign = refl
+case-said v (Refused n) = refl
+
+pub said-once : (v : List ℕ) (c d : Content) → contentSaid v c ≡ contentSaid v d → c ≡ d
+said-once v c d e = sym (case-said v c) ∙ ap caseOf e ∙ case-said v d

@@ -10,7 +10,7 @@ ghost use mathlib.Core.Path.{_≡_};
 ghost use mathlib.Core.Bool.{true};
 ghost use Prim.Native.Nat.{_+_, _-_, _*_, _≤_, _<_};
 ghost use lib.ListN.{length};
-ghost use Rattle.numbers.specs.Tests.{allBelow};
+ghost use Rattle.rules.specs.Words.{allBelow};
 ghost use Rattle.rules.specs.Cycle.{phases, phaseEnd, seconds, point, rises, isSpeed, valid, positions, phaseAt};
 
 // The limits of seconds, as wide as lengths are.

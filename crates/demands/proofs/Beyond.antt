@@ -13,14 +13,15 @@ use lib.ListN.{drop}
 use lib.Seq.{drop-set-lt}
 use denote.Ref.{now}
 use Rattle.numbers.specs.Lists.{plus}
-use Rattle.numbers.specs.Range.{fold}
+use Rattle.rules.specs.Words.{fold}
 use Rattle.numbers.proofs.Lists.{drop-cleared}
 use Rattle.rules.specs.declared.Moment.{Moment}
-use Rattle.rules.specs.Bench.{isOpen, isMoment, momentOf, mostCycles, mostPhases, mostPositions}
+use Rattle.laws.specs.Beside.{isOpen, isMoment}
+use Rattle.rules.specs.Bench.{momentOf, mostCycles, mostPhases, mostPositions}
 use Rattle.rules.specs.Cycle.{phaseAt, positions}
 use Rattle.rules.specs.Course.{Course}
 use Rattle.rules.specs.Regular.{cycleOf, positionOf, Plan, courseOf}
-use Rattle.rules.proofs.Sound.{sound, real, four}
+use Rattle.laws.proofs.Sound.{sound, real, four}
 use Rattle.rules.specs.Shown.{ledgerNumbers, mapWords}
 use Rattle.ledger.specs.Row.{outsideAdded, isOver, sampleAdded}
 use Rattle.map.specs.Map.{opened}
@@ -30,18 +31,16 @@ use Rattle.state.specs.State.{Memory, lent}
 use Rattle.state.proofs.Checked.{ground-passed}
 use Rattle.step.specs.Step.{State, Kept, positionNow, outNow, onlyOffered, judge, sampleTaken, samplesTaken, leftAt, stateOf}
 use Rattle.step.proofs.Keeping.{kept-all}
-use Rattle.blocks.specs.Blocks.{momentAt, samplesIn}
-use Rattle.blocks.proofs.Bytes.{one-accepted, block-accepted, moments-at}
+use Rattle.rules.specs.Values.{momentAt, countIn}
+use Rattle.blocks.proofs.Accepted.{one-accepted, block-accepted}
+use Rattle.laws.proofs.Samples.{moments-at}
 use Rattle.judge.specs.declared.Answer.{Answer}
 use Rattle.judge.specs.Answers.{planOf}
 use Rattle.judge.proofs.Calls.{kept-ground}
 use Rattle.judge.proofs.Promises.{Promised}
-use Rattle.demands.proofs.Driven.{StartCall, SampleCall, BlockCall, startLeaves, sampleLeaves, blockLeaves, start-promised, sample-promised, block-promised}
-
--- ledger and map are beyond their 576 numbers and 750 words as they were
-pub record Beyond (a c : Memory) : Type 0 where
-  pub in-ledger : drop ledgerNumbers (c .ledger) ≡ drop ledgerNumbers (a .ledger)
-  pub in-map : drop mapWords (c .map) ≡ drop mapWords (a .map)
+use Rattle.demands.specs.Calls.{StartCall, SampleCall, BlockCall}
+use Rattle.demands.specs.Runs.{startLeaves, sampleLeaves, blockLeaves, Beyond}
+use Rattle.demands.proofs.Driven.{start-promised, sample-promised, block-promised}
 
 pub untouched : {a : Memory} → Beyond a a
 untouched = record { in-ledger = refl; in-map = refl }
@@ -113,22 +112,22 @@ promised-beyond {n} {a = a} {c} {l} {m} k h = subst⁻¹ (Beyond (lent l m)) (k 
     go true e = h (eqb-true n 0 e)
     go false e = untouched
 
-pub start-beyond : (c : StartCall) → Beyond (lent (now (c .args .1 .1 .0)) (now (c .args .1 .1 .1 .0))) (startLeaves c)
-start-beyond c =
+pub start-untouched : (c : StartCall) → Beyond (lent (now (c .args .1 .1 .0)) (now (c .args .1 .1 .1 .0))) (startLeaves c)
+start-untouched c =
     promised-beyond (start-promised c)
     (λ _. record { in-ledger = drop-cleared (pos 0) ledgerNumbers (now (c .args .1 .1 .0)); in-map = drop-cleared 0 mapWords (now (c .args .1 .1 .1 .0)) })
 
-pub sample-beyond : (c : SampleCall) → Beyond (lent (now (c .args .1 .1 .0)) (now (c .args .1 .1 .1 .0))) (sampleLeaves c)
-sample-beyond c =
+pub sample-untouched : (c : SampleCall) → Beyond (lent (now (c .args .1 .1 .0)) (now (c .args .1 .1 .1 .0))) (sampleLeaves c)
+sample-untouched c =
     let (r, (b, (l, (m, (x, _))))) = c .args in
     promised-beyond (sample-promised c) (λ z.
     let k = one-accepted r (now b) (now l) (now m) x z in
     taken-beyond (planOf r (now b)) (stateOf r (now l) (now m)) (momentOf x) (kept-ground r (now b) (now l) (now m) (ground-passed (k .ground))))
 
-pub block-beyond : (c : BlockCall) → Beyond (lent (now (c .args .1 .1 .0)) (now (c .args .1 .1 .1 .0))) (blockLeaves c)
-block-beyond c =
+pub block-untouched : (c : BlockCall) → Beyond (lent (now (c .args .1 .1 .0)) (now (c .args .1 .1 .1 .0))) (blockLeaves c)
+block-untouched c =
     let (r, (b, (l, (m, (first, (q, _)))))) = c .args in
     promised-beyond (block-promised c) (λ z.
     let k = block-accepted r (now b) (now l) (now m) first (now q) z in
-    all-beyond (planOf r (now b)) (stateOf r (now l) (now m)) (momentAt (now q)) (samplesIn (now q))
-    (kept-ground r (now b) (now l) (now m) (ground-passed (k .ground))) (moments-at (now q) (samplesIn (now q)) (k .samples)))
+    all-beyond (planOf r (now b)) (stateOf r (now l) (now m)) (momentAt (now q)) (countIn (now q))
+    (kept-ground r (now b) (now l) (now m) (ground-passed (k .ground))) (moments-at (now q) (countIn (now q)) (k .samples)))

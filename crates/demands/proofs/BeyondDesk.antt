@@ -1,66 +1,55 @@
--- "what lies beyond is never touched": of every call of `feed`, on any desk, input and memory.
+-- "what lies beyond is never touched": of every single call, on any state, input and memory.
 -- Assumes nothing.
 use mathlib.Core.Bool.{Bool, true, false, cond}
 use mathlib.Core.List.{List}
-use mathlib.Core.Path.{ap, subst⁻¹}
-use Prim.Native.Nat.{ℕ, zero, suc}
-use lib.Dec.{leb, eqb}
-use lib.ListN.{length, drop}
+use mathlib.Core.Path.{_≡_, ap, subst⁻¹}
+use Prim.Native.Nat.{ℕ}
+use lib.Dec.{leb}
+use lib.ListN.{length}
 use denote.Ref.{now}
-use Rattle.numbers.specs.Tests.{unless}
-use Rattle.state.specs.State.{lent}
-use Rattle.opening.specs.Answers.{openOf}
-use Rattle.reading.specs.Answers.{readAllOf}
-use Rattle.desk.specs.declared.Outcome.the-variants.{More, Refused}
-use Rattle.desk.specs.Feeding.{Laid, Consumed, laidOf, stops, behind, openOne, openUpto, readTo, lentCycle, readOn, mostFields, feedOf}
-use Rattle.demands.proofs.Beyond.{Beyond, untouched, beyond-then}
-use Rattle.demands.proofs.BeyondReader.{memory-beyond, read-all-of-beyond}
-use Rattle.demands.proofs.Arrivals.{FeedCall}
+use Rattle.numbers.proofs.Tests.{not-refused}
+use Rattle.state.specs.State.{lent, Left}
+use Rattle.opening.specs.Answers.{OpenLeft, stageOf, openGround}
+use Rattle.reading.specs.Answers.{stageAt}
+use Rattle.reader.specs.declared.AllAnswer.{AllAnswer}
+use Rattle.reader.specs.declared.ReadAnswer.{ReadAnswer}
+use Rattle.desk.specs.Feeding.{Laid, Consumed, laidOf, lentCycle, stageOn, startedGround, mostFields, deskGround, feedOf}
+use Rattle.desk.proofs.LeftOver.{by-feed}
+use Rattle.demands.specs.Demand1.{BeyondStays}
+use Rattle.demands.specs.Runs.{Beyond}
+use Rattle.demands.proofs.Beyond.{untouched, start-untouched, sample-untouched, block-untouched}
+use Rattle.demands.proofs.BeyondReader.{Keeps, keeps-run, opening-keeps, open-of-beyond, reading-keeps, read-of-beyond, read-all-of-beyond}
 
--- the memory of y is beyond as that of x
-abbrev Stays : Laid → Consumed → Type 0
-Stays x y = Beyond (x .memory) (y .laid .memory)
-
--- ---- until the start
-one-beyond : (x : Laid) (i : List ℕ) → Stays x (openOne x i)
-unfolding openOne
-one-beyond x i = memory-beyond (x .memory) (openOf (x .desk .opening) (x .room) (x .memory .ledger) (x .memory .map) i .step)
-
-upto-beyond : (n : ℕ) (x : Laid) (i : List ℕ) → Stays x (openUpto n x i)
-unfolding openUpto
-upto-beyond zero x i = untouched
-upto-beyond (suc n) x i =
-    let y = openOne x i in
-    go (x .desk .started) (eqb (y .used) 0) y (openUpto n (y .laid) (drop (y .used) i)) (one-beyond x i) (upto-beyond n (y .laid) (drop (y .used) i))
+-- a desk that passes the tests before all else
+desk-keeps : (x : Laid) → deskGround x ≡ 0 → Keeps (x .memory) (stageOn x)
+unfolding deskGround
+desk-keeps x e = go (x .desk .started) (not-refused 0 (leb (x .desk .fields) mostFields) _ e .1)
   where
-    go : (s t : Bool) (y next : Consumed) → Stays x y → Stays (y .laid) next → Stays x (cond s (stops x More) (cond t y (behind (y .used) next)))
-    go true t y next h g = untouched
-    go false true y next h g = h
-    go false false y next h g = beyond-then h g
+    go : (s : Bool) → cond s (startedGround x) (openGround (x .desk .opening) (x .room)) ≡ 0
+        → Keeps (x .memory) (cond s (stageAt (x .desk .reading) (lentCycle x) (x .memory .ledger) (x .memory .map)) (stageOf (x .desk .opening) (x .room) (x .memory .ledger) (x .memory .map)))
+    go true g = reading-keeps (x .desk .reading) (lentCycle x) (x .memory .ledger) (x .memory .map) (not-refused 0 (leb (x .desk .opening .cycle) (length (x .room))) _ g .1)
+    go false g = opening-keeps (x .desk .opening) (x .room) (x .memory .ledger) (x .memory .map) g
 
--- ---- after it
-on-beyond : (x : Laid) (i : List ℕ) → Stays x (readOn x i)
-unfolding readOn unless
-on-beyond x i = go (leb (x .desk .opening .cycle) (length (x .room)))
-  where
-    go : (t : Bool) → Stays x (unless (stops x (Refused 1)) t (readTo x (readAllOf (x .desk .reading) (lentCycle x) (x .memory .ledger) (x .memory .map) i)))
-    go true = read-all-of-beyond (x .desk .reading) (lentCycle x) (x .memory .ledger) (x .memory .map) i
-    go false = untouched
+fed-beyond : (x : Laid) (i : List ℕ) → Beyond (x .memory) (feedOf x i .laid .memory)
+fed-beyond x i = by-feed x i (λ (y : Consumed). Beyond (x .memory) (y .laid .memory)) (λ e. keeps-run (x .memory) (stageOn x) i (desk-keeps x e) .beyond) (λ _. untouched)
 
-fed-beyond : (x : Laid) (i : List ℕ) → Stays x (feedOf x i)
-unfolding feedOf unless
-fed-beyond x i = go (leb (x .desk .fields) mostFields) (y .laid .desk .started)
-  where
-    y : Consumed
-    y = openUpto 4 x i
+-- ---- the calls
 
-    go : (f s : Bool) → Stays x (unless (stops x (Refused 1)) f (cond s (behind (y .used) (readOn (y .laid) (drop (y .used) i))) y))
-    go false s = untouched
-    go true true = beyond-then (upto-beyond 4 x i) (on-beyond (y .laid) (drop (y .used) i))
-    go true false = upto-beyond 4 x i
-
-pub feed-beyond : (c : FeedCall) → (let (_, (_, (_, (l, (m, _))))) = c .args in
-    Beyond (lent (now l) (now m)) (lent (c .lasts .1 .1 .1 .0) (c .lasts .1 .1 .1 .1 .0)))
-feed-beyond c =
-    let (d, (i, (room, (l, (m, _))))) = c .args in
-    subst⁻¹ (Beyond (lent (now l) (now m))) (ap (λ y. y .laid .memory) (c .kept)) (fed-beyond (laidOf d (now room) (now l) (now m)) (now i))
+pub beyond-stays : BeyondStays
+beyond-stays = record {
+  start-beyond = start-untouched;
+  sample-beyond = sample-untouched;
+  block-beyond = block-untouched;
+  open-beyond = λ c.
+      let (o, (i, (room, (l, (m, _))))) = c .args in
+      subst⁻¹ (Beyond (lent (now l) (now m))) (ap (λ (y : OpenLeft). y .memory) (c .kept)) (open-of-beyond o (now room) (now l) (now m) (now i));
+  read-beyond = λ c.
+      let (r, (i, (b, (l, (m, _))))) = c .args in
+      subst⁻¹ (Beyond (lent (now l) (now m))) (ap (λ (y : Left ReadAnswer). y .memory) (c .kept)) (read-of-beyond r (now b) (now l) (now m) (now i));
+  read-all-beyond = λ c.
+      let (r, (i, (b, (l, (m, _))))) = c .args in
+      subst⁻¹ (Beyond (lent (now l) (now m))) (ap (λ (y : Left AllAnswer). y .memory) (c .kept)) (read-all-of-beyond r (now b) (now l) (now m) (now i));
+  feed-beyond = λ c.
+      let (d, (i, (room, (l, (m, _))))) = c .args in
+      subst⁻¹ (Beyond (lent (now l) (now m))) (ap (λ (y : Consumed). y .laid .memory) (c .kept)) (fed-beyond (laidOf d (now room) (now l) (now m)) (now i));
+}

@@ -1,137 +1,171 @@
--- "what lies beyond is never touched": of every single call of the reader, on any state, input and memory.
+-- What a call of the reader leaves beyond ledger and map, on any state, input and memory.
 -- Assumes nothing.
 use mathlib.Core.Bool.{Bool, true, false, cond}
 use mathlib.Core.List.{List}
-use mathlib.Core.Path.{_≡_, refl, ap, subst⁻¹}
-use Prim.Native.Nat.{ℕ}
+use mathlib.Core.Path.{_≡_, refl, sym, ap, subst, _∙_}
+use Prim.Native.Nat.{ℕ, _≤_}
+use native.Mathlib.Omega.{arith}
 use borrow.Author.Tests.{eqb-true}
 use lib.Dec.{eqb}
 use lib.IntN.{ℤ, pos}
 use lib.ListN.{length}
-use denote.Ref.{now}
 use Rattle.numbers.proofs.Lists.{drop-cleared}
-use Rattle.numbers.proofs.Tests.{not-refused}
-use Rattle.rules.specs.Regular.{Plan}
+use Rattle.numbers.proofs.Tests.{not-refused, pass, both}
+use Rattle.rules.specs.declared.Tolerances.{Tolerances}
+use Rattle.rules.specs.Bench.{tolerable}
+use Rattle.rules.specs.Cycle.{valid}
+use Rattle.rules.specs.Regular.{plan, courseOf, momentIn}
 use Rattle.rules.specs.Shown.{ledgerNumbers, mapWords}
-use Rattle.state.specs.State.{Memory, lent}
+use Rattle.rules.specs.Table.{behindTolerances, tags}
+use Rattle.rules.specs.Machine.{Reply, toField, notYet, noField, taken, passed, refused, on, moveOf, moveAt}
+use Rattle.rules.specs.Values.{momentAt, countIn, samplesOf}
+use Rattle.rules.specs.Record.{Bring, nothing, aNumber, aCycle, theTolerances, ownSamples, before, after, charged}
+use Rattle.laws.proofs.Prefixes.{kept as keeps-all}
+use Rattle.laws.proofs.Says.{movesTo, Says}
+use Rattle.laws.proofs.Samples.{moments-at}
+use Rattle.state.specs.State.{Memory, lent, Left, left}
+use Rattle.state.specs.Refusals.{startRefusal, started}
 use Rattle.state.proofs.Checked.{ground-passed}
-use Rattle.step.specs.Step.{State, Kept, startOf, leftAt}
+use Rattle.step.specs.Step.{State, Kept, startOf, samplesTaken, leftAt}
 use Rattle.step.proofs.Keeping.{kept-all}
-use Rattle.blocks.specs.Blocks.{momentAt, samplesIn}
-use Rattle.blocks.proofs.Bytes.{moments-at}
 use Rattle.judge.proofs.Calls.{kept-ground}
-use Rattle.fields.specs.Fields.{valueIn}
-use Rattle.fields.specs.Values.{samplesOf}
-use Rattle.contents.specs.declared.Content.{Content}
-use Rattle.contents.specs.declared.Content.the-variants as content
-use Rattle.contents.proofs.Brought.{Says, says}
-use Rattle.opening.specs.declared.OpenStep.{OpenStep}
+use Rattle.judge.proofs.Runs.{Reached, never-refused}
+use Rattle.records.specs.Stage.{Stage, planOn, isLong, bringOn, takeOn, replyOn, runOn, stageAfter}
+use Rattle.records.proofs.Came.{Enough, Moved, took, went, moved}
+use Rattle.records.proofs.Later.{taken-list}
+use Rattle.laws.proofs.Places.{place-is, block-places, recharge-places}
+use Rattle.opening.specs.declared.Opening.{Opening}
 use Rattle.opening.specs.declared.OpenStep.the-variants as opening
-use Rattle.opening.specs.Answers.{openOf, memoryAfter}
+use Rattle.opening.specs.Answers.{stageOf, openGround, notOpened, openedBy, frontOpened}
+use Rattle.opening.proofs.Starting.{ground-ready}
 use Rattle.reading.specs.declared.Reading.{Reading}
 use Rattle.reading.specs.declared.Step.the-variants as step
-use Rattle.reading.specs.Reading.{Tale, Answered, Read, taleAfter, brought, fieldAt, fieldsOf}
-use Rattle.reading.specs.Answers.{offeredOf, takeBlock, taleOf, readingPlan, readGround, readOf, readAllOf}
-use Rattle.reading.proofs.Onwards.{by-front, kept}
-use Rattle.reader.proofs.open
-use Rattle.demands.proofs.NoDoubt.{Call}
-use Rattle.demands.proofs.Beyond.{Beyond, untouched, beyond-then, all-beyond}
-use Rattle.demands.proofs.LaterCalls.{ReadCall, AllCall}
+use Rattle.reading.specs.Answers.{stageAt, readGround}
+use Rattle.reader.specs.declared.AllAnswer.{AllAnswer}
+use Rattle.reader.specs.declared.ReadAnswer.{ReadAnswer}
+use Rattle.reader.specs.Answers.{readBy, allBy, readLeft, allLeft}
+use Rattle.demands.specs.Runs.{Beyond}
+use Rattle.demands.proofs.Beyond.{untouched, beyond-then, all-beyond}
+
+-- a start on memory that is long enough is kept
+start-kept : (b : List ℕ) (t : Tolerances) (c : Memory) → valid b ≡ true → tolerable t ≡ true → isLong c ≡ true
+    → Kept (plan b t) (leftAt (plan b t) (startOf (c .ledger) (c .map)))
+unfolding startRefusal
+start-kept b t c good ok long =
+    let w = both _ _ long in
+    let granted : startRefusal b t (c .ledger) (c .map) ≡ 0 = sym (pass 1 (w .0) (pass 1 (w .1) (pass 2 good (pass 3 ok refl)))) in
+    let z = startOf (c .ledger) (c .map) in
+    kept-ground (started b t) b (z .memory .ledger) (z .memory .map)
+    (ground-passed (never-refused (plan b t) (c .ledger) (c .map) (Reached.start granted) 0))
+
+-- what every accepted field keeps, on memory that was a
+module _ (a : Memory) where
+  pub record Keeps (x : Stage) : Type 0 where
+    pub beyond : Beyond a (x .run .memory)
+    pub kept : behindTolerances ≤ x .place → Kept (planOn x) (leftAt (planOn x) (x .run))
+
+  keeps-brought : (x : Stage) (tag : ℕ) (v : List ℕ) (g : Bring) → Says (x .passed) (x .vehicle) (x .cycle) (x .run .progress .offered) tag v (x .place) g → Enough x g
+      → Keeps x → Keeps (bringOn x (movesTo g) g)
+  keeps-brought x tag v nothing s n h = record { beyond = h .beyond; kept = λ e. absurd (omega arith) }
+  keeps-brought x tag v (aNumber w) s n h = record { beyond = h .beyond; kept = λ e. absurd (omega arith) }
+  keeps-brought x tag v (aCycle w) s n h = record { beyond = h .beyond; kept = λ e. absurd (omega arith) }
+  keeps-brought x tag v (theTolerances t) s n h =
+      let c = x .run .memory in
+      record {
+        beyond = beyond-then (h .beyond) (record { in-ledger = drop-cleared (pos 0) ledgerNumbers (c .ledger); in-map = drop-cleared 0 mapWords (c .map) });
+        kept = λ _. start-kept (x .cycle) t c (s .3) (s .4) n;
+      }
+  keeps-brought x tag v (ownSamples xs) s n h =
+      let q = samplesOf v in
+      let p = planOn x in
+      let good = moments-at q (countIn q) (s .3 .samples) in
+      let k = h .kept (block-places (x .place) (s .1) .0) in
+      let run-is : samplesTaken (courseOf p) (x .run) (momentAt q) (countIn q) ≡ samplesTaken (courseOf p) (x .run) (momentIn xs) (length xs) =
+      taken-list (courseOf p) (x .run) (momentAt q) (countIn q) ∙ (λ i. samplesTaken (courseOf p) (x .run) (momentIn (sym (s .2) i)) (length (sym (s .2) i))) in
+      record {
+        beyond = subst (λ (z : State). Beyond a (z .memory)) run-is (beyond-then (h .beyond) (all-beyond p (x .run) (momentAt q) (countIn q) k good));
+        kept = λ _. subst (λ (z : State). Kept p (leftAt p z)) run-is (kept-all p (x .run) (momentAt q) (countIn q) k good);
+      }
+  keeps-brought x tag v (before e) s n h = record { beyond = h .beyond; kept = λ _. h .kept (omega (arith, place-is (x .place) behindTolerances (s .1))) }
+  keeps-brought x tag v (after e) s n h = record { beyond = h .beyond; kept = λ _. h .kept (block-places (x .place) (s .1) .0) }
+  keeps-brought x tag v (charged w) s n h = record { beyond = h .beyond; kept = λ _. h .kept (recharge-places (x .place) (s .1) .0) }
+
+  pub keeps-move : (x : Stage) (i : List ℕ) (y : Stage) (m : ℕ) → moveAt tags takeOn x i ≡ on y m → Keeps x → Keeps y
+  keeps-move x i y m e h = go (moved x i y m e)
+    where
+      go : Moved x i y m → Keeps y
+      go (took f _ _ _ c) = subst Keeps (c .is) (keeps-brought x (f .tag) (f .value) (c .brings) (c .says) (c .enough) h)
+      go (went f _ _ d _ _) = subst Keeps d (record { beyond = h .beyond; kept = h .kept })
+
+  -- after the field at the front, and after all
+  keeps-reply : (x : Stage) (i : List ℕ) → Keeps x → Keeps (stageAfter x (replyOn x i))
+  keeps-reply x i h = go (replyOn x i) refl
+    where
+      go : (y : Reply Stage) → replyOn x i ≡ y → Keeps (stageAfter x y)
+      go (toField (taken z) n) e = keeps-move x i z n (ap moveOf e) h
+      go (toField (passed z) n) e = keeps-move x i z n (ap moveOf e) h
+      go (toField (refused k) n) e = h
+      go notYet e = h
+      go noField e = h
+
+  pub keeps-run : (x : Stage) (i : List ℕ) → Keeps x → Keeps (runOn x i .state)
+  keeps-run x i h = keeps-all tags takeOn Keeps keeps-move (length i) x i h
 
 -- ---- until the start
 
--- the memory is set to zero at the start, and left by all other answers
-pub memory-beyond : (a : Memory) (s : OpenStep) → Beyond a (memoryAfter s (startOf (a .ledger) (a .map) .memory) a)
-memory-beyond a (opening.Taken n) = untouched
-memory-beyond a (opening.Started n r) = record { in-ledger = drop-cleared (pos 0) ledgerNumbers (a .ledger); in-map = drop-cleared 0 mapWords (a .map) }
-memory-beyond a opening.Incomplete = untouched
-memory-beyond a (opening.Refused n) = untouched
+module _ (o : Opening) (room : List ℕ) (l : List ℤ) (m : List ℕ) where
+  pub opening-keeps : openGround o room ≡ 0 → Keeps (lent l m) (stageOf o room l m)
+  opening-keeps e = record { beyond = untouched; kept = λ p. absurd (omega (arith, ground-ready o room e .few)) }
 
-pub open-beyond : (c : Call open.ended open.Reads.Learnt) → (let (_, (_, (_, (l, (m, _))))) = c .args in
-    Beyond (lent (now l) (now m)) (lent (c .lasts .1 .1 .1 .0) (c .lasts .1 .1 .1 .1 .0)))
-open-beyond c =
-    let (o, (i, (room, (l, (m, _))))) = c .args in
-    let a = lent (now l) (now m) in
-    subst⁻¹ (Beyond a) (ap (λ y. y .memory) (c .kept)) (memory-beyond a (openOf o (now room) (now l) (now m) (now i) .step))
+  opened-memory : (x : Stage) (y : Reply Stage) → stageAfter x y .run .memory ≡ openedBy o room x y .memory
+  opened-memory x (toField (taken z) n) = refl
+  opened-memory x (toField (passed z) n) = refl
+  opened-memory x (toField (refused k) n) = refl
+  opened-memory x notYet = refl
+  opened-memory x noField = refl
 
--- ---- after it: what every field keeps, on memory that was a
+  pub open-of-beyond : (i : List ℕ) → Beyond (lent l m) (frontOpened o room l m i .memory)
+  unfolding frontOpened
+  open-of-beyond i = go (eqb (openGround o room) 0) refl
+    where
+      x : Stage
+      x = stageOf o room l m
 
-module _ (me : List ℕ) (p : Plan) (a : Memory) where
-  record Keeps (k : Tale State) : Type 0 where
-    kept : Kept p (leftAt p (k .run))
-    beyond : Beyond a (k .run .memory)
+      go : (t : Bool) → eqb (openGround o room) 0 ≡ t
+          → Beyond (lent l m) (cond t (openedBy o room x (replyOn x i)) (notOpened o room x (opening.Refused (openGround o room))) .memory)
+      go true e = subst (Beyond (lent l m)) (opened-memory x (replyOn x i)) (keeps-reply (lent l m) x i (opening-keeps (eqb-true _ 0 e)) .beyond)
+      go false e = untouched
 
-  content-keeps : (k : Tale State) (tag : ℕ) (v : List ℕ) (c : Content) → Says me (k .passed) (k .run .progress .offered) tag v c → Keeps k
-      → Keeps (taleAfter offeredOf (takeBlock p) k v c)
-  content-keeps k tag v content.Own s h =
-      let q = samplesOf v in
-      let good = moments-at q (samplesIn q) (s .1 .samples) in
-      record {
-        kept = kept-all p (k .run) (momentAt q) (samplesIn q) (h .kept) good;
-        beyond = beyond-then (h .beyond) (all-beyond p (k .run) (momentAt q) (samplesIn q) (h .kept) good);
-      }
-  content-keeps k tag v content.Foreign s h = record { kept = h .kept; beyond = h .beyond }
-  content-keeps k tag v (content.Before e) s h = record { kept = h .kept; beyond = h .beyond }
-  content-keeps k tag v (content.After e) s h = record { kept = h .kept; beyond = h .beyond }
-  content-keeps k tag v (content.Recharge w) s h = record { kept = h .kept; beyond = h .beyond }
-  content-keeps k tag v (content.Refused x) s h = h
+-- ---- after it
 
-  field-keeps : (k : Tale State) (i : List ℕ) → Keeps k → Keeps (fieldAt offeredOf (takeBlock p) me k i .tale)
-  field-keeps k i h =
-      by-front offeredOf (takeBlock p) me (λ (x : Answered State). Keeps (x .tale)) k i (λ _ _. h)
-      (λ tag n _.
-      let v = valueIn i n in
-      content-keeps k tag v (brought offeredOf (takeBlock p) me k tag v) (says me (k .passed) (k .run .progress .offered) tag v (k .place)) h)
-
-module _ (r : Reading) (b : List ℕ) (l : List ℤ) (m i : List ℕ) where
-  abbrev p : Plan
-  p = readingPlan r b
-
-  abbrev a : Memory
-  a = lent l m
-
+module _ (r : Reading) (b : List ℕ) (l : List ℤ) (m : List ℕ) where
   -- where the tests before it are passed, a reading begins with memory that is its own
-  at-first : readGround r b l m ≡ 0 → Keeps (r .vehicle) p a (taleOf r l m)
+  pub reading-keeps : readGround r b l m ≡ 0 → Keeps (lent l m) (stageAt r b l m)
   unfolding readGround
-  at-first e = record {
-    kept = kept-ground (r .run) b l m (ground-passed (not-refused 0 _ _ e .1));
-    beyond = untouched;
-  }
+  reading-keeps e = record { beyond = untouched; kept = λ _. kept-ground (r .run) b l m (ground-passed (not-refused 0 _ _ e .1)) }
 
-  read-of-beyond : Beyond a (readOf r b l m i .tale .run .memory)
-  unfolding readOf
-  read-of-beyond = go (eqb (readGround r b l m) 0) refl
-    where
-      call : Bool → Answered State
-      call y = cond y (fieldAt offeredOf (takeBlock p) (r .vehicle) (taleOf r l m) i) (record { step = step.Refused (readGround r b l m); tale = taleOf r l m })
+  module _ (i : List ℕ) where
+    abbrev x : Stage
+    x = stageAt r b l m
 
-      go : (y : Bool) → eqb (readGround r b l m) 0 ≡ y → Beyond a (call y .tale .run .memory)
-      go true e = field-keeps (r .vehicle) p a (taleOf r l m) i (at-first (eqb-true _ 0 e)) .beyond
-      go false e = untouched
+    pub read-of-beyond : Beyond (lent l m) (readLeft r b l m i .memory)
+    unfolding readLeft
+    read-of-beyond = go (eqb (readGround r b l m) 0) refl
+      where
+        call : Bool → Left ReadAnswer
+        call t = cond t (readBy r x (replyOn x i)) (left (record { step = step.Refused (readGround r b l m); reading = r }) l m)
 
-  pub read-all-of-beyond : Beyond a (readAllOf r b l m i .tale .run .memory)
-  unfolding readAllOf
-  read-all-of-beyond = go (eqb (readGround r b l m) 0) refl
-    where
-      call : Bool → Read State
-      call y =
-          cond y (fieldsOf offeredOf (takeBlock p) (r .vehicle) (taleOf r l m) i)
-          (record { tale = taleOf r l m; fields = 0; used = 0; last = step.Refused (readGround r b l m) })
+        go : (t : Bool) → eqb (readGround r b l m) 0 ≡ t → Beyond (lent l m) (call t .memory)
+        go true e = keeps-reply (lent l m) x i (reading-keeps (eqb-true _ 0 e)) .beyond
+        go false e = untouched
 
-      go : (y : Bool) → eqb (readGround r b l m) 0 ≡ y → Beyond a (call y .tale .run .memory)
-      go true e =
-          kept offeredOf (takeBlock p) (r .vehicle) (Keeps (r .vehicle) p a) (field-keeps (r .vehicle) p a) (length i) (taleOf r l m) i
-          (at-first (eqb-true _ 0 e)) .beyond
-      go false e = untouched
+    pub read-all-of-beyond : Beyond (lent l m) (allLeft r b l m i .memory)
+    unfolding allLeft
+    read-all-of-beyond = go (eqb (readGround r b l m) 0) refl
+      where
+        call : Bool → Left AllAnswer
+        call t = cond t (allBy r (runOn x i)) (left (record { reading = r; fields = 0; used = 0; last = step.Refused (readGround r b l m) }) l m)
 
-pub read-beyond : (c : ReadCall) → (let (_, (_, (_, (l, (m, _))))) = c .args in
-    Beyond (lent (now l) (now m)) (lent (c .lasts .1 .1 .1 .0) (c .lasts .1 .1 .1 .1 .0)))
-read-beyond c =
-    let (r, (i, (b, (l, (m, _))))) = c .args in
-    subst⁻¹ (Beyond (lent (now l) (now m))) (ap (λ y. y .memory) (c .kept)) (read-of-beyond r (now b) (now l) (now m) (now i))
-
-pub read-all-beyond : (c : AllCall) → (let (_, (_, (_, (l, (m, _))))) = c .args in
-    Beyond (lent (now l) (now m)) (lent (c .lasts .1 .1 .1 .0) (c .lasts .1 .1 .1 .1 .0)))
-read-all-beyond c =
-    let (r, (i, (b, (l, (m, _))))) = c .args in
-    subst⁻¹ (Beyond (lent (now l) (now m))) (ap (λ y. y .memory) (c .kept)) (read-all-of-beyond r (now b) (now l) (now m) (now i))
+        go : (t : Bool) → eqb (readGround r b l m) 0 ≡ t → Beyond (lent l m) (call t .memory)
+        go true e = keeps-run (lent l m) x i (reading-keeps (eqb-true _ 0 e)) .beyond
+        go false e = untouched

@@ -10,17 +10,18 @@ use native.Mathlib.Omega.{arith}
 use lib.Dec.{ltb}
 use lib.IntN.{ℤ, pos}
 use lib.ListN.{length}
-use Rattle.numbers.specs.Tests.{bit}
+use Rattle.rules.specs.Words.{bit}
 use Rattle.rules.specs.declared.Moment.{Moment}
 use Rattle.rules.specs.declared.End.the-variants.{None as none, Stop as stop, Limit as limit}
 use Rattle.rules.specs.Bench.{mostCycles}
-use Rattle.rules.specs.Course.{Course, stopsAt, outside, counted, stopped, judged, closed}
+use Rattle.rules.specs.Course.{Course, stopsAt, outside, counted, judged, closed}
+use Rattle.laws.specs.Beside.{stopped}
 use Rattle.rules.specs.Regular.{cycleOf, Plan, courseOf, momentIn}
 use Rattle.rules.specs.Shown.{shownRow}
-use Rattle.rules.proofs.NineNumbers.{outside-figure}
-use Rattle.rules.proofs.Regular.{shown-last}
-use Rattle.rules.proofs.Sound.{real}
-use Rattle.rules.proofs.Tally.{judged-le}
+use Rattle.laws.proofs.NineNumbers.{outside-figure}
+use Rattle.laws.proofs.Regular.{shown-last}
+use Rattle.laws.proofs.Sound.{real}
+use Rattle.laws.proofs.Tally.{judged-le}
 use Rattle.ledger.specs.Row.{outsideIn}
 use Rattle.state.specs.declared.Run.{Run}
 use Rattle.state.specs.Refusals.{judgedBy, lastCycle}

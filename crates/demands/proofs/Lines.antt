@@ -4,10 +4,10 @@ use mathlib.Core.List.{List, _++_, append-assoc}
 use mathlib.Core.Path.{_≡_}
 use Prim.Native.Nat.{ℕ}
 use lib.IntN.{ℤ, pos}
-use Rattle.sheet.specs.declared.Figures.{Figures}
-use Rattle.sheet.specs.Text.{signed, line, outsideWord, drawnWord, headLines, countLines, closingLines, sheetText}
-use Rattle.figures.proofs.WiderFigures.{withCounts, withOutside}
-use Rattle.demands.specs.Compared.{outsideLine, passedLine}
+use Rattle.rules.specs.declared.Figures.{Figures}
+use Rattle.rules.specs.Text.{signed, line, outsideWord, drawnWord, headLines, countLines, closingLines, sheetText}
+use Rattle.figures.specs.Compared.{withOutside}
+use Rattle.demands.specs.Compared.{outsideLine, passedLine, withPassed}
 
 -- a word and a signed number
 abbrev signedLine : List ℕ → ℤ → List ℕ
@@ -34,10 +34,6 @@ abovePassed f = headLines f ++ signedLine outsideWord (f .outside)
 
 abbrev pub belowPassed : Figures → List ℕ
 belowPassed f = signedLine drawnWord (f .drawn) ++ closingLines f
-
--- the figures, with another `passed`
-abbrev pub withPassed : Figures → ℕ → Figures
-withPassed f n = withCounts f (f .outside) n
 
 regroup-third : (a b c d e : List ℕ) → a ++ (b ++ c ++ d) ++ e ≡ (a ++ b) ++ (c ++ (d ++ e))
 regroup-third a b c d e = simp append-assoc

@@ -9,12 +9,12 @@ use lib.Dec.{eqb}
 use lib.IntN.{ℤ}
 use lib.ListN.{drop}
 use denote.Ref.{RefT, now}
-use Rattle.numbers.specs.Tests.{settled}
+use Rattle.rules.specs.Words.{settled}
 use Rattle.numbers.proofs.Tests.{pass}
 use Rattle.rules.specs.declared.Charge.{Charge}
 use Rattle.rules.specs.declared.Moment.{Moment}
 use Rattle.rules.specs.Regular.{Plan}
-use Rattle.rules.specs.Closing.{areAmounts, closingRefusal}
+use Rattle.rules.specs.Closing.{closingRefusal, chargedBy, rechargeBy}
 use Rattle.state.specs.declared.Run.{Run}
 use Rattle.state.specs.State.{ground}
 use Rattle.state.specs.Refusals.{sampleRefusal}
@@ -23,20 +23,21 @@ use Rattle.judge.specs.declared.Answer.the-variants as answer
 use Rattle.judge.specs.declared.ShownAnswer.the-variants as counts
 use Rattle.judge.specs.declared.TotalsAnswer.the-variants as sums
 use Rattle.judge.proofs.Runs as runs
-use Rattle.consumption.specs.declared.Figure.{Figure}
-use Rattle.consumption.specs.declared.Figure.the-variants as fig
-use Rattle.consumption.specs.Figures.{chargedBy, rechargeBy}
+use Rattle.rules.specs.declared.Figure.{Figure}
+use Rattle.rules.specs.declared.Figure.the-variants as fig
 use Rattle.reading.specs.declared.Reading.{Reading}
 use Rattle.reading.specs.declared.Step.the-variants as step
 use Rattle.reading.specs.Answers.{isReading, readGround}
 use Rattle.figures.specs.declared.Found.{Found}
+use Rattle.demands.specs.Calls.{SampleCall, BlockCall}
 use Rattle.demands.specs.Cases.{answerNumber, shownNumber, totalsNumber, figureNumber, stepNumber, Neither1Nor2, orElse}
-use Rattle.demands.proofs.Cases.{settled-number, or-else-number, sample-number, block-number, shown-number, totals-number}
-use Rattle.demands.proofs.ReaderCases.{read-number, read-all-number}
-use Rattle.demands.proofs.Driven.{SampleCall, BlockCall, On, SampleOn, BlockOn, Driven, driven-reached}
-use Rattle.demands.proofs.LaterCalls.{ShownCall, TotalsCall, WeightedCall, RangeCall, RechargeCall, FiguresCall, ReadCall, AllCall, ShownOn, TotalsOn, WeightedOn, RangeOn, RechargeOn, FiguresOn, ReadOn, AllOn, weightedAmounts, rangeAmounts, rechargeAmounts}
+use Rattle.demands.specs.Demand2.{NeverRefused}
+use Rattle.demands.specs.Runs.{On, SampleOn, BlockOn, Driven, rechargeAmounts}
+use Rattle.demands.proofs.Numbers.{settled-number, or-else-number}
+use Rattle.demands.proofs.HasItsNumber.{has-its-number}
+use Rattle.demands.proofs.Driven.{driven-reached}
 use Rattle.demands.proofs.Neither.{Neither, unless-neither, cond-neither, zero-neither, by-number, closing-neither, charge-neither, next-neither}
-use Rattle.demands.proofs.Demand2.{weighted-of-run, range-of-run, recharge-of-run, figures-of-run}
+use Rattle.demands.proofs.OfRun.{run-answers}
 
 -- ---- figures by the rules
 
@@ -64,13 +65,13 @@ module _ {p : Plan} {l₀ : List ℤ} {m₀ : List ℕ} {xs : List Moment} {r : 
   sample-neither : (c : SampleCall) → SampleOn r (p .cycle) l m c → Neither1Nor2 answer.Refused (c .answer)
   unfolding sampleRefusal
   sample-neither c on =
-      by-number answerNumber answer.Refused (λ k. refl) (sample-number c ∙ grounded on _)
+      by-number answerNumber answer.Refused (λ k. refl) (has-its-number .sample-number c ∙ grounded on _)
       (unless-neither _ (omega arith) (unless-neither _ (omega arith) zero-neither))
 
   block-neither : (c : BlockCall) → BlockOn r (p .cycle) l m c → Neither1Nor2 answer.Refused (c .answer)
   unfolding blockRefusal
   block-neither c on =
-      by-number answerNumber answer.Refused (λ k. refl) (block-number c ∙ grounded on _)
+      by-number answerNumber answer.Refused (λ k. refl) (has-its-number .block-number c ∙ grounded on _)
       (unless-neither _ (omega arith) (unless-neither _ (omega arith) (unless-neither _ (omega arith) (unless-neither _ (omega arith) zero-neither))))
 
   reading-neither : (reading : Reading) (cycle : RefT (List ℕ)) (ledger : RefT (List ℤ)) (map : RefT (List ℕ)) → On r (p .cycle) l m (reading .run) cycle ledger map
@@ -80,35 +81,21 @@ module _ {p : Plan} {l₀ : List ℤ} {m₀ : List ℕ} {xs : List Moment} {r : 
       let z : readGround reading (now cycle) (now ledger) (now map) ≡ 0 = sym (pass 1 ok (sym (grounded on 0))) in
       cond-neither (eqb (readGround reading (now cycle) (now ledger) (now map)) 0) next _ g (omega (arith, z))
 
-  pub record NeverRefused : Type 0 where
-    pub sample : (c : SampleCall) → SampleOn r (p .cycle) l m c → Neither1Nor2 answer.Refused (c .answer)
-    pub block : (c : BlockCall) → BlockOn r (p .cycle) l m c → Neither1Nor2 answer.Refused (c .answer)
-    pub shown : (c : ShownCall) → ShownOn r (p .cycle) l m c → Neither1Nor2 counts.Refused (c .answer)
-    pub totals : (c : TotalsCall) → TotalsOn r (p .cycle) l m c → Neither1Nor2 sums.Refused (c .answer)
-    -- with amounts within their limits
-    pub weighted : (c : WeightedCall) → WeightedOn r (p .cycle) l m c → areAmounts (weightedAmounts c) ≡ true → Neither1Nor2 fig.Refused (c .answer)
-    pub range : (c : RangeCall) → RangeOn r (p .cycle) l m c → areAmounts (rangeAmounts c) ≡ true → Neither1Nor2 fig.Refused (c .answer)
-    pub recharge : (c : RechargeCall) → RechargeOn r (p .cycle) l m c → areAmounts (rechargeAmounts c) ≡ true → Neither1Nor2 fig.Refused (c .answer)
-    -- with a reading whose own numbers are within their limits
-    pub figures : (c : FiguresCall) → FiguresOn r (p .cycle) l m c → isReading (c .args .0) ≡ true → c .answer .refusal ≡ 0
-    pub read : (c : ReadCall) → ReadOn r (p .cycle) l m c → isReading (c .args .0) ≡ true → Neither1Nor2 step.Refused (c .answer .step)
-    pub read-all : (c : AllCall) → AllOn r (p .cycle) l m c → isReading (c .args .0) ≡ true → Neither1Nor2 step.Refused (c .answer .last)
-
-  pub never-refused-1-or-2 : NeverRefused
-  never-refused-1-or-2 = record {
+  pub never-refused : NeverRefused p l₀ m₀ xs r l m
+  never-refused = record {
     sample = sample-neither;
     block = block-neither;
-    shown = λ c on. by-number shownNumber counts.Refused (λ k. refl) (shown-number c ∙ grounded on 0) zero-neither;
-    totals = λ c on. by-number totalsNumber sums.Refused (λ k. refl) (totals-number c ∙ grounded on 0) zero-neither;
-    weighted = λ c on ok. figure-neither _ _ _ _ _ (weighted-of-run h c on ok);
-    range = λ c on ok. figure-neither _ _ _ _ _ (range-of-run h c on ok);
-    recharge = λ c on ok. recharge-neither _ _ _ _ (rechargeAmounts c .after) (rechargeAmounts c .charge) (recharge-of-run h c on ok);
-    figures = λ c on ok. ap (λ (x : Found). x .refusal) (figures-of-run h c on ok);
+    shown = λ c on. by-number shownNumber counts.Refused (λ k. refl) (has-its-number .shown-number c ∙ grounded on 0) zero-neither;
+    totals = λ c on. by-number totalsNumber sums.Refused (λ k. refl) (has-its-number .totals-number c ∙ grounded on 0) zero-neither;
+    weighted = λ c on ok. figure-neither _ _ _ _ _ (run-answers h .weighted-of-run c on ok);
+    range = λ c on ok. figure-neither _ _ _ _ _ (run-answers h .range-of-run c on ok);
+    recharge = λ c on ok. recharge-neither _ _ _ _ (rechargeAmounts c .after) (rechargeAmounts c .charge) (run-answers h .recharge-of-run c on ok);
+    figures = λ c on ok. ap (λ (x : Found). x .refusal) (run-answers h .figures-of-run c on ok);
     read = λ c on ok.
         let (reading, (i, (cycle, (ledger, (map, _))))) = c .args in
-        by-number stepNumber step.Refused (λ k. refl) (read-number c) (reading-neither reading cycle ledger map on ok _ (next-neither reading (now i)));
+        by-number stepNumber step.Refused (λ k. refl) (has-its-number .read-number c) (reading-neither reading cycle ledger map on ok _ (next-neither reading (now cycle) (now ledger) (now map) (now i)));
     read-all = λ c on ok.
         let (reading, (i, (cycle, (ledger, (map, _))))) = c .args in
-        by-number stepNumber step.Refused (λ k. refl) (read-all-number c)
-        (reading-neither reading cycle ledger map on ok _ (next-neither (c .answer .reading) (drop (c .answer .used) (now i))));
+        by-number stepNumber step.Refused (λ k. refl) (has-its-number .read-all-number c)
+        (reading-neither reading cycle ledger map on ok _ (next-neither (c .answer .reading) (now cycle) (c .lasts .1 .1 .1 .0) (c .lasts .1 .1 .1 .1 .0) (drop (c .answer .used) (now i))));
   }

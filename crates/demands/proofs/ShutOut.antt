@@ -11,19 +11,18 @@ use lib.Dec.{ltb, lit≤, lit<}
 use lib.IntN.{ℤ, pos}
 use lib.ListN.{length}
 use denote.Ref.{now}
-use Rattle.numbers.specs.Bytes.{be}
-use Rattle.numbers.specs.Range.{fold, gather, first, table}
-use Rattle.numbers.specs.Tests.{allBelow, unless}
+use Rattle.rules.specs.Words.{be, fold, gather, first, table, allBelow, unless}
 use Rattle.numbers.proofs.Tests.{pass, settled-taken}
 use Rattle.rules.specs.declared.End.the-variants.{None as none, Stop as stop, Limit as limit}
 use Rattle.rules.specs.declared.Sample.{Sample}
 use Rattle.rules.specs.declared.Moment.{Moment}
 use Rattle.rules.specs.declared.Tolerances.{Tolerances}
 use Rattle.rules.specs.Bench.{isSample, momentOf, tolerable, mostSpeed, mostCycles, mostOffered}
-use Rattle.rules.specs.Cycle.{valid, positions}
+use Rattle.rules.specs.Cycle.{valid}
 use Rattle.rules.specs.Band.{grid20, inside, side, verdict}
 use Rattle.rules.specs.Tally as tally
-use Rattle.rules.specs.Course.{outside, stopped, judged, closed}
+use Rattle.rules.specs.Course.{outside, judged, closed}
+use Rattle.laws.specs.Beside.{stopped, isBlock}
 use Rattle.rules.specs.Regular.{Plan, plan, courseOf, momentIn}
 use Rattle.rules.specs.Shown.{ledgerNumbers, mapWords, figure, shownRow, marked}
 use Rattle.ledger.specs.Row.{at, outsideIn}
@@ -34,22 +33,24 @@ use Rattle.state.specs.Refusals.{startRefusal, sampleRefusal}
 use Rattle.step.specs.Step.{State, outNow, stateOf, withProgress}
 use Rattle.step.proofs.Steps.{taken-offered}
 use Rattle.step.proofs.Keeping.{all-offered}
-use Rattle.blocks.specs.Blocks.{momentAt, samplesIn, areSamples, isBlock, blockRefusal}
-use Rattle.blocks.proofs.Bytes.{block-of, block-accepted}
+use Rattle.rules.specs.Values.{momentAt, countIn, areSamples}
+use Rattle.blocks.specs.Blocks.{blockRefusal}
+use Rattle.laws.proofs.Samples.{block-of}
+use Rattle.blocks.proofs.Accepted.{block-accepted}
 use Rattle.judge.specs.declared.Answer.{Answer}
 use Rattle.judge.specs.declared.Answer.the-variants.{Taken, Refused}
 use Rattle.judge.specs.Answers.{planOf, afterSample, afterBlock}
 use Rattle.judge.proofs.Promises.{Promised, answer-taken}
 use Rattle.judge.proofs.Runs as runs
-use Rattle.bench.specs.Question.{question}
-use Rattle.bench.proofs.paperwhelk_verdict
-use Rattle.demands.specs.Rows.{risen, noTime, ofSpeed, eleven, level, allowsThree, fourFast}
-use Rattle.demands.proofs.NoDoubt.{Call}
-use Rattle.demands.proofs.Driven.{StartCall, SampleCall, BlockCall, StartOn, SampleOn, BlockOn, sampleIn, bytesIn, start-kept, sample-kept, block-kept, Driven, driven-reached, sample-promised}
-use Rattle.demands.proofs.Driven.Driven.{takes-block}
+use Rattle.rules.specs.Question.{question}
+use Rattle.demands.specs.Calls.{StartCall, SampleCall, BlockCall, VerdictCall}
+use Rattle.demands.specs.Demand2.{Asks, WorkedThrough, ShutsOut, ShutsOutAlways}
+use Rattle.demands.specs.Rows.{risen, noTime, ofSpeed, eleven, level, allowsThree, fourFast, momentsOf}
+use Rattle.demands.specs.Runs.{StartOn, SampleOn, BlockOn, sampleIn, bytesIn, Driven, takes-block}
+use Rattle.demands.proofs.Driven.{start-kept, sample-kept, block-kept, driven-reached, sample-promised}
 use Rattle.demands.proofs.LastJudged.{outsides-are}
-use Rattle.demands.proofs.Demand2.{state-shows, ledger-shows, map-shows, ones-are-outside}
-use Rattle.demands.proofs.SomeRun.{momentsOf, some-run}
+use Rattle.demands.proofs.OfRun.{run-shows}
+use Rattle.demands.proofs.SomeRun.{some-run}
 
 -- ---- "a judge that refuses everything"
 
@@ -78,7 +79,7 @@ module _ {p : Plan} {l₀ : List ℤ} {m₀ : List ℕ} {xs : List Moment} {r : 
       (grounded _ ∙ sym (pass 7 (le-leb (r .progress .offered + 1) mostOffered (omega arith)) (pass 5 ok refl)))
 
   pub block-not-refused : (c : BlockCall) → BlockOn r (p .cycle) l m c → (let q = bytesIn c in
-      isBlock (length q) ≡ true → c .args .1 .1 .1 .1 .0 ≡ r .progress .offered → r .progress .offered + samplesIn q ≤ mostOffered → areSamples q (samplesIn q) ≡ true
+      isBlock (length q) ≡ true → c .args .1 .1 .1 .1 .0 ≡ r .progress .offered → r .progress .offered + countIn q ≤ mostOffered → areSamples q (countIn q) ≡ true
       → (k : ℕ) → c .answer ≡ Refused k → ⊥)
   unfolding blockRefusal
   block-not-refused c on whole first room ok =
@@ -86,9 +87,6 @@ module _ {p : Plan} {l₀ : List ℤ} {m₀ : List ℕ} {xs : List Moment} {r : 
       (grounded _ ∙ sym (pass 8 whole (pass 6 (eq-eqb _ _ first) (pass 7 (le-leb _ mostOffered room) (pass 5 ok refl)))))
 
 -- ---- "one with a constant verdict"
-
-abbrev VerdictCall : Type 0
-VerdictCall = Call paperwhelk_verdict.ended paperwhelk_verdict.Reads.Learnt
 
 -- the question of the test card's first row, with a speed, as a call that keeps its promise
 asked : ℕ → VerdictCall
@@ -107,13 +105,6 @@ inside-answer = refl
 outside-answer : question risen noTime 10 19 ≡ pos 1
 unfolding question be fold allBelow unless valid tolerable grid20 verdict side
 outside-answer = refl
-
--- a question that breaks no rule
-pub record Asks (c : VerdictCall) : Type 0 where
-  pub cycle : valid (now (c .args .0)) ≡ true
-  pub tolerated : tolerable (record { speed = c .args .1 .0; time = c .args .1 .1 .0; allowance = c .args .1 .1 .1 .0 }) ≡ true
-  pub position : c .args .1 .1 .1 .1 .0 < positions (now (c .args .0))
-  pub speed : c .args .1 .1 .1 .1 .1 .0 ≤ mostSpeed
 
 asks : (speed : ℕ) → speed ≤ mostSpeed → Asks (asked speed)
 unfolding be allBelow valid tolerable asked
@@ -140,11 +131,11 @@ no-constant-out y h =
 -- nor is the mark that it leaves: after eleven samples, the last of speed 20 or 19
 unmarked : {l₀ : List ℤ} {m₀ : List ℕ} {r : Run} {l : List ℤ} {m : List ℕ} → Driven (plan risen noTime) l₀ m₀ (momentsOf (eleven 20)) r l m → isSet m 10 ≡ false
 unfolding be fold gather first grid20 inside tally.over shownRow marked
-unmarked h = map-shows h 10 (lit< tt)
+unmarked h = run-shows h .map-shows 10 (lit< tt)
 
 marked-outside : {l₀ : List ℤ} {m₀ : List ℕ} {r : Run} {l : List ℤ} {m : List ℕ} → Driven (plan risen noTime) l₀ m₀ (momentsOf (eleven 19)) r l m → isSet m 10 ≡ true
 unfolding be fold gather first grid20 inside tally.over shownRow marked
-marked-outside h = map-shows h 10 (lit< tt)
+marked-outside h = run-shows h .map-shows 10 (lit< tt)
 
 pub no-constant-mark : (l₀ : List ℤ) (m₀ : List ℕ) → ledgerNumbers ≤ length l₀ → mapWords ≤ length m₀ → (y : Bool)
     → ((v : ℕ) (r : Run) (l : List ℤ) (m : List ℕ) → Driven (plan risen noTime) l₀ m₀ (momentsOf (eleven v)) r l m → isSet m 10 ≡ y) → ⊥
@@ -170,13 +161,6 @@ module _ (c : SampleCall) {r′ : Run} (e : c .answer ≡ Taken r′) where
 
 -- ---- "one that works through the first block and lets later ones slide by"
 
--- a block that is taken, first or later, has samples, and each of them is taken by the rules
-pub record WorkedThrough (r : Run) (b : List ℕ) (l : List ℤ) (m q : List ℕ) (r′ : Run) (l′ : List ℤ) (m′ : List ℕ) : Type 0 where
-  pub some : 1 ≤ samplesIn q
-  pub offered : r′ .progress .offered ≡ r .progress .offered + samplesIn q
-  pub run : r′ ≡ withProgress r (afterBlock r b l m q .progress)
-  pub memory : lent l′ m′ ≡ afterBlock r b l m q .memory
-
 pub every-block-is-worked-through : {r : Run} {b : List ℕ} {l : List ℤ} {m : List ℕ} (c : BlockCall) → BlockOn r b l m c → {r′ : Run} → c .answer ≡ Taken r′
     → WorkedThrough r b l m (bytesIn c) r′ (c .lasts .1 .1 .0) (c .lasts .1 .1 .1 .0)
 every-block-is-worked-through {r} {b} {l} {m} c on {r′} e =
@@ -188,7 +172,7 @@ every-block-is-worked-through {r} {b} {l} {m} c on {r′} e =
     let size = block-of (length q) (w .block) in
     record {
       some = omega (arith, size .some, size .whole);
-      offered = ap (λ (y : Run). y .progress .offered) (sym same) ∙ all-offered (courseOf (planOf r b)) (stateOf r l m) (momentAt q) (samplesIn q);
+      offered = ap (λ (y : Run). y .progress .offered) (sym same) ∙ all-offered (courseOf (planOf r b)) (stateOf r l m) (momentAt q) (countIn q);
       run = sym same;
       memory = k .in-memory ∙ settled-taken (lent l m) z;
     }
@@ -196,9 +180,9 @@ every-block-is-worked-through {r} {b} {l} {m} c on {r′} e =
 module _ {p : Plan} {l₀ : List ℤ} {m₀ : List ℕ} {xs : List Moment} {r : Run} {l : List ℤ} {m : List ℕ} (h : Driven p l₀ m₀ xs r l m) where
   -- so after a later block the ledger shows its samples behind those before
   pub later-block-shows : (c : BlockCall) → BlockOn r (p .cycle) l m c → {r′ : Run} → c .answer ≡ Taken r′
-      → (let ys = xs ++ table (momentAt (bytesIn c)) (samplesIn (bytesIn c)) in
+      → (let ys = xs ++ table (momentAt (bytesIn c)) (countIn (bytesIn c)) in
       (i : ℕ) → i < ledgerNumbers → at (c .lasts .1 .1 .0) i ≡ figure (courseOf p) (momentIn ys) (length ys) i)
-  later-block-shows c on e = ledger-shows (takes-block h c on e)
+  later-block-shows c on e = run-shows (takes-block h c on e) .ledger-shows
 
   -- ---- "and one whose outside count is invented: count and map are both tied to the band"
 
@@ -213,18 +197,18 @@ module _ {p : Plan} {l₀ : List ℤ} {m₀ : List ℕ} {xs : List Moment} {r : 
       other cc
 
   pub no-invented-map : (n : ℕ) → (n ≡ banded (shownRow (courseOf p .layout) (judged (courseOf p) (momentIn xs) (length xs))) → ⊥) → onesOf m ≡ n → ⊥
-  no-invented-map n other e = other (sym e ∙ ones-are-outside h)
+  no-invented-map n other e = other (sym e ∙ run-shows h .ones-are-outside)
 
   -- ---- and one that never stops: "Demand 3 alone would admit a judge that never stops, so it is stated over demand 2's definition."
 
   pub stops-by-the-rules : stopped (courseOf p) (momentIn xs) (length xs) ≡ true → r .progress .end ≡ stop
-  stops-by-the-rules e = state-shows h .2 ∙ rw e
+  stops-by-the-rules e = run-shows h .state-shows .2 ∙ rw e
 
   pub stops-only-by-the-rules : r .progress .end ≡ stop → stopped (courseOf p) (momentIn xs) (length xs) ≡ true
   stops-only-by-the-rules e =
       let c = courseOf p in
       let s = momentIn xs in
-      ended (stopped c s (length xs)) (ltb (closed c s (length xs)) (c .layout .most)) (sym (state-shows h .2) ∙ e)
+      ended (stopped c s (length xs)) (ltb (closed c s (length xs)) (c .layout .most)) (sym (run-shows h .state-shows .2) ∙ e)
     where
       ended : (x y : Bool) → cond x stop (cond y none limit) ≡ stop → x ≡ true
       ended true y q = refl
@@ -235,3 +219,26 @@ module _ {p : Plan} {l₀ : List ℤ} {m₀ : List ℕ} {xs : List Moment} {r : 
 pub no-judge-that-never-stops : {l₀ : List ℤ} {m₀ : List ℕ} {r : Run} {l : List ℤ} {m : List ℕ} → Driven (plan level allowsThree) l₀ m₀ (momentsOf fourFast) r l m → (r .progress .end ≡ stop → ⊥) → ⊥
 unfolding be fold gather first grid20 inside tally.over
 no-judge-that-never-stops h go-on = go-on (stops-by-the-rules h refl)
+
+-- ---- together
+
+pub shuts-out : {p : Plan} {l₀ : List ℤ} {m₀ : List ℕ} {xs : List Moment} {r : Run} {l : List ℤ} {m : List ℕ} → Driven p l₀ m₀ xs r l m → ShutsOut p l₀ m₀ xs r l m
+shuts-out h = record {
+  sample-not-refused = sample-not-refused h;
+  block-not-refused = block-not-refused h;
+  later-block-shows = later-block-shows h;
+  no-invented-count = no-invented-count h;
+  no-invented-map = no-invented-map h;
+  stops-by-the-rules = stops-by-the-rules h;
+  stops-only-by-the-rules = stops-only-by-the-rules h;
+}
+
+pub shuts-out-always : ShutsOutAlways
+shuts-out-always = record {
+  start-not-refused = start-not-refused;
+  no-constant-verdict = no-constant-verdict;
+  no-constant-mark = no-constant-mark;
+  sample-is-offered = λ c e. sample-is-offered c e;
+  every-block-is-worked-through = every-block-is-worked-through;
+  no-judge-that-never-stops = no-judge-that-never-stops;
+}

@@ -5,16 +5,15 @@ use mathlib.Core.Path.{_≡_, refl}
 use Prim.Native.Nat.{ℕ, _≤_}
 use lib.Dec.{leb}
 use lib.ListN.{length, drop}
-use Rattle.numbers.specs.Tests.{unless}
-use Rattle.records.proofs.Calls.{Lent}
-use Rattle.sheet.specs.Overlaid.{overlaid}
-use Rattle.sheet.specs.Text.{mostSheet}
+use Rattle.rules.specs.Words.{unless}
+use Rattle.desk.specs.Feeding.{Lent, Laid, feedOf}
+use Rattle.sheet.specs.Overlaid.{overlaid, mostSheet}
 use Rattle.desk.specs.declared.Outcome.the-variants.{More}
-use Rattle.desk.specs.Feeding.{Laid, laidOf, emptyDesk, feedOf}
 use Rattle.prints.specs.Printed.{closeText}
-use Rattle.demands.proofs.SomeRun.{to}
-use Rattle.demands.proofs.Arrivals.{FeedCall, CloseCall, CloseOn, FedIn}
-use Rattle.demands.proofs.Arrivals.FedIn.{empty, more}
+use Rattle.demands.specs.Calls.{FeedCall, CloseCall, left}
+use Rattle.demands.specs.Demand2.{Speaks}
+use Rattle.demands.specs.Runs.{FedIn, SomeClose, more}
+use Rattle.demands.proofs.SomeRun.{to, some-run}
 
 -- calls with the answers that the contracts ask for
 abbrev feedCall : Laid → List ℕ → FeedCall
@@ -45,10 +44,9 @@ module _ (lent : Lent) where
       → FedIn lent (w ++ new) (feedOf x (rest ++ new) .laid) (drop (feedOf x (rest ++ new) .used) (rest ++ new))
   some-part {rest = rest} {x = x} h new e = more h new (feedCall x (rest ++ new)) (record { desk = refl; input = refl; room = refl; ledger = refl; map = refl }) e
 
-  -- a record in one part
-  pub some-record : (w : List ℕ) → (let y = feedOf (laidOf emptyDesk (lent .room₀) (lent .l₀) (lent .m₀)) w in y .outcome ≡ More → FedIn lent w (y .laid) (drop (y .used) w))
-  some-record w e = some-part empty w e
-
 -- where the input ends
-pub some-close : (x : Laid) (rest out : List ℕ) → mostSheet ≤ length out → CloseOn x rest (closeCall x (length rest) out)
-some-close x rest out h = record { desk = refl; left = refl; room = refl; ledger = refl; map = refl; long = h }
+pub some-close : (x : Laid) (rest out : List ℕ) → mostSheet ≤ length out → SomeClose x rest
+some-close x rest out h = record { call = closeCall x (length rest) out; on = record { desk = refl; left = refl; room = refl; ledger = refl; map = refl; long = h } }
+
+pub speaks : Speaks
+speaks = record { some-run = some-run; some-part = some-part; some-close = some-close }

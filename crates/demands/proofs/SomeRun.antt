@@ -9,7 +9,7 @@ use borrow.Author.Tests.{le-leb}
 use lib.IntN.{ℤ}
 use lib.ListN.{length, length-append}
 use denote.Ref.{RefT}
-use Rattle.numbers.specs.Tests.{every}
+use Rattle.rules.specs.Words.{every}
 use Rattle.numbers.proofs.Tests.{both, pass, settled-taken}
 use Rattle.rules.specs.declared.Sample.{Sample}
 use Rattle.rules.specs.declared.Moment.{Moment}
@@ -22,9 +22,11 @@ use Rattle.state.specs.declared.Run.{Run}
 use Rattle.state.specs.Refusals.{startRefusal, sampleRefusal}
 use Rattle.judge.specs.Answers.{startLeft, sampleLeft}
 use Rattle.judge.proofs.Runs as runs
-use Rattle.demands.proofs.Driven.{StartCall, SampleCall, Driven, driven-reached}
-use Rattle.demands.proofs.Driven.Driven.{begins, takes}
-use Rattle.demands.proofs.Demand2.{state-shows}
+use Rattle.demands.specs.Calls.{StartCall, SampleCall}
+use Rattle.demands.specs.Rows.{momentsOf}
+use Rattle.demands.specs.Runs.{SomeRun, begins, takes}
+use Rattle.demands.proofs.Driven.{driven-reached}
+use Rattle.demands.proofs.OfRun.{run-shows}
 
 -- a reference somewhere
 abbrev pub to : {A : Type 0} → A → RefT A
@@ -53,21 +55,11 @@ sampleCall r b l m x =
       kept = refl;
     }
 
--- what a run takes of the samples
-abbrev pub momentsOf : List Sample → List Moment
-momentsOf = map momentOf
-
 module _ (p : Plan) (l₀ : List ℤ) (m₀ : List ℕ) where
-  pub record SomeRun (xs : List Moment) : Type 0 where
-    pub run : Run
-    pub ledger : List ℤ
-    pub map : List ℕ
-    pub driven : Driven p l₀ m₀ xs run ledger map
-
-  one-more : {ys : List Moment} (s : SomeRun ys) (x : Sample) → isSample x ≡ true → suc (length ys) ≤ mostOffered → SomeRun (ys ++ momentOf x ∷ [])
+  one-more : {ys : List Moment} (s : SomeRun p l₀ m₀ ys) (x : Sample) → isSample x ≡ true → suc (length ys) ≤ mostOffered → SomeRun p l₀ m₀ (ys ++ momentOf x ∷ [])
   unfolding sampleRefusal
   one-more s x ok room =
-      let offered = state-shows (s .driven) .0 in
+      let offered = run-shows (s .driven) .state-shows .0 in
       let z : sampleRefusal (s .run) (p .cycle) (s .ledger) (s .map) x ≡ 0 =
       runs.never-refused p l₀ m₀ (driven-reached p l₀ m₀ (s .driven)) _ ∙ sym (pass 7 (le-leb (s .run .progress .offered + 1) mostOffered (omega arith)) (pass 5 ok refl)) in
       record {
@@ -77,15 +69,15 @@ module _ (p : Plan) (l₀ : List ℤ) (m₀ : List ℕ) where
         driven = takes (s .driven) (sampleCall (s .run) (p .cycle) (s .ledger) (s .map) x) (record { run-is = refl; cycle-is = refl; ledger-is = refl; map-is = refl }) (settled-taken _ z);
       }
 
-  all-more : {ys : List Moment} (s : SomeRun ys) (xs : List Sample) → every isSample xs ≡ true → length ys + length xs ≤ mostOffered → SomeRun (ys ++ momentsOf xs)
-  all-more {ys} s [] ok room = subst SomeRun (sym (append-nil ys)) s
+  all-more : {ys : List Moment} (s : SomeRun p l₀ m₀ ys) (xs : List Sample) → every isSample xs ≡ true → length ys + length xs ≤ mostOffered → SomeRun p l₀ m₀ (ys ++ momentsOf xs)
+  all-more {ys} s [] ok room = subst (SomeRun p l₀ m₀) (sym (append-nil ys)) s
   all-more {ys} s (x ∷ xs) ok room =
       let (first, rest) = both (isSample x) (every isSample xs) ok in
-      subst SomeRun (append-assoc ys (momentOf x ∷ []) (momentsOf xs))
+      subst (SomeRun p l₀ m₀) (append-assoc ys (momentOf x ∷ []) (momentsOf xs))
       (all-more (one-more s x first (omega arith)) xs rest (omega (arith, length-append ys (momentOf x ∷ []))))
 
   pub some-run : ledgerNumbers ≤ length l₀ → mapWords ≤ length m₀ → valid (p .cycle) ≡ true → tolerable (p .tolerances) ≡ true → (xs : List Sample) → every isSample xs ≡ true
-      → length xs ≤ mostOffered → SomeRun (momentsOf xs)
+      → length xs ≤ mostOffered → SomeRun p l₀ m₀ (momentsOf xs)
   unfolding startRefusal
   some-run long-ledger long-map good tolerated xs ok room =
       let z : startRefusal (p .cycle) (p .tolerances) l₀ m₀ ≡ 0 =

@@ -1,25 +1,46 @@
 -- "Its verdict is the judge's.": the bench controller's answer to a position and a speed, against what the judge does with such a sample.
 -- Assumes nothing.
 use mathlib.Core.Bool.{true, not}
-use mathlib.Core.List.{List}
+use mathlib.Core.List.{List, [], _∷_, _++_}
 use mathlib.Core.Path.{_≡_, refl, sym, ap, _∙_}
-use Prim.Native.Nat.{ℕ, _≤_, _<_}
-use native.Mathlib.Nat.{le-of-lt, mod-lt, div-add-mod'}
+use Prim.Native.Nat.{ℕ, suc, _+_, _*_, _≤_, _<_, zero-le}
+use native.Mathlib.Nat.{le-refl, le-of-lt, mod-lt, div-add-mod', div-lt-iff-lt-mul}
+use native.Mathlib.Numerals.{add-one}
 use native.Mathlib.Omega.{arith}
-use lib.Dec.{T, eqb}
-use lib.IntN.{pos}
-use borrow.Author.Tests.{lt-ltb, le-leb}
-use Rattle.numbers.proofs.Tests.{pass}
+use lib.Dec.{T, leb, eqb}
+use lib.IntN.{ℤ, pos}
+use lib.ListN.{length, length-append}
+use lib.Seq.{getD-append-seam}
+use borrow.Author.Tests.{eq-eqb, lt-ltb, le-leb, leb-true}
+use Rattle.numbers.proofs.Tests.{both, pass}
+use Rattle.rules.specs.declared.End.the-variants.{None as none}
 use Rattle.rules.specs.declared.Moment.{Moment}
 use Rattle.rules.specs.declared.Tolerances.{Tolerances}
-use Rattle.rules.specs.Bench.{tolerable, mostSpeed}
+use Rattle.rules.specs.Bench.{tolerable, momentOf, mostSpeed, mostSpeedTolerance, mostTimeTolerance, mostAllowance, mostCycles, mostPositions}
 use Rattle.rules.specs.Cycle.{valid, positions}
-use Rattle.rules.specs.Band.{inside, below, above, verdict}
-use Rattle.rules.specs.Regular.{positionOf, Plan, courseOf}
-use Rattle.rules.proofs.Band.{verdict-inside, verdict-below, verdict-above, verdict-zero}
-use Rattle.rules.proofs.Sound.{sound, real}
-use Rattle.bench.specs.Question.{question}
-use Rattle.step.specs.Step.{State, positionNow, outNow}
+use Rattle.rules.specs.Band.{inside, verdict}
+use Rattle.rules.specs.Course.{Course, stopsAt, counted, judged}
+use Rattle.rules.specs.Regular.{cycleOf, positionOf, Plan, courseOf, momentIn}
+use Rattle.rules.specs.Shown.{marked}
+use Rattle.rules.specs.Question.{question}
+use Rattle.laws.specs.Beside.{isMoment, isOpen, below, above}
+use Rattle.laws.proofs.Band.{verdict-inside, verdict-below, verdict-above, verdict-zero}
+use Rattle.laws.proofs.Bounds.{sample-moment}
+use Rattle.laws.proofs.Longer.{same-samples, counted-longer}
+use Rattle.laws.proofs.Maps.{shown-cycle}
+use Rattle.laws.proofs.Next.{Going, going}
+use Rattle.laws.proofs.Regular.{regular-lawful}
+use Rattle.laws.proofs.Sound.{Sound, sound, real}
+use Rattle.laws.proofs.Tally.{counted-le, next-judged}
+use Rattle.state.specs.declared.Run.{Run}
+use Rattle.state.proofs.Checked.{Startable, start-passed}
+use Rattle.blocks.proofs.Accepted.{one-accepted}
+use Rattle.judge.proofs.Promises.{answer-taken}
+use Rattle.judge.proofs.Runs.{in-order}
+use Rattle.demands.specs.Demand2.{VerdictIsTheJudges}
+use Rattle.demands.specs.Runs.{Driven, takes, sampleIn}
+use Rattle.demands.proofs.Driven.{driven-reached, sample-kept}
+use Rattle.demands.proofs.OfRun.{run-shows}
 
 -- a question about a cycle, tolerances, position and speed within their limits
 module _ (b : List ℕ) (t : Tolerances) (p v : ℕ) (good : valid b ≡ true) (tolerated : tolerable t ≡ true) (there : p < positions b) (low : v ≤ mostSpeed) where
@@ -36,18 +57,81 @@ module _ (b : List ℕ) (t : Tolerances) (p v : ℕ) (good : valid b ≡ true) (
   pub answers-above : T (above b t p v) → question b t p v ≡ pos 2
   answers-above h = answered ∙ ap pos (verdict-above b t p v (le-of-lt there) h)
 
--- the sample x, next in the run a: the bench controller is answered the verdict, and the judge marks the sample exactly where that is not 0
-module _ (p : Plan) (a : State) (x : Moment) where
-  abbrev at : ℕ
-  at = positionNow (courseOf p) a x
+-- ---- over calls that keep the contracts
 
-  pub verdict-is-the-judges : valid (p .cycle) ≡ true → tolerable (p .tolerances) ≡ true → x .speed ≤ mostSpeed
-      → (question (p .cycle) (p .tolerances) at (x .speed) ≡ pos (verdict (p .cycle) (p .tolerances) at (x .speed)))
-      × (outNow (courseOf p) a x ≡ not (eqb (verdict (p .cycle) (p .tolerances) at (x .speed)) 0))
-  verdict-is-the-judges s o l =
-      let n = a .progress .counted in
-      let small = mod-lt n (real (sound (p .cycle) s)) in
-      let here : positionOf (p .cycle) n ≡ at = omega (arith, div-add-mod' n (positions (p .cycle))) in (
-        answered (p .cycle) (p .tolerances) _ _ s o (omega arith) l,
-        ap (λ (q : ℕ). not (inside (p .cycle) (p .tolerances) q (x .speed))) here ∙ ap not (sym (verdict-zero (p .cycle) (p .tolerances) _ _)),
+module _ {p : Plan} {l₀ : List ℤ} {m₀ : List ℕ} {xs : List Moment} {r : Run} {l : List ℤ} {m : List ℕ} (h : Driven p l₀ m₀ xs r l m) where
+  abbrev b : List ℕ
+  b = p .cycle
+
+  abbrev n : ℕ
+  n = length xs
+
+  abbrev y : Course
+  y = courseOf p
+
+  abbrev here : ℕ
+  here = positionOf b n
+
+  startable : Startable b (p .tolerances) l₀ m₀
+  startable = start-passed b (p .tolerances) l₀ m₀ (in-order p l₀ m₀ (driven-reached p l₀ m₀ h) .begun)
+
+  tolerated : tolerable (p .tolerances) ≡ true
+  unfolding tolerable
+  tolerated =
+      let t = p .tolerances in
+      let k = startable .tolerated in
+      rw (le-leb (t .speed) mostSpeedTolerance (k .speed), le-leb (t .time) mostTimeTolerance (k .time), le-leb (t .allowance) mostAllowance (k .allowance))
+
+  sound-cycle : Sound b
+  sound-cycle = sound b (startable .sound)
+
+  there : here < positions b
+  there = mod-lt n (real sound-cycle)
+
+  -- the run goes on, and a sample x stands behind the others
+  module _ (goes-on : r .progress .end ≡ none) (x : Moment) where
+    abbrev s′ : ℕ → Moment
+    s′ = momentIn (xs ++ x ∷ [])
+
+    goes : Going y zero-le (momentIn xs) n
+    goes = going y zero-le (momentIn xs) n (ap isOpen (sym (run-shows h .state-shows .2) ∙ goes-on))
+
+    few : n < y .layout .most
+    few = omega (arith, goes .short)
+
+    -- it is judged
+    all-counted : counted y s′ n ≡ n
+    all-counted =
+        let more = counted-longer y (regular-lawful b (p .tolerances)) (momentIn xs) s′ n n (le-refl n) (same-samples xs (x ∷ [])) in
+        let most = counted-le (stopsAt y s′) (y .layout .most) n .0 in
+        omega (arith, goes .all)
+
+    judged-too : judged y s′ (length (xs ++ x ∷ [])) ≡ suc n
+    judged-too = ap (judged y s′) (length-append xs (x ∷ []) ∙ add-one n) ∙ next-judged (stopsAt y s′) (y .layout .most) n all-counted few
+
+    -- and marked as the band has it
+    is-marked : marked y s′ (suc n) here ≡ not (eqb (verdict b (p .tolerances) here (x .speed)) 0)
+    unfolding marked
+    is-marked =
+        let row : cycleOf b n < mostCycles = div-lt-iff-lt-mul {x = n} {y = mostCycles} (real sound-cycle) .1 few in
+        let at : cycleOf b n * positions b + here ≡ n = div-add-mod' n (positions b) in
+        rw (shown-cycle (y .layout) n row, at, eq-eqb (cycleOf b n) (cycleOf b n) refl, lt-ltb n (suc n) (le-refl (suc n)))
+        (ap (λ (z : Moment). not (inside b (p .tolerances) here (z .speed))) (getD-append-seam xs x [] (record { speed = 0; energy = pos 0 }))
+        ∙ ap not (sym (verdict-zero b (p .tolerances) here (x .speed))))
+
+  pub verdict-is-the-judges : VerdictIsTheJudges p l₀ m₀ xs r l m
+  unfolding isMoment
+  verdict-is-the-judges c on r′ e goes-on q asked =
+      let x = sampleIn c in
+      let z = answer-taken _ _ r′ (sym (sample-kept c on .answer) ∙ e) .0 in
+      let ok = one-accepted r b l m x z .sample in
+      let low : x .speed ≤ mostSpeed = leb-true (x .speed) mostSpeed (moment-low (momentOf x) (sample-moment x ok)) in
+      let after = run-shows (takes h c on e) in
+      let small : here < mostPositions = omega (arith, there, sound-cycle .short) in (
+        q .kept ∙ (λ j. question (asked .cycle j) (asked .tolerances j) (asked .position j) (asked .speed j))
+            ∙ answered b (p .tolerances) here (x .speed) (startable .sound) tolerated there low,
+        after .map-shows here small ∙ ap (λ (k : ℕ). marked y (s′ goes-on (momentOf x)) k here) (judged-too goes-on (momentOf x)) ∙ is-marked goes-on (momentOf x),
       )
+    where
+      moment-low : (z : Moment) → isMoment z ≡ true → leb (z .speed) mostSpeed ≡ true
+      moment-low z f = both (leb (z .speed) mostSpeed) _ f .0

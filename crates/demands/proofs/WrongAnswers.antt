@@ -16,7 +16,7 @@ use Rattle.reader.proofs.Endings.{only-whole}
 use Rattle.reader.proofs.blank
 use Rattle.reader.proofs.reading_of
 use Rattle.reader.proofs.ended
-use Rattle.demands.proofs.NoDoubt.{Call}
+use Rattle.demands.specs.Calls.{Call}
 
 -- a refusal that is another's number, or no refusal at all
 module _ (c : Call refused_at.ended refused_at.Reads.Learnt) where

@@ -1,11 +1,13 @@
 -- Rows of the test card as inputs, by which a constant verdict and a judge that never stops are told from the rules.
 -- Assumes nothing.
-use mathlib.Core.List.{List, [], _∷_, _++_}
+use mathlib.Core.List.{List, [], _∷_, _++_, map}
 use Prim.Native.Nat.{ℕ}
 use lib.IntN.{pos}
 use lib.ListN.{replicate}
 use Rattle.rules.specs.declared.Sample.{Sample}
+use Rattle.rules.specs.declared.Moment.{Moment}
 use Rattle.rules.specs.declared.Tolerances.{Tolerances}
+use Rattle.rules.specs.Bench.{momentOf}
 
 -- "Points 0 100 0, p = 10, w = 0, s = 30: speeds 20 .. inside, 19 .. outside.": T = 2, one phase
 abbrev pub risen : List ℕ
@@ -30,3 +32,7 @@ allowsThree = record { speed = 30; time = 20; allowance = 3 }
 
 abbrev pub fourFast : List Sample
 fourFast = ofSpeed 131 ∷ ofSpeed 131 ∷ ofSpeed 131 ∷ ofSpeed 131 ∷ []
+
+-- what a run takes of samples
+abbrev pub momentsOf : List Sample → List Moment
+momentsOf = map momentOf

@@ -1,81 +1,198 @@
--- A record's bytes as a program reads them: what is left over stands before the bytes that follow. This is what its loop keeps.
+-- The bytes of a record as they arrive, in whatever parts: the desk is what the machine makes of all of them.
 -- Assumes nothing.
-use mathlib.Core.Bool.{false≢true}
-use mathlib.Core.List.{List, [], _++_, append-assoc}
-use mathlib.Core.Path.{_≡_, refl, sym, ap, subst, _∙_}
-use Prim.Native.Nat.{ℕ, suc, _-_, _≤_}
-use lib.ListN.{length, take, drop, length-drop, take-append-drop}
-use Rattle.numbers.specs.Tests.{unless}
-use Rattle.reader.specs.declared.Ending.the-variants as ended
-use Rattle.opening.specs.Opening.{OpenRead}
-use Rattle.reader.specs.Answers.{endingOf}
-use Rattle.records.specs.Records.{refused, blank, startRefused, begunBy, sheetOf}
-use Rattle.records.proofs.Openings.{no-bytes}
-use Rattle.records.proofs.Calls.{Lent}
-use Rattle.records.proofs.Records.{Handed, until-ready, never-refused-1-or-2}
-use Rattle.desk.specs.declared.Outcome.the-variants.{More, Refused}
-use Rattle.desk.specs.Feeding.{Laid, laidOf, emptyDesk, lentCycle, feedOf, mostFields, deskGround}
-use Rattle.desk.proofs.Grounds.{of-opening, of-reading}
-use Rattle.desk.proofs.Standing.{Stands, opens, reads, stands-empty}
-use Rattle.desk.proofs.Feeds.{stands-few, stands-on, feed-refused, feed-ended-refused, feed-ended-whole}
+use mathlib.Core.Bool.{Bool, true, false, cond, false≢true}
+use mathlib.Core.List.{List, [], _++_}
+use mathlib.Core.Path.{_≡_, refl, sym, ap, _∙_}
+use Prim.Native.Nat.{ℕ, _+_, _-_, _≤_, zero-le}
+use native.Mathlib.Omega.{arith}
+use borrow.Author.Tests.{le-leb, lt-leb}
+use lib.Dec.{leb}
+use lib.IntN.{ℤ}
+use lib.ListN.{length, drop}
+use lib.Seq.{drop-append-le, drop-drop}
+use Rattle.rules.specs.Words.{allBelow}
+use Rattle.rules.specs.Cycle.{mostBytes}
+use Rattle.rules.specs.Table.{behindTolerances, tags}
+use Rattle.rules.specs.Machine.{End, waiting, broken, stopped, Ran, run}
+use Rattle.rules.specs.Values.{isCharacter, isNumber}
+use Rattle.rules.specs.Record.{takeField, untold}
+use Rattle.laws.proofs.Cuts.{joined, cut, used-most, resumed}
+use Rattle.laws.proofs.Places.{early-or-late}
+use Rattle.laws.proofs.Prefixes.{no-bytes}
+use Rattle.laws.proofs.Related.{AlikeRan}
+use Rattle.state.specs.State.{Memory}
+use Rattle.records.specs.Stage.{Stage, roomAfter, takeOn, runOn}
+use Rattle.records.proofs.After.{after-upto}
+use Rattle.records.proofs.Joined.{Long, Holds}
+use Rattle.records.proofs.Joined as lists
+use Rattle.records.proofs.Weighs.{fields-weigh}
+use Rattle.judge.proofs.Runs as runs
+use Rattle.opening.specs.Answers.{nothing, stageOf, openingOf, runOf, openGround}
+use Rattle.opening.proofs.Starting.{Ready}
+use Rattle.reading.specs.Answers.{startedReading, readingOf}
+use Rattle.desk.specs.Feeding.{Desk, Laid, laidOf, emptyDesk, More, Consumed, stageOn, startedOpening, laidAfter, outcomeOf, fedBy, feedOf, startedGround, deskGround, mostFields}
+use Rattle.desk.proofs.Good.{Good, good-upto, opens-on, begun-ground, few-offered}
+use Rattle.desk.proofs.Grounds.{of-opening, of-started, feeds}
+use Rattle.desk.proofs.Staged.{none-opened, laid-joined}
 
--- a record's desk has no 1 or 2: "such a call is never refused 1 or 2"
-pub stands-ground : (lent : Lent) {p : List ℕ} {x : Laid} → Stands lent p x → deskGround x ≡ 0
-stands-ground lent h = go h (stands-few lent h)
-  where
-    go : {p : List ℕ} {x : Laid} → Stands lent p x → x .desk .fields ≤ mostFields → deskGround x ≡ 0
-    go (opens e u n) few = sym (of-opening _ few e) ∙ until-ready lent u
-    go (reads e h s) few = sym (of-reading _ few e h) ∙ never-refused-1-or-2 lent s
+-- ---- on a room that is long enough, whatever ledger and map
 
--- no bytes: "Empty input: `refused 15 field 1`"
-pub sheet-empty : sheetOf [] ≡ refused 15 1
-unfolding sheetOf
-sheet-empty = ap (λ (x : OpenRead (List ℕ)). begunBy (x .last) (x .begun) (drop (x .used) [])) (no-bytes (λ _ v. v) (λ b. b) startRefused 4 blank)
+module _ (room : List ℕ) (l : List ℤ) (m : List ℕ) (long : mostBytes ≤ length room) where
+  abbrev pub begin : Laid
+  begin = laidOf emptyDesk room l m
 
-module _ (lent : Lent) where
+  abbrev first : Stage
+  first = stageOf nothing room l m
+
+  -- what the machine makes of the bytes w
+  abbrev pub worked : List ℕ → Ran Stage
+  worked w = runOn first w
+
+  ready : Ready nothing room
+  unfolding isNumber isCharacter allBelow
+  ready = record { few = zero-le; size = zero-le; number = refl; room = long }
+
+  pub good : (w : List ℕ) → Good nothing room l m (worked w .state)
+  good w = good-upto nothing room l m ready (length w) w
+
+  -- the desk after the bytes w
+  abbrev pub after : List ℕ → Laid
+  after w = laidAfter begin (worked w)
+
+  -- the number of its fields
+  fields-are : (b : Bool) (x y : Desk) (n : ℕ) → x .fields ≡ n → y .fields ≡ n → cond b x y .fields ≡ n
+  fields-are true x y n p q = p
+  fields-are false x y n p q = q
+
+  pub after-fields : (w : List ℕ) → after w .desk .fields ≡ worked w .fields
+  after-fields w =
+      let none : 0 + worked w .fields ≡ worked w .fields = omega arith in
+      fields-are (leb behindTolerances (worked w .state .place)) _ _ (worked w .fields) none none
+
+  -- no more than a record can have
+  pub after-few : (w : List ℕ) → after w .desk .fields ≤ mostFields
+  after-few w =
+      let u = worked w .state in
+      let g = good w in
+      let s = fields-weigh first w (λ _. refl) in
+      let f = after-fields w in
+      let o = few-offered nothing room l m u g in
+      omega (arith, g .limits .place, g .limits .passed)
+
+  -- ---- by whether the run has started
+
+  module _ (w : List ℕ) where
+    abbrev u : Stage
+    u = worked w .state
+
+    abbrev started : Desk
+    started = record { started = true; opening = startedOpening u; reading = readingOf (startedReading (u .vehicle) (runOf u)) u; fields = 0 + worked w .fields }
+
+    abbrev waiting-desk : Desk
+    waiting-desk = record { started = false; opening = openingOf u; reading = emptyDesk .reading; fields = 0 + worked w .fields }
+
+    abbrev with : Desk → Laid
+    with d = record { desk = d; room = roomAfter first u room; memory = u .run .memory }
+
+    pub after-late : behindTolerances ≤ u .place → after w ≡ with started
+    after-late e = ap (λ (b : Bool). with (cond b started waiting-desk)) (le-leb behindTolerances (u .place) e)
+
+    pub after-early : u .place ≤ 3 → after w ≡ with waiting-desk
+    after-early e = ap (λ (b : Bool). with (cond b started waiting-desk)) (lt-leb behindTolerances (u .place) (omega arith))
+
+    -- it is the machine's state
+    pub stage-after : stageOn (after w) ≡ u
+    stage-after =
+        early-or-late (u .place)
+        (λ e. ap stageOn (after-early e)
+        ∙ ap (λ (c : Memory). stageOf (openingOf u) (roomAfter first u room) (c .ledger) (c .map)) (sym (ap (λ (z : Stage). z .run .memory) (good w .early e))) ∙ good w .early e)
+        (λ e.
+        let p : behindTolerances + (u .place - behindTolerances) ≡ u .place = omega arith in
+        ap stageOn (after-late e)
+        ∙ (λ j. record { place = p j; passed = u .passed; vehicle = u .vehicle; cycle = good w .held j; tolerances = u .tolerances; amounts = u .amounts; run = u .run }))
+
+    -- it has no 1 or 2
+    pub after-ground : deskGround (after w) ≡ 0
+    after-ground =
+        early-or-late (u .place)
+        (λ e. sym (of-opening (after w) (after-few w) (ap (λ (x : Laid). x .desk .started) (after-early e))) ∙ ap (λ (x : Laid). openGround (x .desk .opening) (x .room)) (after-early e)
+        ∙ opens-on nothing room l m u (good w) e)
+        (λ e. sym (of-started (after w) (after-few w) (ap (λ (x : Laid). x .desk .started) (after-late e))) ∙ ap startedGround (after-late e)
+        ∙ begun-ground nothing room l m u (good w) e (0 + worked w .fields))
+
+  -- ---- the bytes arrive
+
   -- the bytes w have arrived; the desk x has taken all but the rest
   pub record Arrived (w : List ℕ) (x : Laid) (rest : List ℕ) : Type 0 where
-    pub taken : List ℕ
-    pub stands : Stands lent taken x
-    pub bytes : taken ++ rest ≡ w
-    -- what `reader::ended` says here is what becomes of a record that ends here
-    pub ends-refused : (k : ℕ) → endingOf (x .desk .started) (length rest) ≡ ended.Refused k → sheetOf w ≡ refused k (suc (x .desk .fields))
-    pub ends-whole : endingOf (x .desk .started) (length rest) ≡ ended.Whole → Handed lent w (lentCycle x) (x .desk .reading) (x .memory .ledger) (x .memory .map)
+    pub laid : after w ≡ x
+    pub bytes : drop (worked w .used) w ≡ rest
+    pub waits : worked w .end ≡ waiting
 
-  pub arrived-none : Arrived [] (laidOf emptyDesk (lent .room₀) (lent .l₀) (lent .m₀)) []
-  unfolding endingOf unless
-  arrived-none = record {
-    taken = [];
-    stands = stands-empty lent;
-    bytes = refl;
-    ends-refused = λ k e. let same : 15 ≡ k = cc in sheet-empty ∙ ap (λ (n : ℕ). refused n 1) same;
-    ends-whole = λ e. absurd (false≢true cc);
-  }
+  pub arrived-none : Arrived [] begin []
+  arrived-none =
+      let none = no-bytes tags takeOn first in
+      record { laid = ap (laidAfter begin) none ∙ none-opened begin waiting refl ready; bytes = ap (λ (y : Ran Stage). drop (y .used) []) none; waits = ap (λ (y : Ran Stage). y .end) none }
 
-  module _ {w rest : List ℕ} {x : Laid} (h : Arrived w x rest) (new : List ℕ) where
-    abbrev input : List ℕ
-    input = rest ++ new
+  module _ {w rest : List ℕ} {x : Laid} (h : Arrived w x rest) where
+    pub arrived-ground : deskGround x ≡ 0
+    arrived-ground = ap deskGround (sym (h .laid)) ∙ after-ground w
 
-    whole : h .taken ++ input ≡ w ++ new
-    whole = sym (append-assoc (h .taken) rest new) ∙ ap (λ (q : List ℕ). q ++ new) (h .bytes)
+    module _ (new : List ℕ) where
+      abbrev more : Ran Stage
+      more = runOn (worked w .state) (rest ++ new)
 
-    -- new bytes, and more are wanted
-    pub arrived-more : feedOf x input .outcome ≡ More → Arrived (w ++ new) (feedOf x input .laid) (drop (feedOf x input .used) input)
-    arrived-more m =
-        let y = feedOf x input in
-        let left : length (drop (y .used) input) ≡ length input - y .used = length-drop (y .used) input in
-        record {
-          taken = h .taken ++ take (y .used) input;
-          stands = stands-on lent (h .stands) input;
-          bytes = append-assoc (h .taken) (take (y .used) input) (drop (y .used) input) ∙ ap (λ (q : List ℕ). h .taken ++ q) (take-append-drop (y .used) input) ∙ whole;
-          ends-refused = λ k e. ap sheetOf (sym whole) ∙ feed-ended-refused lent (h .stands) input m k (ap (endingOf (y .laid .desk .started)) (sym left) ∙ e);
-          ends-whole =
-              λ e.
-              subst (λ (q : List ℕ). Handed lent q (lentCycle (y .laid)) (y .laid .desk .reading) (y .laid .memory .ledger) (y .laid .memory .map)) whole
-              (feed-ended-whole lent (h .stands) input (ap (endingOf (y .laid .desk .started)) (sym left) ∙ e));
-        }
+      -- all bytes in one
+      all-is : worked (w ++ new) ≡ joined (worked w) more
+      all-is =
+          cut tags takeOn first w new
+          ∙ ap (λ (e : End). resumed e (worked w) (runOn (worked w .state) (drop (worked w .used) w ++ new))) (h .waits)
+          ∙ ap (λ (r : List ℕ). joined (worked w) (runOn (worked w .state) (r ++ new))) (h .bytes)
 
-    -- new bytes, and a refusal: it is the record's, whatever follows
-    pub arrived-refused : (k : ℕ) → feedOf x input .outcome ≡ Refused k → (q : List ℕ) → sheetOf ((w ++ new) ++ q) ≡ refused k (suc (feedOf x input .laid .desk .fields))
-    arrived-refused k e q =
-        ap sheetOf (ap (λ (r : List ℕ). r ++ q) (sym whole) ∙ append-assoc (h .taken) input q) ∙ feed-refused lent (h .stands) input k e q
+      -- a call takes what follows
+      pub fed-is : feedOf x (rest ++ new) ≡ record { laid = after (w ++ new); used = more .used; outcome = outcomeOf (worked (w ++ new) .end) }
+      fed-is =
+          feeds x (rest ++ new) arrived-ground
+          ∙ (λ j. fedBy (sym (h .laid) j) (runOn (stageOn (sym (h .laid) j)) (rest ++ new)))
+          ∙ ap (λ (z : Stage). fedBy (after w) (runOn z (rest ++ new))) (stage-after w)
+          ∙ (λ j. record {
+            laid = laid-joined begin (worked w) more (after-upto (length w) first w) (after-upto (length (rest ++ new)) (worked w .state) (rest ++ new)) j;
+            used = more .used;
+            outcome = outcomeOf (more .end);
+          })
+          ∙ (λ j. record { laid = laidAfter begin (sym all-is j); used = more .used; outcome = outcomeOf (sym all-is j .end) })
+
+      pub arrived-more : feedOf x (rest ++ new) .outcome ≡ More → Arrived (w ++ new) (feedOf x (rest ++ new) .laid) (drop (feedOf x (rest ++ new) .used) (rest ++ new))
+      arrived-more e =
+          let used-is = ap (λ (y : Consumed). y .used) fed-is in
+          record {
+            laid = ap (λ (y : Consumed). y .laid) (sym fed-is);
+            bytes =
+                ap (λ (y : Ran Stage). drop (y .used) (w ++ new)) all-is
+                ∙ sym (drop-drop (more .used) (worked w .used) (w ++ new))
+                ∙ ap (drop (more .used)) (drop-append-le (worked w .used) w new (used-most tags takeOn first w) ∙ ap (λ (r : List ℕ). r ++ new) (h .bytes))
+                ∙ ap (λ (n : ℕ). drop n (rest ++ new)) (sym used-is);
+            waits = only-waiting (worked (w ++ new) .end) (ap (λ (y : Consumed). y .outcome) (sym fed-is) ∙ e);
+          }
+        where
+          only-waiting : (e : End) → outcomeOf e ≡ More → e ≡ waiting
+          only-waiting waiting q = refl
+          only-waiting broken q = absurd (false≢true cc)
+          only-waiting (stopped n) q = absurd (false≢true cc)
+
+  -- ---- beside the lists
+  module _ (enough : Long l m) where
+    holds-first : Holds l m enough untold first
+    holds-first = record {
+      place = refl;
+      passed = refl;
+      vehicle = refl;
+      cycle = refl;
+      tolerances = refl;
+      amounts = refl;
+      empty = λ _. refl;
+      waits = λ _. refl;
+      reached = λ e. absurd (omega arith);
+    }
+
+    pub alike : (w : List ℕ) → AlikeRan (Holds l m enough) (run tags takeField untold w) (worked w)
+    alike w = lists.joined l m enough untold first w holds-first

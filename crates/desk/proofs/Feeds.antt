@@ -1,156 +1,316 @@
--- A record that is fed to a desk, its input cut in any way: what the desk holds is what the bytes taken say, a refusal is the record's, and where more
--- bytes are wanted the record, did it end here, would be refused 15 or is told.
+-- A desk is fed: the fields until the start are opened, and the rest is read, as the machine takes them.
 -- Assumes nothing.
 use mathlib.Core.Bool.{Bool, true, false, cond, false≢true}
-use mathlib.Core.List.{List, _++_}
-use mathlib.Core.Path.{_≡_, refl, sym, ap, subst, subst⁻¹, _∙_}
-use Prim.Native.Nat.{ℕ, suc, _-_, _≤_, _<_}
+use mathlib.Core.List.{List}
+use mathlib.Core.Logic.{_⊎_, ⊎-elim}
+use mathlib.Core.Path.{_≡_, refl, sym, ap, subst, _∙_}
+use Prim.Native.Nat.{ℕ, _+_, _-_, _≤_, zero-le}
+use native.Mathlib.Nat.{add-zero}
 use native.Mathlib.Omega.{arith}
-use borrow.Author.Tests.{le-leb, eqb-false}
-use lib.Dec.{eqb}
+use borrow.Author.Tests.{le-leb, leb-true, leb-false, eqb-true, eqb-false}
+use lib.Dec.{leb, eqb}
 use lib.IntN.{ℤ}
-use lib.ListN.{length, take, drop}
-use lib.Seq.{take-length}
-use Rattle.numbers.specs.Tests.{unless}
-use Rattle.numbers.proofs.Tests.{pass}
-use Rattle.reading.specs.declared.Step.{Step}
-use Rattle.reading.specs.declared.Step.the-variants as step
-use Rattle.step.specs.Step.{State}
-use Rattle.reading.specs.Reading.{Read}
-use Rattle.reading.specs.Answers.{offeredOf, takeBlock, taleOf, readingPlan, readGround, readAllOf}
-use Rattle.reader.specs.Answers.{endingOf}
-use Rattle.reader.specs.declared.Ending.{Ending}
-use Rattle.reader.specs.declared.Ending.the-variants as ended
-use Rattle.reader.proofs.Endings.{only-whole}
-use Rattle.records.specs.Records.{refused, sheetOf}
-use Rattle.reading.proofs.Onwards.{Ends}
-use Rattle.reading.proofs.Accepted.{last-ends}
-use Rattle.records.proofs.Calls.{Lent, Since}
-use Rattle.records.proofs.Calls.Since.{all as all-by}
-use Rattle.records.proofs.Records.{Handed, record-tells, all-refused-longer, all-incomplete}
-use Rattle.records.proofs.KeptUntil.{until-begins}
-use Rattle.desk.specs.declared.Desk.{Desk}
-use Rattle.desk.specs.declared.Outcome.{Outcome}
-use Rattle.desk.specs.declared.Outcome.the-variants.{More, Refused}
-use Rattle.desk.specs.Feeding.{Laid, laidOf, stops, behind, openUpto, outcomeOf, lentCycle, readOn, mostFields, thenRead, feedOf}
-use Rattle.desk.proofs.Grounds.{by-ground, readsBy}
-use Rattle.desk.proofs.Onward.{all-size, feed-used}
-use Rattle.desk.proofs.Few.{since-few}
-use Rattle.desk.proofs.Standing.{Stands, opens, reads, more-not-refused, Became, Fully, fully-on}
-use Rattle.desk.proofs.FirstFields.{open-became}
+use lib.ListN.{length, take, drop, length-drop}
+use Rattle.numbers.proofs.Lists.{part-rest}
+use Rattle.numbers.proofs.Tests.{settled-taken, settled-refused}
+use Rattle.rules.specs.Table.{behindTolerances, tags}
+use Rattle.rules.specs.Machine.{End, waiting, broken, stopped, Ran, off, ends, moveAt, upto}
+use Rattle.laws.proofs.Cuts.{joined, resumed, first-ends, used-upto, used-most, upto-then}
+use Rattle.laws.proofs.Prefixes.{fields-most, few-upto, upto-stops, upto-full}
+use Rattle.state.specs.State.{lent, Left}
+use Rattle.records.specs.Stage.{Stage, roomAfter, takeOn, runOn}
+use Rattle.records.proofs.After.{After, after-upto}
+use Rattle.records.proofs.Weighs.{upto-weighs}
+use Rattle.opening.specs.declared.Opening.{Opening}
+use Rattle.opening.specs.Answers.{stageOf, openingOf, runOf, openGround}
+use Rattle.opening.proofs.Starting.{Ready, ground-ready}
+use Rattle.reading.specs.declared.Reading.{Reading}
+use Rattle.reading.specs.Answers.{startedReading, stageAt, readingOf, lastOf, readGround}
+use Rattle.reader.specs.declared.AllAnswer.{AllAnswer}
+use Rattle.reader.specs.Answers.{allBy, allLeft}
+use Rattle.desk.specs.Feeding.{Desk, Laid, Outcome, Refused, Consumed, lentCycle, stageOn, startedOpening, laidAfter, stops, behind, outcomeOf, fedBy, feedOf, openAll, outcomeBy, mostFields, startedGround}
+use Rattle.desk.proofs.Grounds.{of-opening, of-started, feed-refuses, feeds}
+use Rattle.desk.proofs.Good.{Good, good-upto, begun-ground}
+use Rattle.desk.proofs.Staged.{fed-joined}
+use Rattle.desk.proofs.Turns.{before-all}
 
--- ---- after the start
-outcome-refused : (s : Step) (k : ℕ) → outcomeOf s ≡ Refused k → s ≡ step.Refused k
-outcome-refused (step.Taken n) k e = absurd (more-not-refused k e)
-outcome-refused (step.Passed n) k e = absurd (more-not-refused k e)
-outcome-refused step.Incomplete k e = absurd (more-not-refused k e)
-outcome-refused (step.Refused n) k e = let f : n ≡ k = cc in ap step.Refused f
+-- ---- by whether the run has started
 
-pub outcome-more : (s : Step) → Ends s → outcomeOf s ≡ More → s ≡ step.Incomplete
-outcome-more (step.Taken n) h e = absurd (h n refl)
-outcome-more (step.Passed n) h e = absurd (h n refl)
-outcome-more step.Incomplete h e = refl
-outcome-more (step.Refused k) h e = absurd (more-not-refused k (sym e))
+abbrev laidAs : Bool → Laid → Laid
+laidAs b x = record { desk = record { started = b; opening = x .desk .opening; reading = x .desk .reading; fields = x .desk .fields }; room = x .room; memory = x .memory }
 
-pub all-ended : (x : Laid) (i : List ℕ) → Ends (readsBy x i .last)
-unfolding readAllOf
-all-ended x i =
-    let r = x .desk .reading in
-    by-ground (λ (y : Read State). Ends (y .last)) (readGround r (lentCycle x) (x .memory .ledger) (x .memory .map))
-    (λ _. last-ends offeredOf (takeBlock (readingPlan r (lentCycle x))) (r .vehicle) (length i) (taleOf r (x .memory .ledger) (x .memory .map)) i) (λ m u. u)
+by-started : (P : Laid → Type 0) (x : Laid) → (x .desk .started ≡ true → P (laidAs true x)) → (x .desk .started ≡ false → P (laidAs false x)) → P x
+by-started P x t f = go (x .desk .started) refl
+  where
+    go : (b : Bool) → x .desk .started ≡ b → P (laidAs b x)
+    go true e = t e
+    go false e = f e
 
-module _ (lent : Lent) where
-  read-became : (p i room : List ℕ) (d : Desk) (l : List ℤ) (m : List ℕ) → d .started ≡ true → d .opening .cycle ≤ length room
-      → Since lent p (take (d .opening .cycle) room) (d .fields) (d .reading) l m → Fully lent p i (readOn (laidOf d room l m) i)
-  unfolding readOn
-  read-became p i room d l m s g h =
-      subst (Fully lent p i) (pass (stops (laidOf d room l m) (Refused 1)) (le-leb _ _ g) refl) (record {
-        became = record {
-          stands = reads s g (all-by h i);
-          size = all-size (laidOf d room l m) i .1;
-          refusal = λ k e q. all-refused-longer lent h i q k (outcome-refused _ k e);
-          waits = λ _ e. absurd (false≢true (sym e ∙ s));
-        };
-        left = λ e u. all-incomplete lent h i (outcome-more _ (all-ended (laidOf d room l m) i) e) u;
-      })
+-- ---- after the start: the reader reads all
 
-  -- ---- both
-  then-became : (p q i : List ℕ) (x : Laid) (u : ℕ) (o : Outcome) → Stands lent q x → q ≡ p ++ take u i → Became lent p i (record { laid = x; used = u; outcome = o })
-      → Fully lent p i (thenRead (record { laid = x; used = u; outcome = o }) i)
-  then-became p q i x u o (opens {room = room} {d = d} s h f) e b =
-      subst⁻¹ (λ (t : Bool). Fully lent p i (cond t (behind u (readOn (laidOf d room (lent .l₀) (lent .m₀)) (drop u i))) (record { laid = laidOf d room (lent .l₀) (lent .m₀); used = u; outcome = o }))) s
-      (record { became = b; left = λ k _. b .waits k s })
-  then-became p q i x u o (reads {room = room} {d = d} {l = l} {m = m} s g h) e b =
-      subst⁻¹ (λ (t : Bool). Fully lent p i (cond t (behind u (readOn (laidOf d room l m) (drop u i))) (record { laid = laidOf d room l m; used = u; outcome = o }))) s
-      (fully-on lent p i u (b .size) _
-      (read-became (p ++ take u i) (drop u i) room d l m s g (subst (λ (y : List ℕ). Since lent y (take (d .opening .cycle) room) (d .fields) (d .reading) l m) e h)))
+outcome-by : (e : End) → outcomeBy (lastOf e) ≡ outcomeOf e
+outcome-by waiting = refl
+outcome-by broken = refl
+outcome-by (stopped n) = refl
 
-  -- what became of the input, of a desk that has not too many fields
-  pub feed-became : (p i : List ℕ) (x : Laid) → x .desk .fields ≤ mostFields → Stands lent p x → Fully lent p i (feedOf x i)
-  unfolding feedOf
-  feed-became p i x few h =
-      let y = openUpto 4 x i in
-      let b = open-became lent p i x h in
-      subst (Fully lent p i) (pass (stops x (Refused 1)) (le-leb _ _ few) refl) (then-became p _ i (y .laid) (y .used) (y .outcome) (b .stands) refl b)
+module _ (x : Laid) (i : List ℕ) (g : readGround (x .desk .reading) (lentCycle x) (x .memory .ledger) (x .memory .map) ≡ 0) where
+  abbrev read : Ran Stage
+  read = runOn (stageAt (x .desk .reading) (lentCycle x) (x .memory .ledger) (x .memory .map)) i
 
-  -- no record has so many fields that its desk is refused for them
-  pub stands-few : {p : List ℕ} {x : Laid} → Stands lent p x → x .desk .fields ≤ mostFields
-  stands-few (opens s h f) = let few = until-begins lent h .ready .few in omega arith
-  stands-few (reads s g h) = since-few lent h
+  read-is : allLeft (x .desk .reading) (lentCycle x) (x .memory .ledger) (x .memory .map) i ≡ allBy (x .desk .reading) read
+  unfolding allLeft
+  read-is = settled-taken _ g
 
-  -- ---- what feeding a record's desk says of the record
-  stands-ready : {p : List ℕ} {x : Laid} → Stands lent p x → x .desk .started ≡ true → Handed lent p (lentCycle x) (x .desk .reading) (x .memory .ledger) (x .memory .map)
-  stands-ready (opens s h f) e = absurd (false≢true (sym s ∙ e))
-  stands-ready (reads s g h) e = record-tells lent h
+  -- as the code forms it
+  abbrev asFed : Bool → Left AllAnswer → Outcome → Consumed
+  asFed b y o = record {
+    laid = record { desk = record { started = b; opening = x .desk .opening; reading = y .answer .reading; fields = x .desk .fields + y .answer .fields }; room = x .room; memory = y .memory };
+    used = y .answer .used;
+    outcome = o;
+  }
 
-  module _ {p : List ℕ} {x : Laid} (h : Stands lent p x) (i : List ℕ) where
-    fed : Fully lent p i (feedOf x i)
-    fed = feed-became p i x (stands-few h) h
+  pub all-size : {y : Left AllAnswer} → y ≡ allLeft (x .desk .reading) (lentCycle x) (x .memory .ledger) (x .memory .map) i → y .answer .fields ≤ length i
+  all-size e =
+      let z = ap (λ (w : Left AllAnswer). w .answer .fields) (e ∙ read-is) in
+      let l = fields-most tags takeOn (stageAt (x .desk .reading) (lentCycle x) (x .memory .ledger) (x .memory .map)) i in
+      omega arith
 
-    -- the desk goes on as the bytes taken say, whatever the outcome: what was accepted before a refusal is taken too
-    pub stands-on : Stands lent (p ++ take (feedOf x i .used) i) (feedOf x i .laid)
-    stands-on = fed .became .stands
+  pub read-left : x .desk .started ≡ true → {y : Left AllAnswer} {o : Outcome} → y ≡ allLeft (x .desk .reading) (lentCycle x) (x .memory .ledger) (x .memory .map) i
+      → o ≡ outcomeBy (y .answer .last) → asFed (x .desk .started) y o ≡ fedBy x (runOn (stageOn x) i)
+  read-left e {y} {o} h q =
+      (λ j. asFed (x .desk .started) y (q j))
+      ∙ (λ j. asFed (e j) (h j) (outcomeBy (h j .answer .last)))
+      ∙ ap (λ (z : Left AllAnswer). asFed true z (outcomeBy (z .answer .last))) read-is
+      ∙ (λ j. asFed true (allBy (x .desk .reading) read) (outcome-by (read .end) j))
+      ∙ ap (λ (b : Bool). fedBy (laidAs b x) (runOn (stageOn (laidAs b x)) i)) (sym e)
 
-    -- a refusal is the record's, with the number of its field, whatever follows
-    pub feed-refused : (k : ℕ) → feedOf x i .outcome ≡ Refused k → (q : List ℕ) → sheetOf (p ++ (i ++ q)) ≡ refused k (suc (feedOf x i .laid .desk .fields))
-    feed-refused = fed .became .refusal
+-- ---- until the start
 
-    -- more bytes are wanted: where the run has not started, and where bytes are left over, a record that ended here would be refused 15
-    pub feed-more-unstarted : feedOf x i .outcome ≡ More → feedOf x i .laid .desk .started ≡ false → sheetOf (p ++ i) ≡ refused 15 (suc (feedOf x i .laid .desk .fields))
-    feed-more-unstarted = fed .became .waits
+module _ (o : Opening) (r : Reading) (n : ℕ) (room : List ℕ) (l : List ℤ) (m : List ℕ) (i : List ℕ) (h : Ready o room) where
+  abbrev X : Laid
+  X = record { desk = record { started = false; opening = o; reading = r; fields = n }; room = room; memory = lent l m }
 
-    pub feed-more-left : feedOf x i .outcome ≡ More → feedOf x i .used < length i → sheetOf (p ++ i) ≡ refused 15 (suc (feedOf x i .laid .desk .fields))
-    feed-more-left = fed .left
+  abbrev s : Stage
+  s = stageOf o room l m
 
-    -- where the run has started and nothing is left over, it is told, and the run is that of its samples
-    abbrev HandedAll : Type 0
-    HandedAll =
-        let y = feedOf x i .laid in
-        Handed lent (p ++ i) (lentCycle y) (y .desk .reading) (y .memory .ledger) (y .memory .map)
+  -- the fields until the start, and the rest
+  U : Ran Stage
+  U = upto tags takeOn (behindTolerances - o .fields) s i
 
-    pub feed-whole : feedOf x i .laid .desk .started ≡ true → feedOf x i .used ≡ length i → HandedAll
-    feed-whole s u =
-        let y = feedOf x i .laid in
-        subst (λ (q : List ℕ). Handed lent (p ++ q) (lentCycle y) (y .desk .reading) (y .memory .ledger) (y .memory .map)) (ap (λ (c : ℕ). take c i) u ∙ take-length i) (stands-ready stands-on s)
+  abbrev u : Stage
+  u = U .state
 
-    -- the same, by what `reader::ended` says of the desk and the number of bytes left over
-    abbrev ending : Ending
-    ending = endingOf (feedOf x i .laid .desk .started) (length i - feedOf x i .used)
+  good : Good o room l m u
+  unfolding U
+  good = good-upto o room l m h (behindTolerances - o .fields) i
 
-    pub feed-ended-refused : feedOf x i .outcome ≡ More → (k : ℕ) → ending ≡ ended.Refused k → sheetOf (p ++ i) ≡ refused k (suc (feedOf x i .laid .desk .fields))
-    unfolding endingOf unless
-    feed-ended-refused m k = go (feedOf x i .laid .desk .started) refl (eqb (length i - feedOf x i .used) 0) refl
-      where
-        fifteen : ended.Refused 15 ≡ ended.Refused k → sheetOf (p ++ i) ≡ refused 15 (suc (feedOf x i .laid .desk .fields)) → sheetOf (p ++ i) ≡ refused k (suc (feedOf x i .laid .desk .fields))
-        fifteen e f = let same : 15 ≡ k = cc in f ∙ ap (λ (n : ℕ). refused n (suc (feedOf x i .laid .desk .fields))) same
+  W : Ran Stage
+  W = runOn u (drop (U .used) i)
 
-        go : (s : Bool) → feedOf x i .laid .desk .started ≡ s → (t : Bool) → eqb (length i - feedOf x i .used) 0 ≡ t
-            → unless (ended.Refused 15) s (unless (ended.Refused 15) t ended.Whole) ≡ ended.Refused k → sheetOf (p ++ i) ≡ refused k (suc (feedOf x i .laid .desk .fields))
-        go false s t e f = fifteen f (feed-more-unstarted m s)
-        go true s false e f = fifteen f (feed-more-left m (let z = eqb-false (length i - feedOf x i .used) 0 e in omega arith))
-        go true s true e f = absurd (false≢true cc)
+  all-is : runOn s i ≡ resumed (U .end) U W
+  unfolding U W
+  all-is = upto-then tags takeOn (behindTolerances - o .fields) s i
 
-    pub feed-ended-whole : ending ≡ ended.Whole → HandedAll
-    feed-ended-whole e =
-        let (s, z) = only-whole (feedOf x i .laid .desk .started) (length i - feedOf x i .used) e in
-        feed-whole s (omega (arith, feed-used x i))
+  after-u : After s u
+  unfolding U
+  after-u = after-upto (behindTolerances - o .fields) s i
+
+  after-w : After u (W .state)
+  unfolding W
+  after-w = after-upto (length (drop (U .used) i)) u (drop (U .used) i)
+
+  -- where the rest brings nothing
+  same-end : (e : End) → resumed e (record { state = u; fields = U .fields; used = U .used; end = e }) (ends u e) ≡ record { state = u; fields = U .fields; used = U .used; end = e }
+  same-end waiting = λ j. record { state = u; fields = add-zero (U .fields) j; used = add-zero (U .used) j; end = waiting }
+  same-end broken = refl
+  same-end (stopped k) = refl
+
+  ended : moveAt tags takeOn u (drop (U .used) i) ≡ off (U .end) → runOn s i ≡ U
+  unfolding W
+  ended d = all-is ∙ ap (resumed (U .end) U) (first-ends tags takeOn u (drop (U .used) i) (U .end) d) ∙ same-end (U .end)
+
+  -- as long as the run has not started, a field that follows is not accepted
+  waits : u .place ≤ 3 → runOn s i ≡ U
+  unfolding U
+  waits e =
+      ⊎-elim (λ full. absurd (let w = upto-weighs (behindTolerances - o .fields) s i (λ _. refl) in let b = good .early e in
+      let p = ap (λ (z : Stage). z .passed) b in let q = ap (λ (z : Stage). z .run .progress .offered) b in omega (arith, h .few)))
+      ended (upto-stops tags takeOn (behindTolerances - o .fields) s i)
+
+  used-u : U .used ≤ length i
+  unfolding U
+  used-u = used-upto tags takeOn (behindTolerances - o .fields) s i
+
+  few-u : U .fields ≤ 4
+  unfolding U
+  few-u = let f = few-upto tags takeOn (behindTolerances - o .fields) s i in omega arith
+
+  -- where it has, the rest is read
+  reads : fedBy X (runOn s i) ≡ fedBy X (joined U W)
+  unfolding U W
+  reads = ⊎-elim
+      (λ full. ap (fedBy X) (all-is ∙ ap (λ (e : End). resumed e U W) (upto-full tags takeOn (behindTolerances - o .fields) s i full)))
+      (λ d.
+      let none = first-ends tags takeOn u (drop (U .used) i) (U .end) d in
+      ap (fedBy X) (ended d ∙ (λ j. record { state = u; fields = sym (add-zero (U .fields)) j; used = sym (add-zero (U .used)) j; end = U .end }) ∙ ap (joined U) (sym none)))
+      (upto-stops tags takeOn (behindTolerances - o .fields) s i)
+
+  -- the desk at the start
+  abbrev begun : Laid
+  begun = record {
+    desk = record { started = true; opening = startedOpening u; reading = readingOf (startedReading (u .vehicle) (runOf u)) u; fields = n + U .fields };
+    room = roomAfter s u room;
+    memory = u .run .memory;
+  }
+
+  module _ (late : behindTolerances ≤ u .place) where
+    begun-is : laidAfter X U ≡ begun
+    begun-is = λ j. record {
+      desk = cond (le-leb behindTolerances (u .place) late j) (begun .desk) (record { started = false; opening = openingOf u; reading = r; fields = n + U .fields });
+      room = roomAfter s u room;
+      memory = u .run .memory;
+    }
+
+    stage-begun : stageOn begun ≡ u
+    stage-begun =
+        let p : behindTolerances + (u .place - behindTolerances) ≡ u .place = omega arith in
+        λ j. record { place = p j; passed = u .passed; vehicle = u .vehicle; cycle = good .held j; tolerances = u .tolerances; amounts = u .amounts; run = u .run }
+
+    read-begun : behind (U .used) (fedBy begun (runOn (stageOn begun) (drop (U .used) i))) ≡ fedBy X (runOn s i)
+    unfolding W
+    read-begun =
+        ap (λ (z : Stage). behind (U .used) (fedBy begun (runOn z (drop (U .used) i)))) stage-begun
+        ∙ ap (λ (y : Laid). behind (U .used) (fedBy y W)) (sym begun-is) ∙ fed-joined X U W after-u after-w ∙ sym reads
+
+  -- ---- by whether it has
+  has-started : laidAfter X U .desk .started ≡ true → behindTolerances ≤ u .place
+  has-started e = go (leb behindTolerances (u .place)) refl e
+    where
+      go : (b : Bool) → leb behindTolerances (u .place) ≡ b → (cond b (begun .desk) (record { started = false; opening = openingOf u; reading = r; fields = n + U .fields })) .started ≡ true → behindTolerances ≤ u .place
+      go true q f = leb-true behindTolerances (u .place) q
+      go false q f = absurd (false≢true f)
+
+  has-not : laidAfter X U .desk .started ≡ false → u .place ≤ 3
+  has-not e = go (leb behindTolerances (u .place)) refl e
+    where
+      go : (b : Bool) → leb behindTolerances (u .place) ≡ b → (cond b (begun .desk) (record { started = false; opening = openingOf u; reading = r; fields = n + U .fields })) .started ≡ false → u .place ≤ 3
+      go true q f = absurd (false≢true (sym f))
+      go false q f = let z = leb-false behindTolerances (u .place) q in omega arith
+
+-- ---- both, as the code takes them
+
+-- by the tests until the start
+by-ground : (n : ℕ) {A : Type 0} → (n ≡ 0 → A) → ((n ≡ 0 → ⊥) → A) → A
+by-ground n {A} f g = go (eqb n 0) refl
+  where
+    go : (b : Bool) → eqb n 0 ≡ b → A
+    go true e = f (eqb-true n 0 e)
+    go false e = g (eqb-false n 0 e)
+
+-- of a desk that has not started
+module _ (o : Opening) (r : Reading) (n : ℕ) (room : List ℕ) (l : List ℤ) (m : List ℕ) (i : List ℕ) (few : n ≤ mostFields) where
+  abbrev Y : Laid
+  Y = record { desk = record { started = false; opening = o; reading = r; fields = n }; room = room; memory = lent l m }
+
+  opens-as : (h : openGround o room ≡ 0) → openAll Y i ≡ fedBy Y (U o r n room l m i (ground-ready o room h))
+  unfolding U
+  opens-as h = settled-taken _ h
+
+  refuses-as : (openGround o room ≡ 0 → ⊥) → openAll Y i ≡ stops Y (Refused (openGround o room))
+  refuses-as h = settled-refused _ h
+
+  feeds-as : openGround o room ≡ 0 → feedOf Y i ≡ fedBy Y (runOn (stageOf o room l m) i)
+  feeds-as h = feeds Y i (sym (of-opening Y few refl) ∙ h)
+
+  size-as : (openAll Y i .used ≤ length i) × (openAll Y i .laid .desk .fields ≤ mostFields + 4)
+  size-as =
+      by-ground (openGround o room)
+      (λ h.
+      let q = ground-ready o room h in
+      subst (λ (z : Consumed). (z .used ≤ length i) × (z .laid .desk .fields ≤ mostFields + 4)) (sym (opens-as h))
+      (used-u o r n room l m i q, fields-most-four q))
+      (λ h. subst (λ (z : Consumed). (z .used ≤ length i) × (z .laid .desk .fields ≤ mostFields + 4)) (sym (refuses-as h)) (zero-le, omega arith))
+    where
+      both : (b : Bool) (x y : Desk) (k : ℕ) → x .fields ≤ k → y .fields ≤ k → cond b x y .fields ≤ k
+      both true x y k p q = p
+      both false x y k p q = q
+
+      fields-most-four : (q : Ready o room) → laidAfter Y (U o r n room l m i q) .desk .fields ≤ mostFields + 4
+      fields-most-four q =
+          let f = few-u o r n room l m i q in
+          both (leb behindTolerances (U o r n room l m i q .state .place)) _ _ (mostFields + 4) (omega arith) (omega arith)
+
+  not-yet-as : openAll Y i .laid .desk .started ≡ false → openAll Y i ≡ feedOf Y i
+  not-yet-as e =
+      by-ground (openGround o room)
+      (λ h.
+      let q = ground-ready o room h in
+      let f = ap (λ (z : Consumed). z .laid .desk .started) (sym (opens-as h)) ∙ e in
+      opens-as h ∙ ap (fedBy Y) (sym (waits o r n room l m i q (has-not o r n room l m i q f))) ∙ sym (feeds-as h))
+      (λ h. refuses-as h ∙ (λ j. stops Y (Refused (of-opening Y few refl j))) ∙ sym (feed-refuses Y i (λ z. h (of-opening Y few refl ∙ z))))
+
+  ground-as : openAll Y i .laid .desk .started ≡ true → startedGround (openAll Y i .laid) ≡ 0
+  ground-as e =
+      by-ground (openGround o room)
+      (λ h.
+      let q = ground-ready o room h in
+      let f = ap (λ (z : Consumed). z .laid .desk .started) (sym (opens-as h)) ∙ e in
+      let late = has-started o r n room l m i q f in
+      ap (λ (z : Consumed). startedGround (z .laid)) (opens-as h) ∙ ap startedGround (begun-is o r n room l m i q late) ∙ begun-ground o room l m (U o r n room l m i q .state) (good o r n room l m i q) late (n + U o r n room l m i q .fields))
+      (λ h. absurd (false≢true (ap (λ (z : Consumed). z .laid .desk .started) (sym (refuses-as h)) ∙ e)))
+
+  then-as : openAll Y i .laid .desk .started ≡ true → (let z = openAll Y i in behind (z .used) (fedBy (z .laid) (runOn (stageOn (z .laid)) (drop (z .used) i)))) ≡ feedOf Y i
+  then-as e =
+      by-ground (openGround o room)
+      (λ h.
+      let q = ground-ready o room h in
+      let f = ap (λ (z : Consumed). z .laid .desk .started) (sym (opens-as h)) ∙ e in
+      let late = has-started o r n room l m i q f in
+      ap (λ (z : Consumed). behind (z .used) (fedBy (z .laid) (runOn (stageOn (z .laid)) (drop (z .used) i)))) (opens-as h)
+      ∙ ap (λ (y : Laid). let k = U o r n room l m i q .used in behind k (fedBy y (runOn (stageOn y) (drop k i)))) (begun-is o r n room l m i q late)
+      ∙ read-begun o r n room l m i q late ∙ sym (feeds-as h))
+      (λ h. absurd (false≢true (ap (λ (z : Consumed). z .laid .desk .started) (sym (refuses-as h)) ∙ e)))
+
+-- of any
+module _ (x : Laid) (i : List ℕ) (few : x .desk .fields ≤ mostFields) where
+  pub open-size-all : {z : Consumed} → z ≡ openAll x i → (z .used ≤ length i) × (z .laid .desk .fields ≤ mostFields + 4)
+  open-size-all e =
+      subst (λ (z : Consumed). (z .used ≤ length i) × (z .laid .desk .fields ≤ mostFields + 4)) (sym e)
+      (by-started (λ (y : Laid). y .desk .fields ≤ mostFields → (openAll y i .used ≤ length i) × (openAll y i .laid .desk .fields ≤ mostFields + 4)) x
+      (λ _ h. (zero-le, omega arith)) (λ _ h. size-as (x .desk .opening) (x .desk .reading) (x .desk .fields) (x .room) (x .memory .ledger) (x .memory .map) i h) few)
+
+  pub not-yet : {z : Consumed} → z ≡ openAll x i → z .laid .desk .started ≡ false → z ≡ feedOf x i
+  not-yet e f =
+      e ∙ by-started (λ (y : Laid). y .desk .fields ≤ mostFields → openAll y i .laid .desk .started ≡ false → openAll y i ≡ feedOf y i) x
+      (λ _ h g. absurd (false≢true (sym g))) (λ _ h g. not-yet-as (x .desk .opening) (x .desk .reading) (x .desk .fields) (x .room) (x .memory .ledger) (x .memory .map) i h g) few
+      (ap (λ (z : Consumed). z .laid .desk .started) (sym e) ∙ f)
+
+  pub then-ground : {z : Consumed} → z ≡ openAll x i → (x .desk .started ≡ true → startedGround x ≡ 0) → z .laid .desk .started ≡ true → startedGround (z .laid) ≡ 0
+  then-ground e g f =
+      ap (λ (z : Consumed). startedGround (z .laid)) e
+      ∙ by-started (λ (y : Laid). y .desk .fields ≤ mostFields → (y .desk .started ≡ true → startedGround y ≡ 0) → openAll y i .laid .desk .started ≡ true → startedGround (openAll y i .laid) ≡ 0) x
+      (λ _ h k _. k refl) (λ _ h k q. ground-as (x .desk .opening) (x .desk .reading) (x .desk .fields) (x .room) (x .memory .ledger) (x .memory .map) i h q) few g
+      (ap (λ (z : Consumed). z .laid .desk .started) (sym e) ∙ f)
+
+  -- the rest, as it is lent on
+  module _ {z y : Consumed} (e : z ≡ openAll x i) (q : y ≡ fedBy (z .laid) (runOn (stageOn (z .laid)) (take (length i - z .used) (drop (z .used) i)))) where
+    rest-is : y ≡ fedBy (z .laid) (runOn (stageOn (z .laid)) (drop (z .used) i))
+    rest-is = q ∙ ap (λ (j : List ℕ). fedBy (z .laid) (runOn (stageOn (z .laid)) j)) (part-rest (z .used) i)
+
+    pub rest-size : z .used + y .used ≤ length i
+    rest-size =
+        let u = ap (λ (w : Consumed). w .used) rest-is in
+        let l = used-most tags takeOn (stageOn (z .laid)) (drop (z .used) i) in
+        let d = length-drop (z .used) i in
+        let s = open-size-all e .0 in
+        omega arith
+
+    pub read-then : (x .desk .started ≡ true → startedGround x ≡ 0) → z .laid .desk .started ≡ true → behind (z .used) y ≡ feedOf x i
+    read-then g f =
+        ap (behind (z .used)) rest-is
+        ∙ ap (λ (w : Consumed). behind (w .used) (fedBy (w .laid) (runOn (stageOn (w .laid)) (drop (w .used) i)))) e
+        ∙ by-started (λ (v : Laid). v .desk .fields ≤ mostFields → (v .desk .started ≡ true → startedGround v ≡ 0) → openAll v i .laid .desk .started ≡ true
+        → (let w = openAll v i in behind (w .used) (fedBy (w .laid) (runOn (stageOn (w .laid)) (drop (w .used) i)))) ≡ feedOf v i) x
+        (λ _ h k _. before-all _ ∙ sym (feeds (laidAs true x) i (sym (of-started (laidAs true x) h refl) ∙ k refl)))
+        (λ _ h k p. then-as (x .desk .opening) (x .desk .reading) (x .desk .fields) (x .room) (x .memory .ledger) (x .memory .map) i h p) few g
+        (ap (λ (w : Consumed). w .laid .desk .started) (sym e) ∙ f)

@@ -1,64 +1,93 @@
--- What feeding a desk leaves over is shorter than the longest field, whatever the desk and its memory are: a buffer of that many bytes has place for more.
+-- What a call leaves over: less than the longest field; and the bytes that it used, without what follows them, leave the same desk.
 -- Assumes nothing.
-use mathlib.Core.Bool.{false, cond, false≢true}
+use mathlib.Core.Bool.{Bool, true, false, cond, false≢true}
 use mathlib.Core.List.{List}
-use mathlib.Core.Path.{_≡_, refl, sym, subst⁻¹, _∙_}
-use Prim.Native.Nat.{ℕ, zero, suc, _+_, _≤_, _<_}
+use mathlib.Core.Logic.{⊎-elim}
+use mathlib.Core.Path.{_≡_, refl, sym, ap, subst, _∙_}
+use Prim.Native.Nat.{ℕ, _+_, _≤_, _<_, zero-le}
 use native.Mathlib.Omega.{arith}
-use borrow.Author.Tests.{eqb-true}
+use borrow.Author.Tests.{ltb-false, leb-false, eqb-true, eqb-false}
 use lib.Dec.{leb, eqb}
-use lib.ListN.{length, drop, length-drop}
-use Rattle.records.proofs.OpenField.{Accepts}
-use Rattle.desk.specs.declared.Outcome.the-variants.{More}
-use Rattle.desk.specs.Feeding.{Laid, Consumed, behind, goOn, openUpto, readOn, mostFields, feedOf, longest}
-use Rattle.desk.proofs.Grounds.{by-test, by-unless, opensBy, opens-nothing}
-use Rattle.desk.proofs.Turns.{by-opening, accepted-size}
-use Rattle.desk.proofs.Short.{one-more, open-short, all-short}
-use Rattle.desk.proofs.Standing.{more-not-refused}
-use Rattle.desk.proofs.Feeds.{outcome-more, all-ended}
+use lib.ListN.{length, getD, take, drop, length-drop}
+use Rattle.rules.specs.Words.{be}
+use Rattle.numbers.proofs.Tests.{first-or-rest, passed, not-refused}
+use Rattle.rules.specs.Table.{tags}
+use Rattle.rules.specs.Front.{incomplete, impossible, frontOf}
+use Rattle.rules.specs.Machine.{End, waiting, broken, stopped, ends}
+use Rattle.laws.proofs.Cuts.{used-most}
+use Rattle.laws.proofs.Prefixes.{accepted-alone, left-over, none-used}
+use Rattle.laws.proofs.Tags.{sizes}
+use Rattle.records.specs.Stage.{takeOn, runOn}
+use Rattle.opening.specs.Answers.{openGround}
+use Rattle.opening.proofs.Starting.{ground-ready}
+use Rattle.desk.specs.Feeding.{Laid, More, Refused, Consumed, stageOn, laidAfter, stops, outcomeOf, fedBy, feedOf, mostFields, startedGround, deskGround, longest}
+use Rattle.desk.proofs.Grounds.{feed-refuses, feeds}
+use Rattle.desk.proofs.Staged.{none-opened, none-read}
 
--- ---- until the start
+-- bytes that do not finish a field are fewer than the longest has
+incomplete-short : (i : List ℕ) → frontOf tags i ≡ incomplete → length i < longest
+unfolding frontOf
+incomplete-short i e =
+    ⊎-elim (λ no. let z = ltb-false 0 (length i) (no .0) in omega arith) (λ r.
+    let e₂ = passed impossible incomplete _ _ (λ q. false≢true cc) (r .1) in
+    ⊎-elim (λ no. let z = leb-false 3 (length i) (no .0) in omega arith) (λ s.
+    let e₄ = passed impossible incomplete _ _ (λ q. false≢true cc) (s .1) in
+    let most = sizes (getD i 0 0) (be 2 i 1) (e₄ .0) .most in
+    ⊎-elim (λ no. let z = leb-false (3 + be 2 i 1) (length i) (no .0) in omega arith) (λ t. absurd (let z = t .1 in false≢true cc))
+    (first-or-rest incomplete incomplete _ _ (e₄ .1)))
+    (first-or-rest incomplete incomplete _ _ (e₂ .1)))
+    (first-or-rest incomplete incomplete _ _ e)
 
--- where more bytes are wanted and the run has not started, what is left over is shorter than the longest field
-abbrev Left-short : List ℕ → Consumed → Type 0
-Left-short i y = y .outcome ≡ More → y .laid .desk .started ≡ false → length i < y .used + longest
+-- by the tests before all else
+module _ (x : Laid) (i : List ℕ) where
+  pub by-feed : (P : Consumed → Type 0) → (deskGround x ≡ 0 → P (fedBy x (runOn (stageOn x) i))) → ((deskGround x ≡ 0 → ⊥) → P (stops x (Refused (deskGround x)))) → P (feedOf x i)
+  by-feed P f g = go (eqb (deskGround x) 0) refl
+    where
+      go : (b : Bool) → eqb (deskGround x) 0 ≡ b → P (feedOf x i)
+      go true e = let z = eqb-true (deskGround x) 0 e in subst P (sym (feeds x i z)) (f z)
+      go false e = let z = eqb-false (deskGround x) 0 e in subst P (sym (feed-refuses x i z)) (g z)
 
--- at most n fields are opened, and they are enough
-abbrev Opens : ℕ → Type 0
-Opens n = (x : Laid) (i : List ℕ) → 1 ≤ n → 4 ≤ n + x .desk .opening .fields → Left-short i (openUpto n x i)
+  pub feed-used : feedOf x i .used ≤ length i
+  feed-used = by-feed (λ (y : Consumed). y .used ≤ length i) (λ _. used-most tags takeOn (stageOn x) i) (λ _. zero-le)
 
-opens-more : (n : ℕ) → Opens n → Opens (suc n)
-unfolding openUpto
-opens-more n on x i some enough =
-    by-test (Left-short i) (x .desk .started) (λ e _ f. absurd (false≢true (sym f ∙ e)))
-    (λ _.
-    by-opening x i (λ (y : Consumed). Left-short i (goOn y (openUpto n (y .laid) (drop (y .used) i))))
-    (λ c e. let more = one-more x i c e in follows c _ _ (rw e refl) (on _ (drop c i) (omega (arith, more)) (omega (arith, more))))
-    (λ c r e. follows c _ _ (rw e refl) (subst⁻¹ (Left-short (drop c i)) (opens-nothing n _ (drop c i) refl) (λ _ f. absurd (false≢true (sym f)))))
-    (λ e _ _. open-short x i e) (λ k _ f _. absurd (more-not-refused k (sym f))))
+  pub feed-short : feedOf x i .outcome ≡ More → length i < feedOf x i .used + longest
+  feed-short =
+      by-feed (λ (y : Consumed). y .outcome ≡ More → length i < y .used + longest)
+      (λ _ e.
+      let y = runOn (stageOn x) i in
+      let short = incomplete-short (drop (y .used) i) (left-over tags takeOn (stageOn x) i (only-waiting (y .end) e)) in
+      let d = length-drop (y .used) i in
+      let u = used-most tags takeOn (stageOn x) i in
+      omega arith)
+      (λ _ e. absurd (false≢true cc))
+    where
+      only-waiting : (e : End) → outcomeOf e ≡ More → e ≡ waiting
+      only-waiting waiting q = refl
+      only-waiting broken q = absurd (false≢true cc)
+      only-waiting (stopped n) q = absurd (false≢true cc)
+
+-- what ends a call leaves no trace
+pub feed-alone : (x : Laid) (i : List ℕ) → feedOf x (take (feedOf x i .used) i) .laid ≡ feedOf x i .laid
+feed-alone x i =
+    by-feed x i (λ (y : Consumed). feedOf x (take (y .used) i) .laid ≡ y .laid)
+    (λ e.
+    let y = runOn (stageOn x) i in
+    ap (λ (z : Consumed). z .laid) (feeds x (take (y .used) i) e) ∙ ap (laidAfter x) (accepted-alone tags takeOn (stageOn x) i))
+    (λ e. ap (λ (z : Consumed). z .laid) (feed-refuses x (take 0 i) e))
+
+-- ---- where no bytes are used, the desk is as it was
+
+none-after : (x : Laid) (e : End) → deskGround x ≡ 0 → laidAfter x (ends (stageOn x) e) ≡ x
+unfolding deskGround
+none-after x e g = go (x .desk .started) refl
   where
-    -- an accepted field of c bytes, and what follows it
-    follows : (c : ℕ) (y z : Consumed) → Accepts (opensBy x i .step) c → Left-short (drop c i) z → Left-short i (cond (eqb c 0) y (behind c z))
-    follows c y z u h =
-        let size = accepted-size x i c u .0 in
-        by-test (Left-short i) (eqb c 0) (λ e. absurd (omega (arith, eqb-true c 0 e))) (λ _ e f. let s = h e f in omega (arith, length-drop c i))
+    go : (b : Bool) → x .desk .started ≡ b → laidAfter x (ends (stageOn x) e) ≡ x
+    go true f = none-read x e f
+    go false f =
+        none-opened x e f (ground-ready (x .desk .opening) (x .room)
+        (ap (λ (b : Bool). cond b (startedGround x) (openGround (x .desk .opening) (x .room))) (sym f) ∙ not-refused 0 (leb (x .desk .fields) mostFields) _ g .1))
 
-opens-short : (n : ℕ) → Opens n
-opens-short zero x i some enough = absurd (omega arith)
-opens-short (suc n) x i some enough = opens-more n (opens-short n) x i some enough
-
--- ---- after it
-read-short : (x : Laid) (i : List ℕ) → readOn x i .outcome ≡ More → length i < readOn x i .used + longest
-unfolding readOn
-read-short x i =
-    by-unless (λ (y : Consumed). y .outcome ≡ More → length i < y .used + longest) (leb (x .desk .opening .cycle) (length (x .room)))
-    (λ e. absurd (more-not-refused 1 (sym e))) (λ e. all-short x i (outcome-more _ (all-ended x i) e))
-
--- ---- both
-pub feed-short : (x : Laid) (i : List ℕ) → feedOf x i .outcome ≡ More → length i < feedOf x i .used + longest
-unfolding feedOf
-feed-short x i =
-    let y = openUpto 4 x i in
-    by-unless (λ (z : Consumed). z .outcome ≡ More → length i < z .used + longest) (leb (x .desk .fields) mostFields) (λ e. absurd (more-not-refused 1 (sym e)))
-    (by-test (λ (z : Consumed). z .outcome ≡ More → length i < z .used + longest) (y .laid .desk .started)
-    (λ _ e. omega (arith, read-short (y .laid) (drop (y .used) i) e, length-drop (y .used) i)) (λ s e. opens-short 4 x i (omega arith) (omega arith) e s))
+-- "A refusal returns its number and no figure; state, ledger, map .. stay exactly as they were": where no field before it was taken
+pub refused-changes-nothing : (x : Laid) (i : List ℕ) → feedOf x i .used ≡ 0 → feedOf x i .laid ≡ x
+refused-changes-nothing x i =
+    by-feed x i (λ (y : Consumed). y .used ≡ 0 → y .laid ≡ x) (λ g e. ap (laidAfter x) (none-used tags takeOn (stageOn x) i e) ∙ none-after x (runOn (stageOn x) i .end) g) (λ _ _. refl)

@@ -1,14 +1,9 @@
--- The laws of a desk that is fed.
-pub mod Grounds
+-- The laws of a desk.
+pub mod Staged
+pub mod Good
+pub mod Opens
 pub mod Turns
-pub mod Onward
-pub mod Short
-pub mod Starts
-pub mod Few
-pub mod Standing
-pub mod FirstFields
+pub mod Grounds
 pub mod Feeds
-pub mod LeftOver
 pub mod Arriving
-pub mod Promises
-pub mod FedAlone
+pub mod LeftOver

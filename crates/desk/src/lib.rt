@@ -20,7 +20,10 @@ use state::Run;
 use state::Track;
 ghost use mathlib.Core.Path.{_≡_};
 ghost use Prim.Native.Nat.{_+_, _≤_};
-ghost use Rattle.desk.specs.Feeding.{emptyDesk, laidOf, fedLeft, outcomeOf, opensAs, openOne, openUpto, readOn, feedOf, mostFields, startedGround, deskGround, Steady};
+ghost use mathlib.Core.Bool.{true};
+ghost use Rattle.records.specs.Stage.{runOn};
+ghost use Rattle.desk.specs.Feeding.{emptyDesk, laidOf, fedLeft, stageOn, fedBy, outcomeBy, opensAs, openOne, openAll, feedOf};
+ghost use Rattle.desk.specs.Feeding.{mostFields, startedGround, deskGround, Steady};
 
 // A record as far as it was read: until the start the opening, after it the reading; and how many fields were accepted.
 pub struct Desk {
@@ -43,8 +46,8 @@ pub struct Fed {
     pub desk: Desk,
 }
 
-// No record has more fields: four until the start, and each later one raises the samples offered, the blocks passed over or the place in the order.
-const MOST_FIELDS: u64 = 4 + MOST_OFFERED as u64 + MOST_PASSED as u64 + 4;
+// No record has more fields: each moves the place in the order on, of which there are eight, offers a sample or is passed over.
+const MOST_FIELDS: u64 = MOST_OFFERED as u64 + MOST_PASSED as u64 + 8;
 
 // Before the first byte. The reading is none until the start: it has a run of no cycle.
 pub fn empty() -> Desk
@@ -143,7 +146,7 @@ fn open_all(desk: Desk, input: &[u8], room: &mut [u8], ledger: &mut [i64], map: 
     requires { ⌜ desk .fields ≤ mostFields ⌝ }
     ensures { λ r. ⌜
         fedLeft r (now (room .exit)) (now (ledger .exit)) (now (map .exit))
-        ≡ openUpto 4 (laidOf desk (now (room .entry)) (now (ledger .entry)) (now (map .entry))) (now (input .entry))
+        ≡ openAll (laidOf desk (now (room .entry)) (now (ledger .entry)) (now (map .entry))) (now (input .entry))
         ⌝ }
 {
     let mut on = desk;
@@ -180,7 +183,7 @@ fn open_all(desk: Desk, input: &[u8], room: &mut [u8], ledger: &mut [i64], map: 
 
 // What the answer after the last accepted field says of the bytes.
 fn outcome_of(step: Step) -> Outcome
-    ensures { λ r. ⌜ r ≡ outcomeOf step ⌝ }
+    ensures { λ r. ⌜ r ≡ outcomeBy step ⌝ }
 {
     match step {
         Step::Taken(_) => Outcome::More,
@@ -192,10 +195,14 @@ fn outcome_of(step: Step) -> Outcome
 
 // All whole fields after the start, with the cycle in the room.
 fn read_on(desk: Desk, input: &[u8], room: &[u8], ledger: &mut [i64], map: &mut [u64]) -> Fed
-    requires { ⌜ (desk .fields ≤ mostFields + 4) × (startedGround (laidOf desk (now room) (now ledger) (now map)) ≡ 0) ⌝ }
+    requires { ⌜
+        (desk .fields ≤ mostFields + 4)
+        × (desk .started ≡ true)
+        × (startedGround (laidOf desk (now room) (now ledger) (now map)) ≡ 0)
+        ⌝ }
     ensures { λ r. ⌜
         fedLeft r (now (room .entry)) (now (ledger .exit)) (now (map .exit))
-        ≡ readOn (laidOf desk (now (room .entry)) (now (ledger .entry)) (now (map .entry))) (now (input .entry))
+        ≡ (let x = laidOf desk (now (room .entry)) (now (ledger .entry)) (now (map .entry)) in fedBy x (runOn (stageOn x) (now (input .entry))))
         ⌝ }
 {
     let opening = desk.opening;

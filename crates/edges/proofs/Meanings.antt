@@ -11,7 +11,7 @@ use lib.Signed.{ltZ, nonNeg}
 use mir.Syntax.{w32, w64}
 use mir.Val.{SFits, toZ, ofZ}
 use Rattle.libc.specs.Io.{Moved}
-use Rattle.numbers.specs.Whole.{eqZ}
+use Rattle.rules.specs.Words.{eqZ}
 use Rattle.numbers.proofs.Signed.{read}
 use Rattle.edges.specs.declared.Got.{Got}
 use Rattle.edges.specs.declared.Got.the-variants.{Bytes, End, Again, Failed}

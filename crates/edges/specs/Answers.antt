@@ -3,7 +3,7 @@
 use mathlib.Core.Bool.{Bool, true, false, cond}
 use Prim.Native.Nat.{ℕ, zero, suc, _≤_}
 use lib.IntN.{ℤ, pos, negsuc}
-use Rattle.numbers.specs.Whole.{eqZ}
+use Rattle.rules.specs.Words.{eqZ}
 pub use Rattle.edges.specs.declared.Got.{Got}
 pub use Rattle.edges.specs.declared.Got.the-variants.{Bytes, End, Again, Failed}
 

@@ -1,3 +1,2 @@
--- 'Record layout': what stands at the front of the input, and what the values hold.
+-- What stands at the front of the input.
 pub mod Fields
-pub mod Values

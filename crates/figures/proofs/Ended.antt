@@ -9,19 +9,21 @@ use lib.ListN.{length}
 use Rattle.numbers.proofs.Range.{fold-same}
 use Rattle.rules.specs.declared.Amounts.{Amounts}
 use Rattle.rules.specs.declared.Moment.{Moment}
-use Rattle.rules.specs.Bench.{isOpen, mostCycles}
+use Rattle.laws.specs.Beside.{isOpen}
+use Rattle.rules.specs.Bench.{mostCycles}
 use Rattle.rules.specs.Course.{Course, outside, judged, ending}
 use Rattle.rules.specs.Parts.{rowPart, cycles, energy}
 use Rattle.rules.specs.Regular.{Plan, courseOf, momentIn}
-use Rattle.rules.proofs.Facts.{Lawful}
-use Rattle.rules.proofs.Longer.{more-samples, same-samples, Over, over, energy-over, distance-over, whole-over, outside-over}
-use Rattle.rules.proofs.Regular.{regular-lawful}
+use Rattle.laws.proofs.Facts.{Lawful}
+use Rattle.laws.proofs.Longer.{more-samples, same-samples, Over, over, energy-over, distance-over, whole-over, outside-over}
+use Rattle.laws.proofs.Regular.{regular-lawful}
 use Rattle.judge.proofs.Runs.{Reached}
-use Rattle.consumption.specs.Figures.{weightedBy, rangeBy, rechargeBy}
+use Rattle.rules.specs.Closing.{weightedBy, rangeBy, rechargeBy}
 use Rattle.reading.specs.declared.Reading.{Reading}
 use Rattle.reading.specs.Answers.{isReading}
-use Rattle.sheet.specs.declared.Figures.{Figures}
-use Rattle.figures.specs.Figured.{foundOf, closedIn, energies, distances, outsideTotal, figuresBy}
+use Rattle.rules.specs.declared.Figures.{Figures}
+use Rattle.figures.specs.Figured.{foundOf}
+use Rattle.rules.specs.Figures.{closedIn, energies, distances, outsideTotal, figuresBy}
 use Rattle.figures.proofs.OfRun.{figures-of-run}
 
 -- the samples xs, after which the run has ended, and more behind them

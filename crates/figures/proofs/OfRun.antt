@@ -13,18 +13,19 @@ use Rattle.numbers.proofs.Sums.{sum-pos}
 use Rattle.numbers.proofs.Tests.{both, pass, settled-taken}
 use Rattle.rules.specs.declared.Moment.{Moment}
 use Rattle.rules.specs.Bench.{mostPassed, mostCycles}
-use Rattle.rules.specs.Closing.{areAmounts}
+use Rattle.values.specs.Limits.{areAmounts}
 use Rattle.rules.specs.Course.{outside, judged}
 use Rattle.rules.specs.Regular.{Plan, courseOf, momentIn}
-use Rattle.rules.proofs.NineNumbers.{outside-figure}
+use Rattle.laws.proofs.NineNumbers.{outside-figure}
 use Rattle.ledger.specs.Row.{outsideIn, outsideAll}
 use Rattle.state.specs.declared.Run.{Run}
 use Rattle.judge.proofs.Runs.{Reached, run-shows, never-refused}
 use Rattle.closing.proofs.Joined.{weighted-of-run, range-of-run, recharge-of-run}
-use Rattle.fields.specs.Values.{isNumber}
+use Rattle.rules.specs.Values.{isNumber}
 use Rattle.reading.specs.declared.Reading.{Reading}
 use Rattle.reading.specs.Answers.{isReading, readGround}
-use Rattle.figures.specs.Figured.{blank, foundOf, outsideTotal, figuresBy}
+use Rattle.figures.specs.Figured.{blank, foundOf}
+use Rattle.rules.specs.Figures.{outsideTotal, figuresBy}
 
 module _ (p : Plan) (l₀ : List ℤ) (m₀ : List ℕ) {xs : List Moment} {r : Run} {l : List ℤ} {m : List ℕ}
     (h : Reached p l₀ m₀ xs r l m) where

@@ -3,7 +3,6 @@
 use mathlib.Core.List.{List}
 use mathlib.Core.Path.{_≡_}
 use Prim.Native.Nat.{ℕ, _≤_}
-use lib.Dec.{T}
 use lib.IntN.{ℤ, pos, _+ℤ_}
 use lib.ListN.{length}
 use Rattle.numbers.proofs.Range.{sum-le}
@@ -13,37 +12,20 @@ use Rattle.rules.specs.declared.End.the-variants.{Stop as stop}
 use Rattle.rules.specs.declared.Moment.{Moment}
 use Rattle.rules.specs.declared.Tolerances.{Tolerances}
 use Rattle.rules.specs.Bench.{mostCycles}
-use Rattle.rules.specs.Course.{outside, stopped, judged}
-use Rattle.rules.specs.Parts.{Part, rowPart, phasePart, finished, cycles, partEnergy, partDistance, energy}
+use Rattle.rules.specs.Course.{outside}
+use Rattle.laws.specs.Beside.{stopped}
+use Rattle.rules.specs.Parts.{rowPart, cycles, partEnergy, partDistance, energy}
 use Rattle.rules.specs.Regular.{own, regularLayout, regularRule, Plan, plan, courseOf, momentIn}
-use Rattle.rules.proofs.Sound.{Sound}
-use Rattle.rules.proofs.Band.{Widened}
-use Rattle.rules.proofs.Facts.{Wider}
-use Rattle.rules.proofs.Gathered.{PartKept, row-ends, phase-ends}
-use Rattle.rules.proofs.Regular.{regular-orderly, regular-wider}
-use Rattle.rules.proofs.Wider.{counted-wider, cycles-wider, stop-wider, part-wider, outside-finished, unstopped-wider}
-use Rattle.consumption.specs.Figures.{weightedBy, rangeBy, rechargeBy}
-use Rattle.sheet.specs.declared.Figures.{Figures}
-use Rattle.figures.specs.Figured.{closedIn, outsideTotal, figuresBy}
-
--- the figures, with other counts
-abbrev pub withCounts : Figures → ℤ → ℕ → Figures
-withCounts f outside passed = record {
-  vehicle = f .vehicle;
-  end = f .end;
-  counted = f .counted;
-  cycles = f .cycles;
-  outside = outside;
-  passed = passed;
-  drawn = f .drawn;
-  weighted = f .weighted;
-  range = f .range;
-  ac = f .ac;
-}
-
--- with another `outside`
-abbrev pub withOutside : Figures → ℤ → Figures
-withOutside f o = withCounts f o (f .passed)
+use Rattle.laws.proofs.Sound.{Sound}
+use Rattle.laws.specs.Claims.{Widened}
+use Rattle.laws.proofs.Facts.{Wider}
+use Rattle.laws.proofs.Gathered.{row-ends, phase-ends}
+use Rattle.laws.proofs.Regular.{regular-orderly, regular-wider}
+use Rattle.laws.proofs.Wider.{counted-wider, cycles-wider, stop-wider, part-wider, outside-finished, unstopped-wider}
+use Rattle.rules.specs.Closing.{weightedBy, rangeBy, rechargeBy}
+use Rattle.rules.specs.declared.Figures.{Figures}
+use Rattle.rules.specs.Figures.{outsideTotal, figuresBy}
+use Rattle.figures.specs.Compared.{NoEarlier, withOutside}
 
 module _ (vehicle : List ℕ) (passed : ℕ) (a : Amounts) (b : List ℕ) (t t′ : Tolerances) (xs : List Moment) where
   -- by the narrower tolerances, and by the wider
@@ -62,26 +44,11 @@ module _ (vehicle : List ℕ) (passed : ℕ) (a : Amounts) (b : List ℕ) (t t�
   abbrev s : ℕ → Moment
   s = momentIn xs
 
-  -- a part that the narrower run finished
-  abbrev Stays : Part → Type 0
-  Stays part = T (finished part (closedIn p xs)) → PartKept own part s s (closedIn p xs) (closedIn p′ xs)
-
-  -- "Wider tolerances never stop earlier. .. What the narrower run finished, the wider finished too, with equal energies and distances and no higher
-  -- outside count."
-  pub record NoEarlier : Type 0 where
-    pub counted-no-less : f .counted ≤ f′ .counted
-    pub cycles-no-less : f .cycles ≤ f′ .cycles
-    pub stopped-too : f′ .end ≡ stop → f .end ≡ stop
-    pub phases-kept : (c k : ℕ) → Stays (phasePart (regularLayout b) c k)
-    pub cycles-kept : (c : ℕ) → Stays (rowPart (regularLayout b) c)
-    pub outside-no-higher : (c : ℕ) → T (finished (rowPart (regularLayout b) c) (closedIn p xs))
-        → outside (courseOf p′) s c (judged (courseOf p′) s (length xs)) ≤ outside (courseOf p) s c (judged (courseOf p) s (length xs))
-
   module _ (o : Sound b) (h : Widened t t′) where
     wide : Wider (regularRule b t) (regularRule b t′)
     wide = regular-wider b o t t′ h
 
-    pub no-earlier : NoEarlier
+    pub no-earlier : NoEarlier vehicle passed a b t t′ xs
     no-earlier = record {
       counted-no-less = counted-wider (regularLayout b) _ _ own wide s (length xs);
       cycles-no-less = cycles-wider (regularLayout b) _ _ own wide s (length xs);

@@ -1,2 +1,3 @@
 -- What the report prints of a started run.
 pub mod Figured
+pub mod Compared

@@ -1,12 +1,12 @@
 // The figures that the report prints of a started run.
-use consumption::Figure;
 use judge::Sums;
 use judge::TotalsAnswer;
 use reading::Reading;
 use reading::read_refusal;
 use rules::Amounts;
 use rules::End;
-use sheet::Figures;
+use rules::Figure;
+use rules::Figures;
 use state::Run;
 ghost use mathlib.Core.Path.{_≡_};
 ghost use Rattle.figures.specs.Figured.{blank, nothing, withSums, foundOf};

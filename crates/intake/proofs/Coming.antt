@@ -13,9 +13,8 @@ use lib.Dec.{leb}
 use lib.IntN.{ℤ}
 use lib.ListN.{length, take, drop, length-append, length-drop}
 use lib.Seq.{paste, take-add, take-paste, length-take-le, drop-at}
-use Rattle.numbers.specs.Tests.{unless}
-use Rattle.sheet.specs.Overlaid.{overlaid}
-use Rattle.sheet.specs.Text.{mostSheet}
+use Rattle.rules.specs.Words.{unless}
+use Rattle.sheet.specs.Overlaid.{overlaid, mostSheet}
 use Rattle.edges.specs.declared.Got.{Got}
 use Rattle.edges.specs.declared.Got.the-variants as got
 use Rattle.edges.specs.Answers.{Within}
@@ -32,8 +31,7 @@ use Rattle.intake.specs.declared.Turned.{Turned}
 use Rattle.intake.proofs.Turned.{the-type as turned}
 use Rattle.intake.specs.declared.Turned.the-variants.{On, Ended, Failed, Refused}
 use Rattle.intake.specs.Turns.{turnedBy, heldBy, bufferBy, isOn, isFailed, Goes, Came, none, part, outcomeBy, roundOf, roundAfter, stoppedAt, roundBy, onwards, Stood, textOf, textBy, intakeOf, linesOf, Recorded, Unread}
-use Rattle.desk.proofs.Onward.{feed-used}
-use Rattle.desk.proofs.LeftOver.{feed-short}
+use Rattle.desk.proofs.LeftOver.{feed-used, feed-short}
 
 -- a turn that fed the desk says what the desk did
 outcome-of : (o : Outcome) → o ≡ outcomeBy (turnedBy o)

@@ -9,10 +9,9 @@ use lib.Dec.{leb}
 use lib.IntN.{ℤ}
 use lib.ListN.{length, take, drop}
 use lib.Seq.{paste}
-use Rattle.numbers.specs.Tests.{unless}
+use Rattle.rules.specs.Words.{unless}
 use Rattle.state.specs.State.{Memory, lent}
-use Rattle.sheet.specs.Overlaid.{overlaid}
-use Rattle.sheet.specs.Text.{mostSheet}
+use Rattle.sheet.specs.Overlaid.{overlaid, mostSheet}
 use Rattle.prints.specs.Printed.{refuseText, closeText}
 use Rattle.edges.specs.declared.Got.{Got}
 use Rattle.edges.specs.declared.Got.the-variants as got
@@ -166,7 +165,8 @@ pub record Recorded (x₀ : Laid) (most : ℕ) (out : List ℕ) (r : Intake) (ro
   pub all : length bytes + r .left ≡ most
   -- where reading failed, nothing is printed
   pub printed : r .printed ≡ cond (r .failed) 0 (unless 0 (leb mostSheet (length out)) (length (textOf outcome (laidOf desk room ledger map) (length rest))))
-  pub lines : after ≡ cond (r .failed) out (unless out (leb mostSheet (length out)) (overlaid out 0 (textOf outcome (laidOf desk room ledger map) (length rest))))
+  pub lines : after
+      ≡ cond (r .failed) out (unless out (leb mostSheet (length out)) (overlaid out 0 (textOf outcome (laidOf desk room ledger map) (length rest))))
 
 -- nothing was read, since the buffer is too short for a field: memory stays, and the lines say `refused 1 field 1`
 pub record Unread (x₀ : Laid) (most : ℕ) (out : List ℕ) (r : Intake) (room : List ℕ) (ledger : List ℤ) (map after : List ℕ) : Type 0 where

@@ -61,7 +61,10 @@ fn print_record(t: Turn, room: &[u8], ledger: &[i64], map: &[u64], lines: &mut [
 // What is answered of the last turn: where reading failed, nothing is printed.
 fn answer_to(t: Turn, room: &[u8], ledger: &[i64], map: &[u64], lines: &mut [u8]) -> Intake
     ensures { λ r. ⌜ r ≡ intakeOf t (laidOf (t .desk) (now (room .entry)) (now (ledger .entry)) (now (map .entry))) (now (lines .entry)) ⌝ }
-    ensures { λ _. ⌜ now (lines .exit) ≡ linesOf t (laidOf (t .desk) (now (room .entry)) (now (ledger .entry)) (now (map .entry))) (now (lines .entry)) ⌝ }
+    ensures { λ _. ⌜
+        now (lines .exit)
+        ≡ linesOf t (laidOf (t .desk) (now (room .entry)) (now (ledger .entry)) (now (map .entry))) (now (lines .entry))
+        ⌝ }
 {
     let turned = t.turned;
     if has_failed(turned) {

@@ -14,10 +14,10 @@ use Rattle.rules.specs.Bench.{mostCycles, mostPhases}
 use Rattle.rules.specs.Course.{Course, judged, closed}
 use Rattle.rules.specs.Parts.{rowPart, phasePart, partEnergy, partDistance, energy}
 use Rattle.rules.specs.Shown.{ledgerNumbers, figure}
-use Rattle.rules.proofs.Facts.{Orderly}
-use Rattle.rules.proofs.Gathered.{closed-most}
-use Rattle.rules.proofs.NineNumbers.{energy-figure, distance-figure, outside-figure}
-use Rattle.rules.proofs.Total.{energy-phases, distance-phases, energies-add-up}
+use Rattle.laws.proofs.Facts.{Orderly}
+use Rattle.laws.proofs.Gathered.{closed-most}
+use Rattle.laws.proofs.NineNumbers.{energy-figure, distance-figure, outside-figure}
+use Rattle.laws.proofs.Total.{energy-phases, distance-phases, energies-add-up}
 use Rattle.ledger.specs.Row.{at, energyIn, distanceIn, energyAll}
 use Rattle.judge.proofs.LedgerShows.{LedgerShows}
 

@@ -11,7 +11,7 @@ use lib.ListN.{length, drop}
 use lib.Seq.{drop-set-lt}
 use lib.Signed.{ltZ}
 use Rattle.numbers.specs.Lists.{plus}
-use Rattle.numbers.specs.Range.{fold, gather}
+use Rattle.rules.specs.Words.{fold, gather}
 use Rattle.numbers.proofs.Order.{eqb-shift}
 use Rattle.rules.specs.declared.Moment.{Moment}
 use Rattle.rules.specs.Bench.{mostCycles, mostPhases}

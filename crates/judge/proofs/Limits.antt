@@ -12,11 +12,12 @@ use borrow.Author.Tests.{ltb-true, ltb-false, lt-ltb, le-leb, eq-eqb}
 use Rattle.rules.specs.declared.End.the-variants.{None as none, Stop as stop, Limit as limit}
 use Rattle.rules.specs.Cycle.{phases, phaseEnd}
 use Rattle.rules.specs.declared.Moment.{Moment}
-use Rattle.rules.specs.Course.{Course, stopsAt, counted, stopped, closed, ending}
+use Rattle.rules.specs.Course.{Course, stopsAt, counted, closed, ending}
+use Rattle.laws.specs.Beside.{stopped}
 use Rattle.rules.specs.Tally.{room}
-use Rattle.rules.proofs.Next.{closed-own}
-use Rattle.rules.proofs.Tally.{counted-le}
-use Rattle.rules.proofs.Sound.{Sound, rising}
+use Rattle.laws.proofs.Next.{closed-own}
+use Rattle.laws.proofs.Tally.{counted-le}
+use Rattle.laws.proofs.Sound.{Sound, rising}
 use Rattle.rules.specs.Bench.{mostSeconds}
 use Rattle.state.specs.State.{endOrZero, endsOf, isProgress}
 

@@ -12,15 +12,14 @@ use lib.Dec.{eqb}
 use lib.ListN.{length, drop}
 use borrow.Author.Tests.{le-ltb, eq-eqb, ne-eqb}
 use Rattle.numbers.specs.Lists.{cleared}
-use Rattle.numbers.specs.Range.{fold, gather}
-use Rattle.numbers.specs.Tests.{bit}
+use Rattle.rules.specs.Words.{fold, gather, bit}
 use Rattle.numbers.proofs.Range.{fold-none, sum-ℕ}
 use Rattle.rules.specs.declared.Moment.{Moment}
 use Rattle.rules.specs.Bench.{mostCycles, mostPositions}
 use Rattle.rules.specs.Course.{Course, out, outside}
 use Rattle.rules.specs.Shown.{mapWords, shownRow, marked}
-use Rattle.rules.proofs.Facts.{Orderly}
-use Rattle.rules.proofs.Maps.{shown-cycle, map-cleared, map-goes-on}
+use Rattle.laws.proofs.Facts.{Orderly}
+use Rattle.laws.proofs.Maps.{shown-cycle, map-cleared, map-goes-on}
 use Rattle.map.specs.Map.{isSet, mark, opened, markedIf, onesOf}
 use Rattle.map.proofs.Marks.{set-mark, ones-mark, set-cleared, ones-cleared, length-opened, length-markedIf, drop-opened, drop-markedIf}
 

@@ -11,21 +11,22 @@ use lib.IntN.{ℤ, pos}
 use lib.ListN.{length}
 use borrow.Author.Tests.{lt-ltb, le-ltb}
 use Rattle.numbers.specs.Lists.{cleared}
-use Rattle.numbers.specs.Range.{fold, gather, first}
+use Rattle.rules.specs.Words.{fold, gather}
 use Rattle.numbers.proofs.Lists.{length-cleared, getD-cleared, drop-cleared}
 use Rattle.rules.specs.declared.Moment.{Moment}
 use Rattle.rules.specs.declared.End.the-variants.{None as none, Stop as stop, Limit as limit}
-use Rattle.rules.specs.Bench.{isOpen, mostPositions, mostCycles, mostPhases}
+use Rattle.laws.specs.Beside.{isOpen}
+use Rattle.rules.specs.Bench.{mostPositions, mostCycles, mostPhases}
 use Rattle.rules.specs.Cycle.{positions}
 use Rattle.rules.specs.Course.{Course, stopsAt, counted, judged, closed, ending}
 use Rattle.rules.specs.Regular.{most, regularLayout, regularRule, Plan, courseOf}
 use Rattle.rules.specs.Shown.{ledgerNumbers, mapWords, shownRow, marked}
-use Rattle.rules.proofs.Facts.{Lawful, Orderly}
-use Rattle.rules.proofs.Longer.{over, judged-over}
-use Rattle.rules.proofs.Next.{Going, going, judged-all, Next, limits, stops, goes, next, closed-own}
-use Rattle.rules.proofs.Regular.{regular-orderly, regular-lawful}
-use Rattle.rules.proofs.Sound.{Sound, real}
-use Rattle.rules.proofs.Tally.{counted-le}
+use Rattle.laws.proofs.Facts.{Lawful, Orderly}
+use Rattle.laws.proofs.Longer.{over, judged-over}
+use Rattle.laws.proofs.Next.{Going, going, judged-all, Next, limits, stops, goes, next, closed-own}
+use Rattle.laws.proofs.Regular.{regular-orderly, regular-lawful}
+use Rattle.laws.proofs.Sound.{Sound, real}
+use Rattle.laws.proofs.Tally.{counted-le}
 use Rattle.map.proofs.Marks.{set-cleared, ones-cleared}
 use Rattle.state.specs.declared.Progress.{Progress}
 use Rattle.step.specs.Step.{State, onlyOffered, overNow, judge, sampleTaken, samplesTaken, startOf}

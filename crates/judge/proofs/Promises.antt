@@ -13,7 +13,7 @@ use Rattle.rules.specs.declared.Tolerances.{Tolerances}
 use Rattle.state.specs.declared.Run.{Run}
 use Rattle.state.specs.State.{Memory, lent, Left}
 use Rattle.step.specs.Step.{startOf, withProgress}
-use Rattle.numbers.specs.Tests.{settled}
+use Rattle.rules.specs.Words.{settled}
 use Rattle.state.specs.Refusals.{startRefusal, started, sampleRefusal}
 use Rattle.judge.specs.Answers.{answered, callLeft, afterSample, afterBlock}
 use Rattle.blocks.specs.Blocks.{blockRefusal}

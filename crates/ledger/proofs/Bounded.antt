@@ -9,8 +9,8 @@ use borrow.Author.Tests.{leb-true, le-leb, lt-ltb, le-ltb}
 use lib.Dec.{leb, ltb, lit≤}
 use lib.IntN.{ℤ, pos, negℤ, _+ℤ_}
 use lib.ListN.{length}
-use Rattle.numbers.specs.Range.{sumℤ}
-use Rattle.numbers.specs.Whole.{between, Sized}
+use Rattle.rules.specs.Words.{sumℤ, between}
+use Rattle.numbers.specs.Whole.{Sized}
 use Rattle.numbers.proofs.Range.{fold-same}
 use Rattle.numbers.proofs.Sums.{sized-sum, between-sum}
 use Rattle.numbers.proofs.Tests.{both, all-at, all-by}

@@ -8,8 +8,7 @@ use lib.IntN.{ℤ, pos}
 use lib.ListN.{length, getD}
 use lib.Signed.{ltZ}
 use Rattle.numbers.specs.Lists.{plus}
-use Rattle.numbers.specs.Range.{sumℤ}
-use Rattle.numbers.specs.Tests.{allBelow}
+use Rattle.rules.specs.Words.{sumℤ, allBelow}
 use Rattle.rules.specs.declared.Moment.{Moment}
 use Rattle.rules.specs.Bench.{mostCycles, mostPhases, mostOffered, mostShareEnergy, mostShareDistance}
 use Rattle.rules.specs.Shown.{ledgerNumbers, mostEnergy, inBounds}

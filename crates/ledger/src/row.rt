@@ -9,7 +9,8 @@ ghost use mir.Syntax.{w64};
 ghost use mir.Val.{SFits};
 ghost use Rattle.numbers.specs.Lists.{plus};
 ghost use Rattle.numbers.specs.Whole.{Small};
-ghost use Rattle.rules.specs.Bench.{mostPhases, isMoment};
+ghost use Rattle.rules.specs.Bench.{mostPhases};
+ghost use Rattle.laws.specs.Beside.{isMoment};
 ghost use Rattle.ledger.specs.Row.{outsideAdded, isOver, sampleAdded, mostHeld};
 
 // z is added to the number at place k.

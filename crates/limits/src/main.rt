@@ -1,8 +1,8 @@
 // The closing figures at their limits, worked out in `stdout` from document 01's formulas.
-use consumption::Figure;
 use rules::Amounts;
 use rules::Charge;
 use rules::End;
+use rules::Figure;
 use rules::Tolerances;
 use state::Ends;
 use state::Progress;

@@ -10,7 +10,7 @@ use lib.Bits.{bitOr, bitAnd, or-block, or-step, or-shr, or-zero-r, and-mask}
 use lib.Count.{ones, ones-cat, ones-step}
 use lib.Dec.{lit<}
 use lib.Pow.{pow-pos, pow-add, pow-lt, shl-shr, split, mod-pow-add}
-use Rattle.numbers.specs.Range.{fold, sum}
+use Rattle.rules.specs.Words.{fold, sum}
 use Rattle.map.specs.Map.{bitOf}
 
 -- `(w >> k) & 1`

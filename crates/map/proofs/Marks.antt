@@ -15,8 +15,7 @@ use lib.Dec.{eqb, lit<}
 use lib.ListN.{length, getD, set, drop, length-set}
 use lib.Seq.{getD-set-same, getD-set-other, drop-set-lt}
 use Rattle.numbers.specs.Lists.{cleared}
-use Rattle.numbers.specs.Range.{fold, sum}
-use Rattle.numbers.specs.Tests.{bit}
+use Rattle.rules.specs.Words.{fold, sum, bit}
 use Rattle.numbers.proofs.Lists.{length-cleared, getD-cleared, drop-cleared}
 use Rattle.numbers.proofs.Range.{fold-same}
 use Rattle.map.specs.Map.{bitOf, isSet, mark, markedIf, opened, onesOf}

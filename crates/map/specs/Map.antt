@@ -8,7 +8,7 @@ use lib.Count.{ones}
 use lib.Dec.{eqb}
 use lib.ListN.{getD, set}
 use Rattle.numbers.specs.Lists.{cleared}
-use Rattle.numbers.specs.Range.{sum}
+use Rattle.rules.specs.Words.{sum}
 use Rattle.rules.specs.Shown.{mapWords}
 
 -- bit k of a word

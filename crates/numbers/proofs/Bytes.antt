@@ -9,7 +9,7 @@ use native.Mathlib.Omega.{arith}
 use lib.Dec.{lit<}
 use lib.ListN.{length, getD, List·getD-append}
 use lib.Seq.{getD-append-add}
-use Rattle.numbers.specs.Bytes.{be}
+use Rattle.rules.specs.Words.{be}
 
 -- n bytes make a number below 256 ^ n
 pub be-most : (b : List ℕ) → ((k : ℕ) → getD b k 0 < 256) → (n i : ℕ) → be n b i < 256 ^ n

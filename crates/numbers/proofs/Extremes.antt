@@ -5,7 +5,7 @@ use mathlib.Core.Path.{_≡_, subst}
 use Prim.Native.Nat.{ℕ, zero, suc, _+_, _-_, _≤_, _<_, min, max}
 use native.Mathlib.Nat.{le-refl, le-step, le-trans, le-antisymm, not-suc-le-zero, le-of-suc-le-suc, eq-or-lt-of-le, min-le-left, min-le-right, le-max-left, le-max-right, le-min, max-le}
 use native.Mathlib.Omega.{arith}
-use Rattle.numbers.specs.Range.{fold, least, greatest}
+use Rattle.rules.specs.Words.{fold, least, greatest}
 
 -- the laws of a lattice's meet: of `min` by ≤, and of `max` by ≥
 pub record Meet (op : ℕ → ℕ → ℕ) (R : ℕ → ℕ → Type 0) : Type 0 where

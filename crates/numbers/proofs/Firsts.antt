@@ -7,7 +7,7 @@ use Prim.Native.Nat.{ℕ, zero, suc, _≤_, _<_, zero-le, suc-le-suc}
 use native.Mathlib.Nat.{le-refl, le-step, le-antisymm, not-suc-le-zero, le-of-suc-le-suc, eq-or-lt-of-le}
 use native.Mathlib.Omega.{arith}
 use lib.Dec.{T, T-not}
-use Rattle.numbers.specs.Range.{first}
+use Rattle.rules.specs.Words.{first}
 use Rattle.numbers.proofs.Order.{side}
 
 pub first-le : (p : ℕ → Bool) (n : ℕ) → first p n ≤ n

@@ -11,7 +11,7 @@ use native.Mathlib.Omega.{arith}
 use lib.Dec.{T, eqb}
 use lib.IntN.{ℤ, pos, _+ℤ_, +ℤ-assoc, +ℤ-comm, +ℤ-idl, +ℤ-idr}
 use borrow.Author.Tests.{eq-eqb, ne-eqb}
-use Rattle.numbers.specs.Range.{fold, gather, sum, sumOf}
+use Rattle.rules.specs.Words.{fold, gather, sum, sumOf}
 
 -- one term more, as the code counts it
 pub fold-more : {A B : Type 0} (op : B → A → B) (z : B) (f : ℕ → A) (k : ℕ) → fold op z f (k + 1) ≡ op (fold op z f k) (f k)

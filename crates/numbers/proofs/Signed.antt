@@ -13,7 +13,8 @@ use lib.Signed.{leZ}
 use mir.Syntax.{Width}
 use mir.Val.{SFits, bits, hbits, toZ, ofZ}
 use mir.ValLaws.{toZ-ofZ, toZ-pos, toZ-neg, pow-bits}
-use Rattle.numbers.specs.Whole.{eqZ, Sized}
+use Rattle.rules.specs.Words.{eqZ}
+use Rattle.numbers.specs.Whole.{Sized}
 use Rattle.numbers.proofs.Whole.{of-nat, weaken, sized-add, sized-neg, eq-of, sum-is, up-neg, down-neg}
 
 -- a number fits where its size is below half the width's numbers

@@ -13,9 +13,8 @@ use lib.IntN.{ℤ, pos, _+ℤ_}
 use lib.Signed.{leZ}
 use mir.Syntax.{Width}
 use mir.Val.{SFits, hbits, toZ, ofZ}
-use Rattle.numbers.specs.Range.{fold, sum, sumℤ}
-use Rattle.numbers.specs.Tests.{bit, allBelow}
-use Rattle.numbers.specs.Whole.{between, Sized}
+use Rattle.rules.specs.Words.{fold, sum, sumℤ, bit, allBelow, between}
+use Rattle.numbers.specs.Whole.{Sized}
 use Rattle.numbers.proofs.Range.{fold-same, fold-more, fold-none, sum-ℕ}
 use Rattle.numbers.proofs.Tests.{both, bit-most}
 use Rattle.numbers.proofs.Whole.{of-nat, weaken, sized-add, le-add}

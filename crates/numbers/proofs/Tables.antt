@@ -5,7 +5,7 @@ use mathlib.Core.Path.{_≡_, refl, sym, ap, ap₂, _∙_}
 use Prim.Native.Nat.{ℕ, zero, suc, _+_, _<_, zero-le, suc-le-suc}
 use native.Mathlib.Nat.{zero-add, suc-add}
 use lib.ListN.{length, getD}
-use Rattle.numbers.specs.Range.{fold, table}
+use Rattle.rules.specs.Words.{fold, table}
 
 -- ---- a function's values as a list
 
@@ -14,6 +14,11 @@ module _ {A : Type 0} where
   unfolding table
   table-same f g zero h = refl
   table-same f g (suc n) h = ap₂ _∷_ (h 0 (suc-le-suc zero-le)) (table-same (λ j. f (suc j)) (λ j. g (suc j)) n (λ k l. h (suc k) (suc-le-suc l)))
+
+  pub length-table : (f : ℕ → A) (n : ℕ) → length (table f n) ≡ n
+  unfolding table
+  length-table f zero = refl
+  length-table f (suc n) = ap suc (length-table (λ j. f (suc j)) n)
 
   -- m values, and n more
   pub table-more : (f : ℕ → A) (m n : ℕ) → table f (m + n) ≡ table f m ++ table (λ j. f (m + j)) n

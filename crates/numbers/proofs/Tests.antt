@@ -11,8 +11,7 @@ use native.Mathlib.Omega.{arith}
 use lib.Dec.{T, T-not, leb, leb→le, le→leb}
 use lib.ListN.{length, getD}
 use borrow.Author.Tests.{lt-ltb, le-ltb, le-leb, lt-leb, eq-eqb, ne-eqb}
-use Rattle.numbers.specs.Range.{table}
-use Rattle.numbers.specs.Tests.{bit, allBelow, every, unless, settled}
+use Rattle.rules.specs.Words.{table, bit, allBelow, every, unless, settled}
 
 -- ---- two tests
 

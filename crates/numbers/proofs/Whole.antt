@@ -11,9 +11,9 @@ use lib.Dec.{leb, ltb}
 use lib.IntN.{ℤ, pos, negsuc, negℤ, natAbs, subℕ, _+ℤ_, _*ℤ_}
 use lib.ListN.{getD}
 use lib.Signed.{leZ, ltZ}
-use Rattle.numbers.specs.Whole.{up, down, between, Sized, Small}
+use Rattle.rules.specs.Words.{up, between, fold, gather, sumOf, sumOfℤ}
+use Rattle.numbers.specs.Whole.{down, Sized, Small}
 use Rattle.numbers.specs.Lists.{plus}
-use Rattle.numbers.specs.Range.{fold, gather, sumOf, sumOfℤ}
 use Rattle.numbers.proofs.Tests.{both}
 use Rattle.numbers.proofs.Lists.{set-either}
 

@@ -1,6 +1,3 @@
--- Words that every crate's definitions use: folds over the numbers below n, tests, chains of refusals, bytes, sizes of integers, lists.
-pub mod Range
-pub mod Tests
-pub mod Bytes
+-- Words of the lent memory and the code's integers: sizes of integers, lists.
 pub mod Whole
 pub mod Lists

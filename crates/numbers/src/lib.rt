@@ -4,7 +4,7 @@ ghost use Prim.Native.Nat.{_+_, _-_, _*_, _<_, min, max};
 ghost use lib.ListN.{length};
 ghost use mir.Syntax.{w16, w64};
 ghost use mir.Val.{toZ};
-ghost use Rattle.numbers.specs.Bytes.{be};
+ghost use Rattle.rules.specs.Words.{be};
 
 pub fn smaller(a: u32, b: u32) -> u32
     ensures { λ r. ⌜ r ≡ min a b ⌝ }

@@ -1,2 +1,3 @@
--- The laws of a field until the start, on its lent room.
+-- The laws of the first four fields.
 pub mod Starting
+pub mod Next

@@ -1,17 +1,29 @@
--- The first four fields on an opening with its lent room: what the code forms is what the definitions say.
+-- The first four fields on an opening with its lent room: what the code forms is what the machine says.
 -- Assumes nothing.
-use mathlib.Core.Bool.{Bool, true, false, cond}
-use mathlib.Core.List.{List}
-use mathlib.Core.Path.{_≡_, refl, sym, ap, _∙_}
+use mathlib.Core.Bool.{Bool, true, false, cond, _&&_, false≢true}
+use mathlib.Core.List.{List, [], _∷_}
+use mathlib.Core.Path.{_≡_, refl, sym, ap, subst, _∙_}
 use Prim.Native.Nat.{ℕ, _+_, _-_, _≤_}
-use borrow.Author.Tests.{leb-true, le-leb, eq-eqb, ne-eqb}
-use lib.Dec.{eqb}
+use native.Mathlib.Omega.{arith}
+use borrow.Author.Tests.{leb-true, le-leb, lt-leb, ne-eqb}
+use lib.Dec.{leb, eqb}
 use lib.IntN.{ℤ}
-use lib.ListN.{length, take, drop}
-use Rattle.numbers.specs.Tests.{unless}
-use Rattle.numbers.proofs.Tests.{pass, both, not-refused, settled-taken, settled-refused, settled-answer}
+use lib.ListN.{length, take}
+use lib.Seq.{length-take-le}
+use Rattle.rules.specs.Words.{allBelow, unless, settled}
+use Rattle.numbers.proofs.Tests.{pass, stop, both, not-refused, settled-taken, settled-refused, settled-answer}
 use Rattle.rules.specs.declared.Tolerances.{Tolerances}
+use Rattle.rules.specs.Bench.{tolerable}
 use Rattle.rules.specs.Cycle.{valid, mostBytes}
+use Rattle.rules.specs.Shown.{ledgerNumbers, mapWords}
+use Rattle.rules.specs.Table.{number, cycle, tolerances, begins, byRow, lengthAllowed, among, placeAfter, blockPlaces, tags, RUN1}
+use Rattle.laws.specs.Beside.{mayStand}
+use Rattle.rules.specs.Front.{Field, Front as Stands, frontOf}
+use Rattle.rules.specs.Machine.{toField, replyAs, replyAt}
+use Rattle.rules.specs.Values.{isNumber, tolerancesIn}
+use Rattle.rules.specs.Record.{Content, brought, wrong, nothing, aNumber, aCycle, theTolerances, fieldContent, answerBy}
+use Rattle.laws.proofs.Contents.{content-order}
+use Rattle.laws.proofs.Tags.{by-tag, no-length}
 use Rattle.state.specs.declared.Run.{Run}
 use Rattle.state.specs.State.{lent, Left}
 use Rattle.state.specs.Refusals.{startRefusal, started}
@@ -20,17 +32,16 @@ use Rattle.judge.specs.declared.Answer.{Answer}
 use Rattle.judge.specs.declared.Answer.the-variants as answer
 use Rattle.judge.specs.Answers.{startLeft}
 use Rattle.judge.proofs.Promises.{StartPromise, promised, answer-refused, answer-taken}
-use Rattle.fields.specs.declared.Front.{Front}
-use Rattle.fields.specs.declared.Front.the-variants.{Field as field}
-use Rattle.fields.specs.Fields.{frontOf}
-use Rattle.fields.specs.Values.{isNumber, tolerancesIn}
-use Rattle.fields.proofs.Fronts.{front-whole, of-value}
+use Rattle.records.specs.Stage.{Stage, written, contentOn, bringOn, passOn, takeOn}
+use Rattle.fields.specs.Fields.{hasRow}
+use Rattle.fields.proofs.Fronts.{row-of-mark}
 use Rattle.opening.specs.declared.Opening.{Opening}
 use Rattle.opening.specs.declared.OpenAnswer.{OpenAnswer}
 use Rattle.opening.specs.declared.OpenStep.the-variants.{Taken, Started, Refused}
-use Rattle.opening.specs.Opening.{openRefusal, begunAfter, openTaken, openByFront, openAt}
-use Rattle.opening.specs.Answers.{hold, cycleIn, begunOf, isOpening, openGround, written, openField, openOf, OpenLeft, openLeft, openedOn, fieldOpened, frontOpened}
-use Rattle.opening.specs.Begin.{refusedAt, numberAnswer, cycleAnswer, startNumber, startAnswer, startOpened}
+use Rattle.opening.specs.Answers.{stageOf, isOpening, openGround, OpenLeft, openLeft, notOpened, openedBy, fieldOpened, frontOpened}
+use Rattle.opening.specs.Begin.{refusedAt, numberAnswer, cycleAnswer, startNumber, startOpened}
+
+-- ---- before all else
 
 -- no number of an opening on its lent room is beyond its limits
 pub record Ready (o : Opening) (lent : List ℕ) : Type 0 where
@@ -54,14 +65,44 @@ unfolding openGround isOpening
 ready-ground o room h =
     sym (pass 1 (le-leb _ _ (h .room)) (pass 1 (rw (le-leb _ _ (h .few), le-leb _ _ (h .size), h .number)) refl))
 
-module _ (o : Opening) (room : List ℕ) (l : List ℤ) (m : List ℕ) where
-  -- the number of a start's refusal, on this memory
-  abbrev startRefused : List ℕ → Tolerances → ℕ
-  startRefused b t = startRefusal b t l m
+-- ---- the rows until the start
 
-  -- the opening with one field more, of which nothing is kept
-  abbrev oneMore : Opening
-  oneMore = record { fields = o .fields + 1; vehicle = o .vehicle; cycle = o .cycle }
+-- "1, 2, 3, 4 once each": no other field stands where k are accepted than the one of tag k + 1
+module _ (p : ℕ) (few : p ≤ 3) (v : List ℕ) where
+  never : (b : Bool) → cond b false false ≡ false
+  never true = refl
+  never false = refl
+
+  not-at : (k : ℕ) → (p ≡ k → ⊥) → among p (k ∷ []) ≡ false
+  not-at k h = rw (ne-eqb p k h)
+
+  no-block : among p blockPlaces ≡ false
+  no-block = rw (ne-eqb p 4 (λ e. omega arith), ne-eqb p 5 (λ e. omega arith), ne-eqb p 6 (λ e. omega arith))
+
+  no-mark : (p ≡ 0 → ⊥) → mayStand tags p 1 v ≡ false
+  unfolding byRow
+  no-mark h = ap (λ (x : Bool). cond (begins RUN1 v) x false) (not-at 0 h) ∙ never (begins RUN1 v)
+
+  no-energy : mayStand tags p 6 v ≡ false
+  unfolding byRow
+  no-energy =
+      (λ k. cond (begins (0 ∷ []) v) (not-at 4 (λ e. omega arith) k) (cond (begins (1 ∷ []) v) (no-block k) false))
+      ∙ ap (λ (x : Bool). cond (begins (0 ∷ []) v) false x) (never (begins (1 ∷ []) v)) ∙ never (begins (0 ∷ []) v)
+
+  no-recharge : mayStand tags p 7 v ≡ false
+  unfolding byRow begins allBelow
+  no-recharge = ap (λ (x : Bool). cond x true (among p blockPlaces)) (ne-eqb p 7 (λ e. omega arith)) ∙ no-block
+
+  pub out-of-turn : (tag n : ℕ) → lengthAllowed tags tag n ≡ true → (tag ≡ p + 1 → ⊥) → mayStand tags p tag v ≡ false
+  unfolding byRow begins allBelow
+  out-of-turn tag n =
+      by-tag (λ t. lengthAllowed tags t n ≡ true → (t ≡ p + 1 → ⊥) → mayStand tags p t v ≡ false) tag
+      (λ _ h. no-mark (λ e. h (omega arith))) (λ _ h. not-at 1 (λ e. h (omega arith))) (λ _ h. not-at 2 (λ e. h (omega arith))) (λ _ h. not-at 3 (λ e. h (omega arith)))
+      (λ _ _. no-block) (λ _ _. no-energy) (λ _ _. no-recharge) (λ w l _. absurd (false≢true (sym (no-length tag n w) ∙ l)))
+
+module _ (o : Opening) (room : List ℕ) (l : List ℤ) (m : List ℕ) where
+  abbrev x : Stage
+  x = stageOf o room l m
 
   -- the answer a, where room and memory are as they were; and where the room is
   abbrev here : OpenAnswer → OpenLeft
@@ -70,106 +111,190 @@ module _ (o : Opening) (room : List ℕ) (l : List ℤ) (m : List ℕ) where
   abbrev beside : Left OpenAnswer → OpenLeft
   beside y = record { answer = y .answer; room = room; memory = y .memory }
 
+  -- the opening with one field more, of which nothing is kept
+  abbrev oneMore : Opening
+  oneMore = record { fields = o .fields + 1; vehicle = o .vehicle; cycle = o .cycle }
+
   module _ (v : List ℕ) where
+    -- ---- the start, with the tolerances t that the value holds, in a field of n bytes
+
     -- the number of the start's refusal, and the run that it starts
-    abbrev number : ℕ
-    number = startNumber o room l m v
+    abbrev number-is : ℕ
+    number-is = startNumber o room l m v
 
     abbrev run : Run
     run = started (take (o .cycle) room) (tolerancesIn v)
 
-    -- ---- the start, with the tolerances t that the value holds, in a field of n bytes
-    module _ (n : ℕ) {t : Tolerances} (e : t ≡ tolerancesIn v) {x : Left Answer} (h : x ≡ startLeft (take (o .cycle) room) t l m) where
-      promise : StartPromise (take (o .cycle) room) (tolerancesIn v) l m (x .answer) (x .memory)
-      promise = promised (h ∙ ap (λ (y : Tolerances). startLeft (take (o .cycle) room) y l m) e)
+    module _ (n : ℕ) {t : Tolerances} (e : t ≡ tolerancesIn v) {y : Left Answer} (h : y ≡ startLeft (take (o .cycle) room) t l m) where
+      promise : StartPromise (take (o .cycle) room) (tolerancesIn v) l m (y .answer) (y .memory)
+      promise = promised (h ∙ ap (λ (z : Tolerances). startLeft (take (o .cycle) room) z l m) e)
 
-      answers : {r : OpenAnswer} → r ≡ startAnswer o room l m v n → record { answer = r; memory = x .memory } ≡ startOpened o room l m v n
+      answers : {r : OpenAnswer} → r ≡ startOpened o room l m v n .answer → record { answer = r; memory = y .memory } ≡ startOpened o room l m v n
       answers p = λ i. record { answer = p i; memory = promise .in-memory i }
 
-      pub start-refused : {k : ℕ} {r : OpenAnswer} → x .answer ≡ answer.Refused k → r ≡ refusedAt o k → record { answer = r; memory = x .memory } ≡ startOpened o room l m v n
+      pub start-refused : {k : ℕ} {r : OpenAnswer} → y .answer ≡ answer.Refused k → r ≡ refusedAt o k → record { answer = r; memory = y .memory } ≡ startOpened o room l m v n
       start-refused {k} p q =
-          let (same, some) = answer-refused number run k (sym (promise .answer) ∙ p) in
+          let (same, some) = answer-refused number-is run k (sym (promise .answer) ∙ p) in
           answers (q ∙ ap (refusedAt o) (sym same) ∙ sym (settled-refused _ some))
 
-      pub start-taken : {r : Run} {k : Opening} → x .answer ≡ answer.Taken r → k ≡ oneMore
-          → record { answer = record { step = Started n r; opening = k }; memory = x .memory } ≡ startOpened o room l m v n
+      pub start-taken : {r : Run} {k : Opening} → y .answer ≡ answer.Taken r → k ≡ oneMore
+          → record { answer = record { step = Started n r; opening = k }; memory = y .memory } ≡ startOpened o room l m v n
       start-taken {r} p q =
-          let (none, same) = answer-taken number run r (sym (promise .answer) ∙ p) in
+          let (none, same) = answer-taken number-is run r (sym (promise .answer) ∙ p) in
           answers ((λ i. record { step = Started n (sym same i); opening = q i }) ∙ sym (settled-taken _ none))
 
+    -- what field 4 brings, by that number
+    start-content : contentOn x tolerances v ≡ settled number-is (brought (theTolerances (tolerancesIn v))) (wrong number-is)
+    unfolding startRefusal unless
+    start-content = go (leb ledgerNumbers (length l)) (leb mapWords (length m)) (valid (take (o .cycle) room)) (tolerable (tolerancesIn v))
+      where
+        go : (a b c d : Bool) → unless (wrong 1) (a && b) (unless (wrong 2) c (unless (wrong 3) d (brought (theTolerances (tolerancesIn v)))))
+            ≡ (let k = unless 1 a (unless 1 b (unless 2 c (unless 3 d 0))) in settled k (brought (theTolerances (tolerancesIn v))) (wrong k))
+        go true true true true = refl
+        go true true true false = refl
+        go true true false d = refl
+        go true false c d = refl
+        go false b c d = refl
+
     -- ---- a whole field
+
     abbrev n : ℕ
     n = 3 + length v
 
-    -- where y says whether it is accepted, and x is the number of the refusal
-    abbrev by : ℕ → Bool → ℕ → OpenLeft
-    by tag y x = openedOn l m (record {
-      step = cond y (openTaken hold cycleIn startRefused (begunOf o room) tag v n) (Refused x);
-      begun = cond y (begunAfter hold cycleIn startRefused (begunOf o room) tag v) (begunOf o room);
-    })
+    abbrev fieldOf : ℕ → Field
+    fieldOf tag = record { tag = tag; value = v }
 
-    -- by what the tag and the number are known to be
-    by-refusal : {tag : ℕ} (k x : ℕ) {y : OpenLeft} → tag ≡ k → openRefusal hold cycleIn startRefused (begunOf o room) k v ≡ x → y ≡ by k (eqb x 0) x
-        → y ≡ fieldOpened o room l m tag v
-    by-refusal k x d e h = h ∙ ap (λ (z : ℕ). by k (eqb z 0) z) (sym e) ∙ ap (λ (z : ℕ). fieldOpened o room l m z v) (sym d)
+    -- by its content c, and the place k to which it moves
+    by-content : (tag : ℕ) {k : ℕ} (c : Content) {y : OpenLeft} → fieldContent (o .fields) (contentOn x) (fieldOf tag) ≡ c → placeAfter tags (o .fields) tag v ≡ k
+        → y ≡ openedBy o room x (toField (answerBy (bringOn x k) (passOn x) c) n) → y ≡ fieldOpened o room l m (fieldOf tag)
+    by-content tag c e f h = h ∙ (λ i. openedBy o room x (toField (answerBy (bringOn x (sym f i)) (passOn x) (sym e i)) n))
 
-    pub out-of-order : {tag : ℕ} {r : OpenAnswer} → (tag ≡ o .fields + 1 → ⊥) → r ≡ refusedAt o 9 → here r ≡ fieldOpened o room l m tag v
-    unfolding openRefusal unless
-    out-of-order {tag} h e = by-refusal tag 9 refl (rw (ne-eqb _ _ h)) (ap here e)
+    pub no-row : (tag : ℕ) {r : OpenAnswer} → hasRow tag v ≡ false → r ≡ refusedAt o 8 → here r ≡ fieldOpened o room l m (fieldOf tag)
+    no-row tag h e = by-content tag (wrong 8) (content-order (o .fields) (contentOn x) (fieldOf tag) ∙ sym (stop _ h)) refl (ap here e)
 
-    -- in its order
-    module _ {tag : ℕ} (h : tag ≡ o .fields + 1) where
-      pub number-opens : {r : OpenAnswer} → tag ≡ 2 → r ≡ numberAnswer o v n → here r ≡ fieldOpened o room l m tag v
-      unfolding openRefusal unless
-      number-opens {r} d e = go (isNumber v) refl
+    pub out-of-order : (tag : ℕ) {r : OpenAnswer} → hasRow tag v ≡ true → o .fields ≤ 3 → lengthAllowed tags tag (length v) ≡ true → (tag ≡ o .fields + 1 → ⊥) → r ≡ refusedAt o 9
+        → here r ≡ fieldOpened o room l m (fieldOf tag)
+    out-of-order tag row few a h e =
+        by-content tag (wrong 9) (content-order (o .fields) (contentOn x) (fieldOf tag) ∙ sym (pass _ row (stop _ (out-of-turn (o .fields) few v tag (length v) a h)))) refl (ap here e)
+
+    -- in its order: the field of tag k + 1 where k are accepted brings what its row holds, and moves on by one
+    of-number : fieldContent 1 (contentOn x) (fieldOf 2) ≡ unless (wrong 4) (isNumber v) (brought (aNumber v))
+    unfolding fieldContent byRow begins allBelow unless
+    of-number = refl
+
+    of-cycle : fieldContent 2 (contentOn x) (fieldOf 3) ≡ unless (wrong 2) (valid v) (brought (aCycle v))
+    unfolding fieldContent byRow begins allBelow unless
+    of-cycle = refl
+
+    of-tolerances : fieldContent 3 (contentOn x) (fieldOf 4) ≡ contentOn x tolerances v
+    unfolding fieldContent byRow begins allBelow unless
+    of-tolerances = refl
+
+    of-mark : hasRow 1 v ≡ true → fieldContent 0 (contentOn x) (fieldOf 1) ≡ brought nothing
+    unfolding fieldContent byRow unless
+    of-mark h = ap (λ (b : Bool). cond b (brought nothing) (wrong 8)) (sym (row-of-mark v) ∙ h)
+
+    moves-mark : hasRow 1 v ≡ true → placeAfter tags 0 1 v ≡ 1
+    unfolding byRow
+    moves-mark h = ap (λ (b : Bool). cond b 1 0) (sym (row-of-mark v) ∙ h)
+
+    moves-on : (placeAfter tags 1 2 v ≡ 2) × (placeAfter tags 2 3 v ≡ 3) × (placeAfter tags 3 4 v ≡ 4)
+    unfolding byRow begins allBelow
+    moves-on = (refl, refl, refl)
+
+    -- the field of tag k + 1, where k are accepted, and the cycle is in the room
+    module _ (tag : ℕ) (h : tag ≡ o .fields + 1) (fits : o .cycle ≤ length room) where
+      size-is : length (take (o .cycle) room) ≡ o .cycle
+      size-is = length-take-le (o .cycle) room fits
+
+      not-written : (b : Bool) (w : List ℕ) → cond (b && false) w room ≡ room
+      not-written true w = refl
+      not-written false w = refl
+
+      -- as many are accepted, where the tag is known
+      before-it : (k : ℕ) → tag ≡ k + 1 → o .fields ≡ k
+      before-it k d = omega arith
+
+      content-of : (k : ℕ) {c : Content} → tag ≡ k + 1 → fieldContent k (contentOn x) (fieldOf (k + 1)) ≡ c → fieldContent (o .fields) (contentOn x) (fieldOf tag) ≡ c
+      content-of k d e = (λ i. fieldContent (before-it k d i) (contentOn x) (fieldOf (d i))) ∙ e
+
+      place-of : (k : ℕ) {q : ℕ} → tag ≡ k + 1 → placeAfter tags k (k + 1) v ≡ q → placeAfter tags (o .fields) tag v ≡ q
+      place-of k d e = (λ i. placeAfter tags (before-it k d i) (d i) v) ∙ e
+
+      pub number-opens : {r : OpenAnswer} → tag ≡ 2 → r ≡ numberAnswer o v n → here r ≡ fieldOpened o room l m (fieldOf tag)
+      unfolding unless
+      number-opens d e =
+          by-content tag (unless (wrong 4) (isNumber v) (brought (aNumber v))) (content-of 1 d of-number) (place-of 1 d (moves-on .0)) (ap here e ∙ go (isNumber v))
         where
-          go : (y : Bool) → isNumber v ≡ y → here r ≡ fieldOpened o room l m tag v
-          go true p = by-refusal 2 0 d (rw (eq-eqb 2 _ (sym d ∙ h), p)) (ap here (e ∙ rw p))
-          go false p = by-refusal 2 4 d (rw (eq-eqb 2 _ (sym d ∙ h), p)) (ap here (e ∙ rw p))
+          two : o .fields + 1 ≡ 2
+          two = omega arith
+
+          go : (b : Bool) → here (unless (refusedAt o 4) b (record { step = Taken n; opening = record { fields = o .fields + 1; vehicle = v; cycle = o .cycle } }))
+              ≡ openedBy o room x (toField (answerBy (bringOn x 2) (passOn x) (unless (wrong 4) b (brought (aNumber v)))) n)
+          go true = λ i. record {
+            answer = record { step = Taken n; opening = record { fields = two i; vehicle = v; cycle = sym size-is i } };
+            room = sym (not-written (leb (o .fields) 2) (written room (take (o .cycle) room))) i;
+            memory = lent l m;
+          }
+          go false = refl
 
       pub cycle-opens : {r : OpenAnswer} {room′ : List ℕ} → tag ≡ 3 → r ≡ cycleAnswer o v n → room′ ≡ unless room (valid v) (written room v)
-          → openLeft r room′ l m ≡ fieldOpened o room l m tag v
-      unfolding openRefusal unless
-      cycle-opens {r} {room′} d e f = go (valid v) refl
+          → openLeft r room′ l m ≡ fieldOpened o room l m (fieldOf tag)
+      unfolding unless
+      cycle-opens d e f =
+          by-content tag (unless (wrong 2) (valid v) (brought (aCycle v))) (content-of 2 d of-cycle) (place-of 2 d (moves-on .1)) ((λ i. openLeft (e i) (f i) l m) ∙ go (valid v))
         where
-          go : (y : Bool) → valid v ≡ y → openLeft r room′ l m ≡ fieldOpened o room l m tag v
-          go true p = by-refusal 3 0 d (rw (eq-eqb 3 _ (sym d ∙ h), p)) ((λ i. openLeft (e i) (f i) l m) ∙ rw p)
-          go false p = by-refusal 3 2 d (rw (eq-eqb 3 _ (sym d ∙ h), p)) ((λ i. openLeft (e i) (f i) l m) ∙ rw p)
+          three : o .fields + 1 ≡ 3
+          three = omega arith
 
-      pub start-opens : {y : Left OpenAnswer} → tag ≡ 4 → y ≡ startOpened o room l m v n → beside y ≡ fieldOpened o room l m tag v
-      unfolding openRefusal unless
-      start-opens d e = by-refusal 4 number d (rw (eq-eqb 4 _ (sym d ∙ h))) (ap beside e ∙ go (eqb number 0))
+          go : (b : Bool) → openLeft (unless (refusedAt o 2) b (record { step = Taken n; opening = record { fields = o .fields + 1; vehicle = o .vehicle; cycle = length v } })) (unless room b (written room v)) l m
+              ≡ openedBy o room x (toField (answerBy (bringOn x 3) (passOn x) (unless (wrong 2) b (brought (aCycle v)))) n)
+          go true = λ i. record {
+            answer = record { step = Taken n; opening = record { fields = three i; vehicle = o .vehicle; cycle = length v } };
+            room = cond (sym (le-leb (o .fields) 2 (omega arith)) i && true) (written room v) room;
+            memory = lent l m;
+          }
+          go false = refl
+
+      pub start-opens : {y : Left OpenAnswer} → tag ≡ 4 → y ≡ startOpened o room l m v n → beside y ≡ fieldOpened o room l m (fieldOf tag)
+      start-opens d e =
+          by-content tag (settled number-is (brought (theTolerances (tolerancesIn v))) (wrong number-is)) (content-of 3 d (of-tolerances ∙ start-content)) (place-of 3 d (moves-on .2))
+          (ap beside e ∙ go (eqb number-is 0))
         where
-          go : (y : Bool)
-              → beside (record { answer = cond y (record { step = Started n run; opening = oneMore }) (refusedAt o number); memory = cond y (startOf l m .memory) (lent l m) })
-              ≡ by 4 y number
-          go true = refl
+          four : o .fields + 1 ≡ 4
+          four = omega arith
+
+          go : (b : Bool)
+              → beside (record { answer = cond b (record { step = Started n run; opening = oneMore }) (refusedAt o number-is); memory = cond b (startOf l m .memory) (lent l m) })
+              ≡ openedBy o room x (toField (answerBy (bringOn x 4) (passOn x) (cond b (brought (theTolerances (tolerancesIn v))) (wrong number-is))) n)
+          go true = λ i. record {
+            answer = record { step = Started n run; opening = record { fields = four i; vehicle = o .vehicle; cycle = sym size-is i } };
+            room = cond (sym (lt-leb (o .fields) 2 (omega arith)) i && true) (written room (take (o .cycle) room)) room;
+            memory = startOf l m .memory;
+          }
           go false = refl
 
       -- any other is the mark, of which nothing is kept
-      pub mark-opens : {k : Opening} → (tag ≡ 2 → ⊥) → (tag ≡ 3 → ⊥) → (tag ≡ 4 → ⊥) → k ≡ oneMore
-          → here (record { step = Taken n; opening = k }) ≡ fieldOpened o room l m tag v
-      unfolding openRefusal unless
-      mark-opens two three four e =
-          let e₂ = ne-eqb tag 2 two in
-          let e₃ = ne-eqb tag 3 three in
-          let e₄ = ne-eqb tag 4 four in
-          by-refusal tag 0 refl (rw (eq-eqb tag _ h, e₂, e₃, e₄)) (rw (e₂, e₃, e₄) (λ i. here (record { step = Taken n; opening = e i })))
+      pub mark-opens : {k : Opening} → hasRow tag v ≡ true → o .fields ≤ 3 → (tag ≡ 2 → ⊥) → (tag ≡ 3 → ⊥) → (tag ≡ 4 → ⊥) → k ≡ oneMore
+          → here (record { step = Taken n; opening = k }) ≡ fieldOpened o room l m (fieldOf tag)
+      mark-opens row few two three four e =
+          let d : tag ≡ 1 = omega arith in
+          let first : hasRow 1 v ≡ true = subst (λ (t : ℕ). hasRow t v ≡ true) d row in
+          let one : o .fields + 1 ≡ 1 = omega arith in
+          by-content tag (brought nothing) (content-of 0 d (of-mark first)) (place-of 0 d (moves-mark first))
+          ((λ i. here (record { step = Taken n; opening = e i })) ∙ (λ i. record {
+            answer = record { step = Taken n; opening = record { fields = one i; vehicle = o .vehicle; cycle = sym size-is i } };
+            room = sym (not-written (leb (o .fields) 2) (written room (take (o .cycle) room))) i;
+            memory = lent l m;
+          }))
 
   -- ---- the field at the front of the input
   module _ (i : List ℕ) where
-    pub ground-refuses : {x : ℕ} {r : OpenAnswer} → x ≡ openGround o room → (x ≡ 0 → ⊥) → r ≡ refusedAt o x → here r ≡ frontOpened o room l m i
-    unfolding openOf
-    ground-refuses e some p = ap here p ∙ ap (openedOn l m) (settled-answer (λ k. record { step = Refused k; begun = begunOf o room }) _ e some)
+    pub ground-refuses : {k : ℕ} {r : OpenAnswer} → k ≡ openGround o room → (k ≡ 0 → ⊥) → r ≡ refusedAt o k → here r ≡ frontOpened o room l m i
+    unfolding frontOpened
+    ground-refuses e some p = ap here p ∙ settled-answer (λ k. notOpened o room x (Refused k)) _ e some
 
-    module _ {y : OpenLeft} (e : openGround o room ≡ 0) where
-      -- by what stands there
-      pub ground-passes : {x : Front} → x ≡ frontOf i → y ≡ openedOn l m (openByFront hold cycleIn startRefused (begunOf o room) i x) → y ≡ frontOpened o room l m i
-      unfolding openOf openAt
-      ground-passes p h =
-          h ∙ ap (λ (x : Front). openedOn l m (openByFront hold cycleIn startRefused (begunOf o room) i x)) p ∙ ap (openedOn l m) (sym (settled-taken _ e))
-
-      -- a whole field, its value as it is lent on
-      pub whole-opens : (tag n : ℕ) → frontOf i ≡ field tag n → y ≡ fieldOpened o room l m tag (take (3 + n - 3) (drop 3 i)) → y ≡ frontOpened o room l m i
-      whole-opens tag n p h =
-          ground-passes (sym p) (of-value i tag n (front-whole i tag n p) (λ v size. y ≡ openedOn l m (openField o room l m tag v (3 + size))) h)
+    -- by what stands there
+    pub ground-passes : {y : OpenLeft} → openGround o room ≡ 0 → {w : Stands} → frontOf tags i ≡ w → y ≡ openedBy o room x (replyAs tags takeOn x w) → y ≡ frontOpened o room l m i
+    unfolding frontOpened replyAt
+    ground-passes e p h = h ∙ ap (λ (w : Stands). openedBy o room x (replyAs tags takeOn x w)) (sym p) ∙ sym (settled-taken _ e)

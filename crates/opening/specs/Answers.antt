@@ -1,77 +1,61 @@
--- A call of `open`: what is tested before all else, and what is left of the state and every lent buffer.
+-- A call of `open`: what is tested before all else, and what is left of the state and every lent buffer, by the machine over the record's state.
 -- Assumes nothing.
-use mathlib.Core.Bool.{Bool, _&&_}
-use mathlib.Core.List.{List, _++_}
-use Prim.Native.Nat.{ℕ, _+_}
-use lib.Dec.{leb}
+use mathlib.Core.Bool.{Bool, cond, _&&_}
+use mathlib.Core.List.{List}
+use Prim.Native.Nat.{ℕ}
+use lib.Dec.{leb, eqb}
 use lib.IntN.{ℤ}
-use lib.ListN.{length, take, drop, replicate}
-use Rattle.numbers.specs.Tests.{unless, settled}
+use lib.ListN.{length, take, replicate}
+use Rattle.rules.specs.Words.{unless, settled}
+use Rattle.rules.specs.declared.Tolerances.{Tolerances}
 use Rattle.rules.specs.Cycle.{mostBytes}
+use Rattle.rules.specs.Table.{behindTolerances}
+use Rattle.rules.specs.Front.{Field, bytesOf}
+use Rattle.rules.specs.Machine.{Reply, toField, notYet, noField, taken, passed, refused}
+use Rattle.rules.specs.Values.{isNumber}
+use Rattle.rules.specs.Record.{noAmounts}
+use Rattle.state.specs.declared.Run.{Run}
 use Rattle.state.specs.State.{Memory, lent}
-use Rattle.state.specs.Refusals.{startRefusal}
-use Rattle.step.specs.Step.{startOf}
-use Rattle.fields.specs.Values.{isNumber}
-use Rattle.opening.specs.Opening.{Begun, Opened, openWhole, openAt}
+use Rattle.state.specs.Refusals.{notBegun, started}
+use Rattle.records.specs.Stage.{Stage, takeOn, replyOn, roomAfter}
 use Rattle.opening.specs.declared.OpenStep.{OpenStep}
-use Rattle.opening.specs.declared.OpenStep.the-variants as opening
+use Rattle.opening.specs.declared.OpenStep.the-variants.{Taken, Started, Incomplete, Refused}
 use Rattle.opening.specs.declared.OpenAnswer.{OpenAnswer}
 use Rattle.opening.specs.declared.Opening.{Opening}
-
--- the cycle in the lent room: its bytes are the first of it
-pub record Held : Type 0 where
-  pub size : ℕ
-  pub room : List ℕ
-
--- "An accepted field 3 writes its cycle at the front and nothing beyond."
-unfoldable pub written : List ℕ → List ℕ → List ℕ
-written room v = v ++ drop (length v) room
-
-abbrev pub hold : Held → List ℕ → Held
-hold h v = record { size = length v; room = written (h .room) v }
-
-abbrev pub cycleIn : Held → List ℕ
-cycleIn h = take (h .size) (h .room)
 
 -- before the first field: until field 2 the vehicle is seventeen times the character 0
 abbrev pub nothing : Opening
 nothing = record { fields = 0; vehicle = replicate 17 48; cycle = 0 }
 
--- an opening on its lent room, and the opening that is left
-abbrev pub begunOf : Opening → List ℕ → Begun Held
-begunOf o room = record { fields = o .fields; vehicle = o .vehicle; kept = record { size = o .cycle; room = room } }
+-- ---- as what has been read
 
-abbrev pub openingOf : Begun Held → Opening
-openingOf k = record { fields = k .fields; vehicle = k .vehicle; cycle = k .kept .size }
+abbrev pub noTolerances : Tolerances
+noTolerances = record { speed = 0; time = 0; allowance = 0 }
 
--- no number of the state is beyond its limits
-unfoldable pub isOpening : Opening → Bool
-isOpening o = leb (o .fields) 3 && leb (o .cycle) mostBytes && isNumber (o .vehicle)
+-- an opening on its lent room, with ledger and map: the cycle is the first of the room's bytes; and the opening that is left
+abbrev pub stageOf : Opening → List ℕ → List ℤ → List ℕ → Stage
+stageOf o room l m = record {
+  place = o .fields;
+  passed = 0;
+  vehicle = o .vehicle;
+  cycle = take (o .cycle) room;
+  tolerances = noTolerances;
+  amounts = noAmounts;
+  run = record { progress = notBegun; memory = lent l m };
+}
 
--- "shorter room is refused 1 before all else"
-unfoldable pub openGround : Opening → List ℕ → ℕ
-openGround o room = unless 1 (leb mostBytes (length room)) (unless 1 (isOpening o) 0)
+abbrev pub openingOf : Stage → Opening
+openingOf x = record { fields = x .place; vehicle = x .vehicle; cycle = length (x .cycle) }
 
--- a field of an opening on its lent room, with ledger and map
-abbrev pub openField : Opening → List ℕ → List ℤ → List ℕ → ℕ → List ℕ → ℕ → Opened Held
-openField o room l m tag v n = openWhole hold cycleIn (λ b t. startRefusal b t l m) (begunOf o room) tag v n
+-- ---- the answer
 
--- a call of `open`
-unfoldable pub openOf : Opening → List ℕ → List ℤ → List ℕ → List ℕ → Opened Held
-openOf o room l m i =
-    let x = openGround o room in
-    let k = begunOf o room in
-    settled x (openAt hold cycleIn (λ b t. startRefusal b t l m) k i) (record { step = opening.Refused x; begun = k })
+-- the run that has started
+abbrev pub runOf : Stage → Run
+runOf x = started (x .cycle) (x .tolerances)
 
-abbrev pub openAnswer : Opened Held → OpenAnswer
-openAnswer x = record { step = x .step; opening = openingOf (x .begun) }
-
--- the memory, set to zero where the run starts
-abbrev pub memoryAfter : OpenStep → Memory → Memory → Memory
-memoryAfter (opening.Taken n) new old = old
-memoryAfter (opening.Started n r) new old = new
-memoryAfter opening.Incomplete new old = old
-memoryAfter (opening.Refused n) new old = old
+-- a field was taken, of n bytes: the fourth starts the run
+abbrev pub openTaken : Stage → ℕ → OpenStep
+openTaken x n = cond (eqb (x .place) behindTolerances) (Started n (runOf x)) (Taken n)
 
 -- what a call until the start leaves: its answer, the room, and ledger and map
 pub record OpenLeft : Type 0 where
@@ -82,13 +66,38 @@ pub record OpenLeft : Type 0 where
 abbrev pub openLeft : OpenAnswer → List ℕ → List ℤ → List ℕ → OpenLeft
 openLeft a room l m = record { answer = a; room = room; memory = lent l m }
 
--- on the memory l and m
-abbrev pub openedOn : List ℤ → List ℕ → Opened Held → OpenLeft
-openedOn l m x = record { answer = openAnswer x; room = x .begun .kept .room; memory = memoryAfter (x .step) (startOf l m .memory) (lent l m) }
+abbrev pub notOpened : Opening → List ℕ → Stage → OpenStep → OpenLeft
+notOpened o room x s = record { answer = record { step = s; opening = o }; room = room; memory = x .run .memory }
 
--- what a whole field leaves, and a call of `open`
-abbrev pub fieldOpened : Opening → List ℕ → List ℤ → List ℕ → ℕ → List ℕ → OpenLeft
-fieldOpened o room l m tag v = openedOn l m (openField o room l m tag v (3 + length v))
+-- no block may stand before the start, so none is passed over; where no field is accepted, nothing changes
+abbrev pub openedBy : Opening → List ℕ → Stage → Reply Stage → OpenLeft
+openedBy o room x (toField (taken y) n) = record {
+  answer = record { step = openTaken y n; opening = openingOf y };
+  room = roomAfter x y room;
+  memory = y .run .memory;
+}
+openedBy o room x (toField (passed y) n) = record { answer = record { step = Taken n; opening = openingOf y }; room = room; memory = y .run .memory }
+openedBy o room x (toField (refused k) n) = notOpened o room x (Refused k)
+openedBy o room x notYet = notOpened o room x Incomplete
+openedBy o room x noField = notOpened o room x (Refused 8)
 
-abbrev pub frontOpened : Opening → List ℕ → List ℤ → List ℕ → List ℕ → OpenLeft
-frontOpened o room l m i = openedOn l m (openOf o room l m i)
+-- ---- before all else
+
+-- no number of the state is beyond its limits
+unfoldable pub isOpening : Opening → Bool
+isOpening o = leb (o .fields) 3 && leb (o .cycle) mostBytes && isNumber (o .vehicle)
+
+-- "shorter room is refused 1 before all else"
+unfoldable pub openGround : Opening → List ℕ → ℕ
+openGround o room = unless 1 (leb mostBytes (length room)) (unless 1 (isOpening o) 0)
+
+-- ---- what a whole field leaves, and a call of `open`
+
+abbrev pub fieldOpened : Opening → List ℕ → List ℤ → List ℕ → Field → OpenLeft
+fieldOpened o room l m f = let x = stageOf o room l m in openedBy o room x (toField (takeOn x f) (bytesOf f))
+
+unfoldable pub frontOpened : Opening → List ℕ → List ℤ → List ℕ → List ℕ → OpenLeft
+frontOpened o room l m i =
+    let n = openGround o room in
+    let x = stageOf o room l m in
+    settled n (openedBy o room x (replyOn x i)) (notOpened o room x (Refused n))

@@ -1,15 +1,15 @@
--- The answers to each of the first four fields where it stands in its order, on an opening with its lent room.
+-- The answers to each of the first four fields where it stands in its order.
 -- Assumes nothing.
 use mathlib.Core.List.{List}
 use Prim.Native.Nat.{ℕ, _+_}
 use lib.IntN.{ℤ}
 use lib.ListN.{length, take}
-use Rattle.numbers.specs.Tests.{unless, settled}
+use Rattle.rules.specs.Words.{unless, settled}
 use Rattle.rules.specs.Cycle.{valid}
 use Rattle.state.specs.State.{lent, Left}
 use Rattle.state.specs.Refusals.{startRefusal, started}
 use Rattle.step.specs.Step.{startOf}
-use Rattle.fields.specs.Values.{isNumber, tolerancesIn}
+use Rattle.rules.specs.Values.{isNumber, tolerancesIn}
 use Rattle.opening.specs.declared.Opening.{Opening}
 use Rattle.opening.specs.declared.OpenAnswer.{OpenAnswer}
 use Rattle.opening.specs.declared.OpenStep.the-variants.{Taken, Started, Refused}
@@ -31,15 +31,17 @@ cycleAnswer o v n =
 abbrev pub startNumber : Opening → List ℕ → List ℤ → List ℕ → List ℕ → ℕ
 startNumber o room l m v = startRefusal (take (o .cycle) room) (tolerancesIn v) l m
 
-abbrev pub startAnswer : Opening → List ℕ → List ℤ → List ℕ → List ℕ → ℕ → OpenAnswer
-startAnswer o room l m v n =
-    settled (startNumber o room l m v)
-    (record {
-      step = Started n (started (take (o .cycle) room) (tolerancesIn v));
-      opening = record { fields = o .fields + 1; vehicle = o .vehicle; cycle = o .cycle };
-    })
-    (refusedAt o (startNumber o room l m v))
-
 -- what it leaves, with ledger and map
 abbrev pub startOpened : Opening → List ℕ → List ℤ → List ℕ → List ℕ → ℕ → Left OpenAnswer
-startOpened o room l m v n = record { answer = startAnswer o room l m v n; memory = settled (startNumber o room l m v) (startOf l m .memory) (lent l m) }
+startOpened o room l m v n =
+    let k = startNumber o room l m v in
+    record {
+      answer =
+          settled k
+          (record {
+            step = Started n (started (take (o .cycle) room) (tolerancesIn v));
+            opening = record { fields = o .fields + 1; vehicle = o .vehicle; cycle = o .cycle };
+          })
+          (refusedAt o k);
+      memory = settled k (startOf l m .memory) (lent l m);
+    }

@@ -1,6 +1,7 @@
 // The first four fields: mark, vehicle number, cycle and tolerances.
 use cycle::is_cycle;
 use fields::is_number;
+use fields::is_value;
 use judge::Answer;
 use judge::start;
 use numbers::read16;
@@ -11,12 +12,13 @@ ghost use mathlib.Core.Path.{_≡_};
 ghost use mathlib.Core.Bool.{true};
 ghost use Prim.Native.Nat.{_+_, _≤_};
 ghost use lib.ListN.{length};
-ghost use Rattle.numbers.specs.Tests.{unless};
+ghost use Rattle.rules.specs.Words.{unless};
 ghost use Rattle.rules.specs.Cycle.{valid};
 ghost use Rattle.state.specs.State.{left};
-ghost use Rattle.fields.specs.Fields.{isLength};
-ghost use Rattle.fields.specs.Values.{tolerancesIn};
-ghost use Rattle.opening.specs.Answers.{isOpening, openGround, written, openLeft, fieldOpened};
+ghost use Rattle.rules.specs.Table.{lengthAllowed, tags};
+ghost use Rattle.rules.specs.Values.{tolerancesIn};
+ghost use Rattle.records.specs.Stage.{written};
+ghost use Rattle.opening.specs.Answers.{isOpening, openGround, openLeft, fieldOpened};
 ghost use Rattle.opening.specs.Begin.{numberAnswer, cycleAnswer, startOpened};
 
 // Until the start: how many of the first four fields are accepted, the vehicle, and how many bytes the cycle in the room has.
@@ -196,12 +198,15 @@ pub fn open_whole(
     tag: u8,
     v: &[u8],
 ) -> OpenAnswer
-    requires { ⌜ (isLength tag (length (now v)) ≡ true) × (openGround o (now room) ≡ 0) ⌝ }
+    requires { ⌜ (lengthAllowed tags tag (length (now v)) ≡ true) × (openGround o (now room) ≡ 0) ⌝ }
     ensures { λ r. ⌜
         openLeft r (now (room .exit)) (now (ledger .exit)) (now (map .exit))
-        ≡ fieldOpened o (now (room .entry)) (now (ledger .entry)) (now (map .entry)) tag (now (v .entry))
+        ≡ fieldOpened o (now (room .entry)) (now (ledger .entry)) (now (map .entry)) (record { tag = tag; value = now (v .entry) })
         ⌝ }
 {
+    if !is_value(tag, v) {
+        return refused_at(o, 8);
+    }
     let n = 3 + v.len();
     if tag as u32 != o.fields + 1 {
         return refused_at(o, 9);

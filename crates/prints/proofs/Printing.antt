@@ -1,64 +1,172 @@
--- What the report prints is what the rules say of the record, however its bytes arrive.
+-- What is printed of a desk is what the rules say of the bytes that arrived at it.
 -- Assumes nothing.
-use mathlib.Core.Bool.{true}
+use mathlib.Core.Bool.{Bool, true, false, false≢true}
 use mathlib.Core.List.{List, _++_}
 use mathlib.Core.Path.{_≡_, refl, sym, ap, _∙_}
-use Prim.Native.Nat.{ℕ, suc, _≤_}
+use Prim.Native.Nat.{ℕ, suc, _+_, _-_, _≤_}
 use native.Mathlib.Numerals.{add-one}
 use native.Mathlib.Omega.{arith}
-use borrow.Author.Tests.{lt-ltb}
+use borrow.Author.Tests.{lt-ltb, le-leb, lt-leb}
+use lib.Dec.{leb, eqb}
 use lib.IntN.{ℤ}
-use lib.ListN.{length}
+use lib.ListN.{length, length-drop}
+use Rattle.rules.specs.Words.{unless}
 use Rattle.numbers.proofs.Tests.{not-refused}
-use Rattle.reader.specs.declared.Ending.{Ending}
+use Rattle.rules.specs.Cycle.{mostBytes}
+use Rattle.rules.specs.Figures.{figuresBy, figuresTold}
+use Rattle.rules.specs.Regular.{plan}
+use Rattle.rules.specs.Table.{behindTolerances, tags}
+use Rattle.rules.specs.Machine.{End, waiting, broken, stopped, Ran, run}
+use Rattle.rules.specs.Record.{Told, takeField, untold, told, refusedAt, sheetBy, sheetOf}
+use Rattle.rules.specs.Text.{sheetText, refusalText, printed}
+use Rattle.laws.proofs.Places.{early-or-late}
+use Rattle.laws.proofs.Sheets.{refusal-stays-refused}
+use Rattle.records.specs.Stage.{Stage}
+use Rattle.records.proofs.Joined.{Long, Holds}
 use Rattle.reader.specs.declared.Ending.the-variants as ending
-use Rattle.reading.specs.declared.Reading.{Reading}
-use Rattle.reading.specs.Answers.{readingPlan, isReading, readGround}
 use Rattle.reader.specs.Answers.{endingOf}
-use Rattle.records.specs.Records.{sheetOf}
-use Rattle.records.proofs.Calls.{Lent}
-use Rattle.sheet.specs.Text.{sheetText, refusalText}
+use Rattle.reading.specs.declared.Reading.{Reading}
+use Rattle.reading.specs.Answers.{startedReading, readingOf, isReading, readGround}
+use Rattle.opening.specs.Answers.{nothing, runOf}
 use Rattle.figures.specs.declared.Found.{Found}
+use Rattle.figures.specs.Figured.{foundOf}
 use Rattle.figures.proofs.OfRun.{figures-of-run}
 use Rattle.desk.specs.declared.Outcome.the-variants.{Refused}
-use Rattle.desk.specs.Feeding.{Laid, lentCycle, feedOf, mostFields}
-use Rattle.desk.proofs.Feeds.{stands-few, stands-on}
-use Rattle.desk.proofs.Arriving.{Arrived, stands-ground, arrived-refused}
-use Rattle.prints.specs.Printed.{nextField, refuseText, textBy, closeText, printed}
+use Rattle.desk.specs.Feeding.{Laid, Consumed, outcomeOf, feedOf, mostFields, Lent}
+use Rattle.desk.proofs.Arriving.{worked, good, after, after-fields, after-few, after-late, after-early, after-ground, Arrived, fed-is, alike}
+use Rattle.desk.proofs.Good.{reads-on}
+use Rattle.prints.specs.Printed.{nextField, refuseText, foundOn, textBy, closeText}
 use Rattle.prints.proofs.Texts.{by-ending}
 
 -- the number of the next field, of which there are not too many
 next : (n : ℕ) → n ≤ mostFields → nextField n ≡ suc n
 next n h = rw (lt-ltb n 18_446_744_073_709_551_615 (omega arith)) (add-one n)
 
-reading-in-limits : (r : Reading) (b : List ℕ) (l : List ℤ) (m : List ℕ) → readGround r b l m ≡ 0 → isReading r ≡ true
-unfolding readGround
-reading-in-limits r b l m e = not-refused 0 _ _ e .0
-
 module _ (lent : Lent) where
-  module _ {w rest : List ℕ} {x : Laid} (h : Arrived lent w x rest) where
-    refusal-printed : (k : ℕ) → endingOf (x .desk .started) (length rest) ≡ ending.Refused k → refuseText x k ≡ printed (sheetOf w)
-    refusal-printed k e =
-        ap (refusalText k) (next (x .desk .fields) (stands-few lent (h .stands))) ∙ ap printed (sym (h .ends-refused k e))
+  abbrev room : List ℕ
+  room = lent .room₀
 
-    sheet-printed : endingOf (x .desk .started) (length rest) ≡ ending.Whole → textBy ending.Whole x ≡ printed (sheetOf w)
-    sheet-printed e =
-        let y = h .ends-whole e in
-        let r = x .desk .reading in
-        let found = figures-of-run (readingPlan r (lentCycle x)) (lent .l₀) (lent .m₀) r (y .reached) (reading-in-limits r (lentCycle x) (x .memory .ledger) (x .memory .map) (y .ground)) in
-        ap (λ (f : Found). sheetText (f .figures)) found ∙ ap printed (sym (y .tells))
+  abbrev l : List ℤ
+  l = lent .l₀
 
+  abbrev m : List ℕ
+  m = lent .m₀
+
+  abbrev long : mostBytes ≤ length room
+  long = lent .long-room
+
+  enough : Long l m
+  enough = record { ledger = lent .long-ledger; map = lent .long-map }
+
+  -- what the bytes w tell, and what the machine makes of them
+  abbrev lists : List ℕ → Ran Told
+  lists w = run tags takeField untold w
+
+  abbrev made : List ℕ → Ran Stage
+  made w = worked room l m long w
+
+  abbrev laid : List ℕ → Laid
+  laid w = after room l m long w
+
+  -- the sheet, by what the machine makes
+  sheet-is : (w : List ℕ) → sheetOf w ≡ sheetBy (made w .end) (lists w .state) (made w .fields) (length w - made w .used)
+  unfolding sheetOf
+  sheet-is w =
+      let a = alike room l m long enough w in
+      let none : 0 + lists w .fields ≡ made w .fields = omega (arith, a .fields) in
+      λ j. sheetBy (a .end j) (lists w .state) (none j) (length w - a .used j)
+
+  -- "A refused field gives only `refused N field K`"
+  refused-is : (w : List ℕ) (k : ℕ) → refuseText (laid w) k ≡ refusalText k (suc (made w .fields))
+  refused-is w k = ap (refusalText k) (next (laid w .desk .fields) (after-few room l m long w) ∙ ap suc (after-fields room l m long w))
+
+  -- ---- where the input ends
+
+  module _ (w : List ℕ) where
+    abbrev u : Stage
+    u = made w .state
+
+    holds : Holds l m enough (lists w .state) u
+    holds = alike room l m long enough w .state
+
+    -- the figures of a run that has started
+    abbrev reading : Reading
+    reading = readingOf (startedReading (u .vehicle) (runOf u)) u
+
+    in-limits : behindTolerances ≤ u .place → isReading reading ≡ true
+    unfolding readGround
+    in-limits e = not-refused 0 _ _ (reads-on nothing room l m u (good room l m long w) e) .0
+
+    figures-are : behindTolerances ≤ u .place → foundOn (laid w) .figures ≡ figuresTold (lists w .state)
+    figures-are e =
+        let t = lists w .state in
+        ap (λ (x : Laid). foundOn x .figures) (after-late room l m long w e)
+        ∙ ap (λ (b : List ℕ). foundOf reading b (u .run .memory .ledger) (u .run .memory .map) .figures) (good room l m long w .held)
+        ∙ ap (λ (f : Found). f .figures) (figures-of-run (plan (u .cycle) (u .tolerances)) l m reading (holds .reached e) (in-limits e))
+        ∙ (λ j. figuresBy (sym (holds .vehicle) j) (sym (holds .passed) j) (sym (holds .amounts) j) (plan (sym (holds .cycle) j) (sym (holds .tolerances) j)) (t .holding .samples))
+
+    -- by whether the run has started, and whether bytes are left
+    abbrev left : ℕ
+    left = length w - made w .used
+
+    ends-late : behindTolerances ≤ u .place → (b : Bool) → eqb left 0 ≡ b → textBy (unless (ending.Refused 15) b ending.Whole) (laid w) ≡ printed (unless (refusedAt 15 (suc (made w .fields))) b (told (lists w .state)))
+    unfolding unless
+    ends-late e true f = ap sheetText (figures-are e)
+    ends-late e false f = refused-is w 15
+
+    ends-as : textBy (endingOf (laid w .desk .started) left) (laid w) ≡ printed (sheetBy waiting (lists w .state) (made w .fields) left)
+    unfolding endingOf unless
+    ends-as =
+        early-or-late (u .place)
+        (λ e. ap (λ (b : Bool). textBy (unless (ending.Refused 15) b (unless (ending.Refused 15) (eqb left 0) ending.Whole)) (laid w)) (ap (λ (x : Laid). x .desk .started) (after-early room l m long w e))
+        ∙ refused-is w 15
+        ∙ ap (λ (b : Bool). printed (unless (refusedAt 15 (suc (made w .fields))) b (unless (refusedAt 15 (suc (made w .fields))) (eqb left 0) (told (lists w .state))))) (sym (place-test e)))
+        (λ e. ap (λ (b : Bool). textBy (unless (ending.Refused 15) b (unless (ending.Refused 15) (eqb left 0) ending.Whole)) (laid w)) (ap (λ (x : Laid). x .desk .started) (after-late room l m long w e))
+        ∙ ends-late e (eqb left 0) refl
+        ∙ ap (λ (b : Bool). printed (unless (refusedAt 15 (suc (made w .fields))) b (unless (refusedAt 15 (suc (made w .fields))) (eqb left 0) (told (lists w .state))))) (sym (place-passes e)))
+      where
+        place-test : u .place ≤ 3 → leb behindTolerances (lists w .state .place) ≡ false
+        place-test e = ap (leb behindTolerances) (holds .place) ∙ lt-leb behindTolerances (u .place) (omega arith)
+
+        place-passes : behindTolerances ≤ u .place → leb behindTolerances (lists w .state .place) ≡ true
+        place-passes e = ap (leb behindTolerances) (holds .place) ∙ le-leb behindTolerances (u .place) e
+
+  module _ {w rest : List ℕ} {x : Laid} (h : Arrived room l m long w x rest) where
     -- "Every figure equals the rules of document 01": where the input ends, the bytes printed are those that the rules give for the bytes read
     pub report-prints : closeText x (length rest) ≡ printed (sheetOf w)
-    report-prints = sym (by-ending x (length rest) (stands-ground lent (h .stands)) _ _ refl refl) ∙ go (endingOf (x .desk .started) (length rest)) refl
-      where
-        go : (y : Ending) → endingOf (x .desk .started) (length rest) ≡ y → textBy y x ≡ printed (sheetOf w)
-        go ending.Whole e = sheet-printed e
-        go (ending.Refused k) e = refusal-printed k e
+    report-prints =
+        let left-is : length rest ≡ length w - made w .used = ap length (sym (h .bytes)) ∙ length-drop (made w .used) w in
+        (λ j. closeText (sym (h .laid) j) (left-is j))
+        ∙ sym (by-ending (laid w) (left w) (after-ground room l m long w) _ _ refl refl)
+        ∙ ends-as w
+        ∙ ap (λ (e : End). printed (sheetBy e (lists w .state) (made w .fields) (left w))) (sym (h .waits))
+        ∙ ap printed (sym (sheet-is w))
 
-    -- and where a field is refused, whatever would follow it
+    -- where a field is refused, its number is the record's, whatever would follow it
+    refused-all : (new : List ℕ) (k : ℕ) → feedOf x (rest ++ new) .outcome ≡ Refused k → (q : List ℕ) → sheetOf ((w ++ new) ++ q) ≡ refusedAt k (suc (made (w ++ new) .fields))
+    refused-all new k e q = go (made all .end) refl (ap (λ (y : Consumed). y .outcome) (sym (fed-is room l m long h new)) ∙ e)
+      where
+        all : List ℕ
+        all = w ++ new
+
+        stays : (e : End) → made all .end ≡ e → (e ≡ waiting → ⊥) → sheetOf (all ++ q) ≡ sheetBy e (lists all .state) (made all .fields) (length all - made all .used)
+        stays e d n =
+            refusal-stays-refused all q (λ z. n (sym d ∙ sym (alike room l m long enough all .end) ∙ z)) ∙ sheet-is all
+            ∙ ap (λ (z : End). sheetBy z (lists all .state) (made all .fields) (length all - made all .used)) d
+
+        go : (e : End) → made all .end ≡ e → outcomeOf e ≡ Refused k → sheetOf (all ++ q) ≡ refusedAt k (suc (made all .fields))
+        go waiting d f = absurd (false≢true cc)
+        go broken d f = let n : 8 ≡ k = cc f in stays broken d (λ z. false≢true cc) ∙ ap (λ (j : ℕ). refusedAt j (suc (made all .fields))) n
+        go (stopped i) d f = let n : i ≡ k = cc f in stays (stopped i) d (λ z. false≢true cc) ∙ ap (λ (j : ℕ). refusedAt j (suc (made all .fields))) n
+
+    pub refused-number : (new : List ℕ) (k : ℕ) → feedOf x (rest ++ new) .outcome ≡ Refused k → (q : List ℕ)
+        → sheetOf ((w ++ new) ++ q) ≡ refusedAt k (suc (feedOf x (rest ++ new) .laid .desk .fields))
+    refused-number new k e q =
+        refused-all new k e q
+        ∙ ap (λ (n : ℕ). refusedAt k (suc n)) (sym (ap (λ (y : Consumed). y .laid .desk .fields) (fed-is room l m long h new) ∙ after-fields room l m long (w ++ new)))
+
+    -- and so is what is printed
     pub refusal-prints : (new : List ℕ) (k : ℕ) → feedOf x (rest ++ new) .outcome ≡ Refused k → (q : List ℕ)
         → refuseText (feedOf x (rest ++ new) .laid) k ≡ printed (sheetOf ((w ++ new) ++ q))
     refusal-prints new k e q =
-        ap (refusalText k) (next (feedOf x (rest ++ new) .laid .desk .fields) (stands-few lent (stands-on lent (h .stands) (rest ++ new))))
-        ∙ ap printed (sym (arrived-refused lent h new k e q))
+        ap (λ (y : Consumed). refuseText (y .laid) k) (fed-is room l m long h new) ∙ refused-is (w ++ new) k ∙ ap printed (sym (refused-all new k e q))

@@ -7,12 +7,11 @@ use borrow.Author.Tests.{le-leb}
 use lib.Dec.{leb}
 use lib.ListN.{length, take, drop}
 use lib.Seq.{take-at}
-use Rattle.numbers.specs.Tests.{unless}
+use Rattle.rules.specs.Words.{unless}
 use Rattle.numbers.proofs.Tests.{pass, settled-taken, settled-refused}
 use Rattle.reader.specs.declared.Ending.{Ending}
 use Rattle.reader.specs.Answers.{endingOf}
-use Rattle.sheet.specs.Overlaid.{overlaid}
-use Rattle.sheet.specs.Text.{mostSheet}
+use Rattle.sheet.specs.Overlaid.{overlaid, mostSheet}
 use Rattle.desk.specs.Feeding.{Laid, deskGround}
 use Rattle.prints.specs.Printed.{Prints, refuseText, textBy, closeText}
 

@@ -1,4 +1,4 @@
--- What the report prints: of a desk, and of a record by the rules alone.
+-- What the report prints of a desk.
 -- Assumes nothing.
 use mathlib.Core.Bool.{cond}
 use mathlib.Core.List.{List}
@@ -6,23 +6,21 @@ use mathlib.Core.Path.{_≡_}
 use Prim.Native.Nat.{ℕ, _+_}
 use lib.Dec.{leb, ltb}
 use lib.ListN.{length}
-use Rattle.numbers.specs.Tests.{unless, settled}
+use Rattle.rules.specs.Words.{unless, settled}
 use Rattle.reader.specs.declared.Ending.{Ending}
 use Rattle.reader.specs.declared.Ending.the-variants as ending
 use Rattle.reader.specs.Answers.{endingOf}
-use Rattle.records.specs.Records.{Told, Sheet, told, refused, planTold}
-use Rattle.sheet.specs.declared.Figures.{Figures}
-use Rattle.sheet.specs.Overlaid.{overlaid}
-use Rattle.sheet.specs.Text.{mostSheet, sheetText, refusalText}
+use Rattle.sheet.specs.Overlaid.{overlaid, mostSheet}
+use Rattle.rules.specs.Text.{sheetText, refusalText}
 use Rattle.figures.specs.declared.Found.{Found}
-use Rattle.figures.specs.Figured.{foundOf, figuresBy}
+use Rattle.figures.specs.Figured.{foundOf}
 use Rattle.desk.specs.Feeding.{Laid, lentCycle, deskGround}
 
 -- the text stands at the front of the lines out, where they are long enough, and r is its length
 abbrev pub Prints : List ℕ → List ℕ → ℕ → List ℕ → Type 0
-Prints text out r after = (r ≡ unless 0 (leb mostSheet (length out)) (length text)) × (after ≡ unless out (leb mostSheet (length out)) (overlaid out 0 text))
-
--- ---- of a desk
+Prints text out r after =
+    (r ≡ unless 0 (leb mostSheet (length out)) (length text))
+    × (after ≡ unless out (leb mostSheet (length out)) (overlaid out 0 text))
 
 -- "K is the number of accepted fields, passed-over ones among them, plus one": as far as 64 bits go
 abbrev pub nextField : ℕ → ℕ
@@ -44,13 +42,3 @@ textBy (ending.Refused number) x = refuseText x number
 -- where the input ends, with so many bytes of an unfinished field left over: 1 and 2 before all else, then 15, then the sheet
 unfoldable pub closeText : Laid → ℕ → List ℕ
 closeText x left = settled (deskGround x) (textBy (endingOf (x .desk .started) left) x) (refuseText x (deskGround x))
-
--- ---- of a record, by the rules alone
-
--- the figures of what is told
-abbrev pub figuresTold : Told → Figures
-figuresTold x = figuresBy (x .vehicle) (x .tale .passed) (x .tale .amounts) (planTold x) (x .tale .run)
-
-abbrev pub printed : Sheet → List ℕ
-printed (told x) = sheetText (figuresTold x)
-printed (refused number field) = refusalText number field

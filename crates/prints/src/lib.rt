@@ -10,9 +10,9 @@ ghost use mathlib.Core.Path.{_≡_};
 ghost use Prim.Native.Nat.{_≤_};
 ghost use lib.Dec.{leb};
 ghost use lib.ListN.{length};
-ghost use Rattle.numbers.specs.Tests.{unless};
-ghost use Rattle.sheet.specs.Overlaid.{overlaid};
-ghost use Rattle.sheet.specs.Text.{mostSheet, refusalText};
+ghost use Rattle.rules.specs.Words.{unless};
+ghost use Rattle.sheet.specs.Overlaid.{overlaid, mostSheet};
+ghost use Rattle.rules.specs.Text.{refusalText};
 ghost use Rattle.reader.specs.declared.Ending.the-variants.{Whole};
 ghost use Rattle.desk.specs.Feeding.{laidOf};
 ghost use Rattle.prints.specs.Printed.{nextField, textBy, closeText};
@@ -32,7 +32,8 @@ pub fn refuse(desk: Desk, number: u32, out: &mut [u8]) -> usize
     ensures { λ r. ⌜ r ≡ unless 0 (leb mostSheet (length (now (out .entry)))) (length (refusalText number (nextField (desk .fields)))) ⌝ }
     ensures { λ _. ⌜
         now (out .exit)
-        ≡ unless (now (out .entry)) (leb mostSheet (length (now (out .entry)))) (overlaid (now (out .entry)) 0 (refusalText number (nextField (desk .fields))))
+        ≡ unless (now (out .entry)) (leb mostSheet (length (now (out .entry))))
+        (overlaid (now (out .entry)) 0 (refusalText number (nextField (desk .fields))))
         ⌝ }
 {
     refusal_line(number, next_field(desk.fields), &mut *out)

@@ -10,22 +10,20 @@ use lib.IntN.{ℤ}
 use lib.ListN.{length}
 use Rattle.numbers.proofs.Tests.{both, not-refused, settled-taken, settled-answer}
 use Rattle.rules.specs.Bench.{mostPassed, mostTimeTolerance}
-use Rattle.rules.specs.Closing.{areAmounts}
+use Rattle.values.specs.Limits.{areAmounts}
 use Rattle.rules.specs.Cycle.{valid, seconds}
 use Rattle.rules.specs.declared.Tolerances.{Tolerances}
 use Rattle.state.specs.State.{Left, left}
 use Rattle.state.proofs.Checked.{Ground, ground-passed}
-use Rattle.step.specs.Step.{State}
 use Rattle.judge.proofs.Calls.{kept-ground}
-use Rattle.fields.specs.Values.{isNumber}
+use Rattle.rules.specs.Values.{isNumber}
 use Rattle.reading.specs.declared.Along.{Along}
 use Rattle.reading.specs.declared.Passage.{Passage}
 use Rattle.reading.specs.declared.Reading.{Reading}
 use Rattle.reading.specs.declared.Step.the-variants.{Refused}
 use Rattle.reading.specs.declared.Stepped.{Stepped}
-use Rattle.reading.specs.Reading.{Answered, Read}
-use Rattle.reading.specs.Answers.{taleOf, readingOf, readingPlan, isReading, readGround, readOf, readAllOf}
-use Rattle.reading.specs.Along.{alongAt, withAlong, steppedLeft, passageLeft, frontTaken, allTaken, Ready}
+use Rattle.reading.specs.Answers.{readingPlan, isReading, readGround}
+use Rattle.reading.specs.Along.{alongAt, withAlong, frontTaken, allTaken, Ready}
 use Rattle.reader.specs.declared.ReadAnswer.{ReadAnswer}
 use Rattle.reader.specs.declared.AllAnswer.{AllAnswer}
 use Rattle.reader.specs.Answers.{readLeft, allLeft}
@@ -63,29 +61,25 @@ module _ (r : Reading) (b : List ℕ) (l : List ℤ) (m : List ℕ) where
       -- what is read from k on is what the call reads
       module _ (i : List ℕ) {y : Reading} where
         pub read-taken : {x : Left Stepped} → x ≡ frontTaken b t k l m (r .vehicle) i → y ≡ withAlong r (x .answer .along) → asRead y x ≡ readLeft r b l m i
-        unfolding readOf
+        unfolding readLeft
         read-taken {x} h q =
             ap (λ (z : Reading). asRead z x) q
-            ∙ ap (λ (z : Left Stepped). asRead (withAlong r (z .answer .along)) z)
-            (h ∙ ap (λ (z : Along). frontTaken b t z l m (r .vehicle) i) p ∙ ap (steppedLeft (readingPlan r b)) (sym (settled-taken _ e)))
+            ∙ ap (λ (z : Left Stepped). asRead (withAlong r (z .answer .along)) z) (h ∙ ap (λ (z : Along). frontTaken b t z l m (r .vehicle) i) p)
+            ∙ sym (settled-taken _ e)
 
         pub all-taken : {x : Left Passage} → x ≡ allTaken b t k l m (r .vehicle) i → y ≡ withAlong r (x .answer .along) → asAll y x ≡ allLeft r b l m i
-        unfolding readAllOf
+        unfolding allLeft
         all-taken {x} h q =
             ap (λ (z : Reading). asAll z x) q
-            ∙ ap (λ (z : Left Passage). asAll (withAlong r (z .answer .along)) z)
-            (h ∙ ap (λ (z : Along). allTaken b t z l m (r .vehicle) i) p ∙ ap (passageLeft (readingPlan r b)) (sym (settled-taken _ e)))
+            ∙ ap (λ (z : Left Passage). asAll (withAlong r (z .answer .along)) z) (h ∙ ap (λ (z : Along). allTaken b t z l m (r .vehicle) i) p)
+            ∙ sym (settled-taken _ e)
 
   -- ---- a test refuses
   module _ (i : List ℕ) {x : ℕ} (e : x ≡ readGround r b l m) (some : x ≡ 0 → ⊥) where
-    pub read-refuses : left (record { step = Refused x; reading = r }) l m ≡ readLeft r b l m i
-    unfolding readOf
-    read-refuses =
-        ap (λ (y : Answered State). asRead (readingOf r (y .tale)) (steppedLeft (readingPlan r b) y))
-        (settled-answer (λ k. record { step = Refused k; tale = taleOf r l m }) _ e some)
+    pub read-refuses : left {A = ReadAnswer} (record { step = Refused x; reading = r }) l m ≡ readLeft r b l m i
+    unfolding readLeft
+    read-refuses = settled-answer (λ k. left {A = ReadAnswer} (record { step = Refused k; reading = r }) l m) _ e some
 
-    pub all-refuses : left (record { reading = r; fields = 0; used = 0; last = Refused x }) l m ≡ allLeft r b l m i
-    unfolding readAllOf
-    all-refuses =
-        ap (λ (y : Read State). asAll (readingOf r (y .tale)) (passageLeft (readingPlan r b) y))
-        (settled-answer (λ k. record { tale = taleOf r l m; fields = 0; used = 0; last = Refused k }) _ e some)
+    pub all-refuses : left {A = AllAnswer} (record { reading = r; fields = 0; used = 0; last = Refused x }) l m ≡ allLeft r b l m i
+    unfolding allLeft
+    all-refuses = settled-answer (λ k. left {A = AllAnswer} (record { reading = r; fields = 0; used = 0; last = Refused k }) l m) _ e some

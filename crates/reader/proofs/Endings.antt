@@ -5,7 +5,7 @@ use mathlib.Core.Path.{_≡_, refl}
 use Prim.Native.Nat.{ℕ}
 use borrow.Author.Tests.{eqb-true}
 use lib.Dec.{eqb}
-use Rattle.numbers.specs.Tests.{unless}
+use Rattle.rules.specs.Words.{unless}
 use Rattle.reader.specs.declared.Ending.the-variants.{Whole, Refused}
 use Rattle.reader.specs.Answers.{endingOf}
 

@@ -5,29 +5,39 @@ use mathlib.Core.List.{List}
 use Prim.Native.Nat.{ℕ}
 use lib.Dec.{eqb}
 use lib.IntN.{ℤ}
-use Rattle.numbers.specs.Tests.{unless}
-use Rattle.state.specs.State.{Left}
-use Rattle.step.specs.Step.{State}
+use Rattle.rules.specs.Words.{unless, settled}
+use Rattle.rules.specs.Machine.{Reply, Ran}
+use Rattle.state.specs.State.{Left, left}
+use Rattle.records.specs.Stage.{Stage, replyOn, runOn, stageAfter}
 use Rattle.reading.specs.declared.Reading.{Reading}
-use Rattle.reading.specs.Reading.{Answered, Read}
-use Rattle.reading.specs.Answers.{readingOf, readOf, readAllOf}
+use Rattle.reading.specs.declared.Step.the-variants as step
+use Rattle.reading.specs.Answers.{stageAt, readingOf, stepOf, lastOf, readGround}
 use Rattle.reader.specs.declared.AllAnswer.{AllAnswer}
 use Rattle.reader.specs.declared.Ending.{Ending}
 use Rattle.reader.specs.declared.Ending.the-variants as ending
 use Rattle.reader.specs.declared.ReadAnswer.{ReadAnswer}
 
-abbrev pub readAnswer : Reading → Answered State → ReadAnswer
-readAnswer r x = record { step = x .step; reading = readingOf r (x .tale) }
+-- what the answer y to a field leaves of the reading r, which is the state x; and what all fields do
+abbrev pub readBy : Reading → Stage → Reply Stage → Left ReadAnswer
+readBy r x y = let z = stageAfter x y in record { answer = record { step = stepOf y; reading = readingOf r z }; memory = z .run .memory }
 
-abbrev pub allAnswer : Reading → Read State → AllAnswer
-allAnswer r x = record { reading = readingOf r (x .tale); fields = x .fields; used = x .used; last = x .last }
+abbrev pub allBy : Reading → Ran Stage → Left AllAnswer
+allBy r y = record {
+  answer = record { reading = readingOf r (y .state); fields = y .fields; used = y .used; last = lastOf (y .end) };
+  memory = y .state .run .memory;
+}
 
--- what a call of `read` leaves, and of `read_all`
-abbrev pub readLeft : Reading → List ℕ → List ℤ → List ℕ → List ℕ → Left ReadAnswer
-readLeft r b l m i = let x = readOf r b l m i in record { answer = readAnswer r x; memory = x .tale .run .memory }
+-- what a call of `read` leaves, and of `read_all`: "In a started run 1 and 2 come before all others"
+unfoldable pub readLeft : Reading → List ℕ → List ℤ → List ℕ → List ℕ → Left ReadAnswer
+readLeft r b l m i =
+    let n = readGround r b l m in
+    let x = stageAt r b l m in
+    settled n (readBy r x (replyOn x i)) (left (record { step = step.Refused n; reading = r }) l m)
 
-abbrev pub allLeft : Reading → List ℕ → List ℤ → List ℕ → List ℕ → Left AllAnswer
-allLeft r b l m i = let x = readAllOf r b l m i in record { answer = allAnswer r x; memory = x .tale .run .memory }
+unfoldable pub allLeft : Reading → List ℕ → List ℤ → List ℕ → List ℕ → Left AllAnswer
+allLeft r b l m i =
+    let n = readGround r b l m in
+    settled n (allBy r (runOn (stageAt r b l m) i)) (left (record { reading = r; fields = 0; used = 0; last = step.Refused n }) l m)
 
 -- 15: "input ends inside a field, or before field 4 was accepted"; left is how many bytes of a field that is not finished are left
 unfoldable pub endingOf : Bool → ℕ → Ending

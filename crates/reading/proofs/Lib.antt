@@ -1,6 +1,3 @@
--- The laws of fields for a run of any kind, and of a reading on its lent memory.
-pub mod Onwards
-pub mod Cuts
-pub mod Accepted
+-- The laws of fields after the start.
 pub mod Taking
 pub mod Loop

@@ -1,48 +1,53 @@
--- Fields taken by a reading on its lent memory: what the code forms is what the definitions say.
+-- Fields taken by a reading on its lent memory: what the code forms is what the machine says.
 -- Assumes nothing.
-use mathlib.Core.Bool.{true}
-use mathlib.Core.List.{List}
-use mathlib.Core.Path.{_≡_, sym, ap, subst, _∙_}
-use Prim.Native.Nat.{ℕ, _+_, _-_}
+use mathlib.Core.Bool.{true, false, false≢true}
+use mathlib.Core.List.{List, [], _∷_}
+use mathlib.Core.Path.{_≡_, refl, sym, ap, subst, _∙_}
+use Prim.Native.Nat.{ℕ, _+_, _-_, _≤_}
+use native.Mathlib.Omega.{arith}
 use lib.IntN.{ℤ}
-use lib.ListN.{length, take, drop}
+use lib.ListN.{length}
 use mir.Syntax.{w64}
 use mir.Val.{SFits, toZ, ofZ}
+use Rattle.rules.specs.Words.{unless}
 use Rattle.numbers.proofs.Signed.{read}
+use Rattle.rules.specs.declared.Amounts.{Amounts}
 use Rattle.rules.specs.declared.Charge.{Charge}
 use Rattle.rules.specs.declared.Tolerances.{Tolerances}
-use Rattle.rules.specs.Regular.{Plan, plan}
+use Rattle.rules.specs.Regular.{Plan, plan, courseOf}
+use Rattle.rules.specs.Table.{Row, Matter, among, lengthAllowed, placeAfter, behindTolerances, tags}
+use Rattle.rules.specs.Front.{Field, Front, frontOf, bytesOf}
+use Rattle.rules.specs.Machine.{taken, toField, replyAs, replyAt}
+use Rattle.rules.specs.Values.{samplesOf, momentAt, countIn, momentsIn}
+use Rattle.rules.specs.Record.{Content as Comes-in, ownSamples, brought, foreign, contentOf, fieldContent, answerBy}
+use Rattle.laws.proofs.Carried.{In, here, there, ByRow, by-row, same-rows}
+use Rattle.laws.proofs.Contents.{not-first}
+use Rattle.laws.proofs.Says.{movesTo, Says, says, says-foreign}
+use Rattle.laws.proofs.Tags.{sizes}
 use Rattle.state.specs.State.{Left, left}
 use Rattle.step.specs.declared.Going.{Going}
-use Rattle.step.specs.Step.{State, Kept, held, leftAt}
+use Rattle.step.specs.Step.{Kept, held, leftAt}
 use Rattle.blocks.specs.Blocks.{blockTaken}
-use Rattle.fields.specs.declared.Front.{Front}
-use Rattle.fields.specs.declared.Front.the-variants.{Field as field}
-use Rattle.fields.specs.Fields.{isLength, frontOf}
-use Rattle.fields.specs.Values.{samplesOf}
-use Rattle.fields.proofs.Fronts.{sizes, front-whole, of-value}
+use Rattle.records.specs.Stage.{Stage, contentOn, bringOn, passOn, takeOn}
+use Rattle.records.proofs.Later.{taken-list}
 use Rattle.contents.specs.declared.Content.{Content}
-use Rattle.contents.specs.declared.Content.the-variants.{Own}
-use Rattle.contents.specs.Content.{contentOf}
-use Rattle.contents.proofs.Brought.{OwnBlock, Says, says, own-block}
+use Rattle.contents.specs.declared.Content.the-variants.{Brought, Foreign, Refused}
+use Rattle.contents.specs.declared.Bring.{Bring}
+use Rattle.contents.specs.declared.Bring.the-variants.{Samples, Before, After, Recharge}
+use Rattle.contents.specs.Content.{bringSaid, contentSaid, laterContent}
 use Rattle.reading.specs.declared.Step.{Step}
+use Rattle.reading.specs.declared.Step.the-variants.{Taken, Passed}
 use Rattle.reading.specs.declared.Along.{Along}
-use Rattle.reading.specs.declared.Passage.{Passage}
 use Rattle.reading.specs.declared.Stepped.{Stepped}
-use Rattle.reading.specs.Reading.{Answered, Read, stepOf, withContent, placeAfter, passedAfter, runAfter, byFront, fieldAt}
-use Rattle.reading.specs.Answers.{offeredOf, takeBlock}
-use Rattle.reading.specs.Along.{taleAlong, alongOf, steppedLeft, passageLeft, withAmounts, contentTaken, wholeTaken, frontTaken, Brought, Ready}
+use Rattle.reading.specs.Along.{alongOf, stageAlong, stageHere, alongLeft, steppedLeft, withPassed, withAmounts, placeOf, bringTaken, contentTaken, wholeTaken, frontTaken, Takes, Ready}
 
--- the answer and the memory y are those of x, for one field and for all
-abbrev pub Took : Plan → Answered State → Left Stepped → Type 0
-Took p x y = y ≡ steppedLeft p x
-
-abbrev pub Passed : Plan → Read State → Left Passage → Type 0
-Passed p x y = y ≡ passageLeft p x
+-- a place counted from the start
+pub from-start : (p : ℕ) → p ≡ behindTolerances + p - behindTolerances
+from-start p = omega arith
 
 -- a reading is what has been read by it, where its run stands
-pub along-is : {p : Plan} (k : Along) {l : List ℤ} {m : List ℕ} → Kept p (left (k .going) l m) → k ≡ alongOf p (taleAlong k l m)
-along-is k h = λ i. record { place = k .place; passed = k .passed; amounts = k .amounts; going = h .stands i }
+pub along-is : (me b : List ℕ) (t : Tolerances) (k : Along) (l : List ℤ) (m : List ℕ) → Kept (plan b t) (left (k .going) l m) → k ≡ alongOf (stageAlong me b t k l m)
+along-is me b t k l m h = λ i. record { place = from-start (k .place) i; passed = k .passed; amounts = k .amounts; going = h .stands i }
 
 -- two energies as the machine holds them
 pub as-held : (k : Along) {place : ℕ} {before after : ℤ} {charge : Charge} {r : Along} → SFits w64 before → SFits w64 after
@@ -50,61 +55,137 @@ pub as-held : (k : Along) {place : ℕ} {before after : ℤ} {charge : Charge} {
     → r ≡ withAmounts k place (record { before = before; after = after; charge = charge })
 as-held k {place} {charge = charge} p q e = e ∙ (λ i. withAmounts k place (record { before = read p i; after = read q i; charge = charge }))
 
--- with the content c, where the run then stands at g
-abbrev alongAfter : Along → Content → Going → Along
-alongAfter k c g = record { place = placeAfter (k .place) c; passed = passedAfter (k .passed) c; amounts = withContent (k .amounts) c; going = g }
-
--- the answer to it, in a field of n bytes, where y is left of the run
-abbrev stepAfter : Along → Content → ℕ → Left Going → Left Stepped
-stepAfter k c n y = record { answer = record { step = stepOf c n; along = alongAfter k c (y .answer) }; memory = y .memory }
-
 module _ (b : List ℕ) (t : Tolerances) (k : Along) (l : List ℤ) (m : List ℕ) where
+  abbrev p : Plan
+  p = plan b t
+
+  -- ---- what a value brings
+
+  module _ (v : List ℕ) where
+    -- by what it is known to be
+    pub by-bring : {c d : Bring} {y : Left Along} → c ≡ d → y ≡ bringTaken b t k l m v d → y ≡ bringTaken b t k l m v c
+    by-bring e h = h ∙ ap (bringTaken b t k l m v) (sym e)
+
+    -- an own block is taken by the judge
+    abbrev afterBlock : Left Going → Left Along
+    afterBlock y = record { answer = record { place = 2; passed = k .passed; amounts = k .amounts; going = y .answer }; memory = y .memory }
+
+    pub samples-taken : {q : List ℕ} → q ≡ samplesOf v → {y : Left Going} → y ≡ blockTaken b t (k .going) l m q → afterBlock y ≡ bringTaken b t k l m v Samples
+    samples-taken e h =
+        ap afterBlock
+        (h ∙ ap (blockTaken b t (k .going) l m) e ∙ ap (leftAt p) (taken-list (courseOf p) (held (k .going) l m) (momentAt (samplesOf v)) (countIn (samplesOf v))))
+
+    -- an amount leaves the run as it is
+    pub amount-taken : Kept p (left (k .going) l m) → {r : Along} (place : ℕ) (a : Amounts) → r ≡ withAmounts k place a
+        → left r l m ≡ record { answer = record { place = place; passed = k .passed; amounts = a; going = leftAt p (held (k .going) l m) .answer }; memory = held (k .going) l m .memory }
+    amount-taken h place a e = (λ i. left (e i) l m) ∙ (λ i. left (record { place = place; passed = k .passed; amounts = a; going = h .stands i }) l m)
+
+  -- ---- the content of a field, of n bytes
+
   module _ (v : List ℕ) (n : ℕ) where
-    -- by what the content is known to be
     pub by-content : {c d : Content} {y : Left Stepped} → c ≡ d → y ≡ contentTaken b t k l m v d n → y ≡ contentTaken b t k l m v c n
     by-content e h = h ∙ ap (λ (x : Content). contentTaken b t k l m v x n) (sym e)
 
-    -- an own block is taken by the judge
-    pub own-taken : {q : List ℕ} → q ≡ samplesOf v → {y : Left Going} → y ≡ blockTaken b t (k .going) l m q → stepAfter k Own n y ≡ contentTaken b t k l m v Own n
-    own-taken e h = ap (stepAfter k Own n) (h ∙ ap (blockTaken b t (k .going) l m) e)
+    abbrev afterBring : Left Along → Left Stepped
+    afterBring y = record { answer = record { step = Taken n; along = y .answer }; memory = y .memory }
 
-    -- what leaves the run as it is
-    pub left-by : Kept (plan b t) (left (k .going) l m) → {c : Content} (d : Content) → c ≡ d
-        → runAfter offeredOf (takeBlock (plan b t)) (held (k .going) l m) v d ≡ held (k .going) l m
-        → {r : Along} → r ≡ alongAfter k d (k .going) → left (record { step = stepOf d n; along = r }) l m ≡ contentTaken b t k l m v c n
-    left-by h d e f z =
-        by-content e
-        ((λ i. left (record { step = stepOf d n; along = z i }) l m)
-        ∙ ap (stepAfter k d n) ((λ i. left (h .stands i) l m) ∙ ap (leftAt (plan b t)) (sym f)))
+    pub brought-taken : (g : Bring) {y : Left Along} → y ≡ bringTaken b t k l m v g → afterBring y ≡ contentTaken b t k l m v (Brought g) n
+    brought-taken g e = ap afterBring e
+
+    pub passed-taken : Kept p (left (k .going) l m) → {r : Along} → r ≡ withPassed k → left {A = Stepped} (record { step = Passed n; along = r }) l m ≡ contentTaken b t k l m v Foreign n
+    passed-taken h e =
+        (λ i. left {A = Stepped} (record { step = Passed n; along = e i }) l m)
+        ∙ (λ i. left {A = Stepped} (record { step = Passed n; along = record { place = from-start (k .place) i; passed = k .passed + 1; amounts = k .amounts; going = h .stands i } }) l m)
 
   -- where nothing is taken
-  pub unmoved : Kept (plan b t) (left (k .going) l m) → (s : Step) → Took (plan b t) (record { step = s; tale = taleAlong k l m }) (left (record { step = s; along = k }) l m)
-  unmoved h s = λ i. left (record { step = s; along = along-is k h i }) l m
+  pub unmoved : (me : List ℕ) → Kept p (left (k .going) l m) → (s : Step)
+      → left {A = Stepped} (record { step = s; along = k }) l m ≡ record { answer = record { step = s; along = alongOf (stageAlong me b t k l m) }; memory = stageAlong me b t k l m .run .memory }
+  unmoved me h s = λ i. record { answer = record { step = s; along = along-is me b t k l m h i }; memory = held (k .going) l m .memory }
 
   module _ (me : List ℕ) where
-    -- a field of an allowed length brings what may be taken
-    pub brought-by : Ready me (plan b t) (left k l m) → (tag : ℕ) (v : List ℕ) (c : Content) → isLength tag (length v) ≡ true
-        → c ≡ contentOf me (k .place) (k .passed) (k .going .progress .offered) tag v → Brought (plan b t) (left k l m) v c
-    brought-by h tag v c e p =
-        let offered = k .going .progress .offered in
-        let own : c ≡ Own → (tag ≡ 5) × OwnBlock me offered v = λ q. own-block me (k .passed) offered tag v (k .place) (sym p ∙ q) in
-        record {
+    abbrev x : Stage
+    x = stageAlong me b t k l m
+
+    -- after the start neither the cycle is asked nor the memory
+    later-is : (f : Field) → fieldContent (x .place) (contentOn x) f ≡ laterContent me (k .place) (k .passed) (k .going .progress .offered) f
+    unfolding unless
+    later-is f = same-rows (x .place) (contentOn x) (contentOf (k .passed) me [] (k .going .progress .offered)) f (λ q i _ a. go q i a)
+      where
+        none : (n : ℕ) → n ≤ 3 → among (behindTolerances + k .place) (n ∷ []) ≡ true → {A : Type 0} → A
+        none n h e = absurd (false≢true (sym (not-first (k .place) n h) ∙ e))
+
+        go : (q : Row Matter) → In q tags → among (x .place) (q .stands) ≡ true → contentOn x (q .holds) (f .value) ≡ contentOf (k .passed) me [] (k .going .progress .offered) (q .holds) (f .value)
+        go q here a = none 0 (omega arith) a
+        go q (there here) a = none 1 (omega arith) a
+        go q (there (there here)) a = none 2 (omega arith) a
+        go q (there (there (there here))) a = none 3 (omega arith) a
+        go q (there (there (there (there here)))) a = refl
+        go q (there (there (there (there (there here))))) a = refl
+        go q (there (there (there (there (there (there here)))))) a = refl
+        go q (there (there (there (there (there (there (there here))))))) a = refl
+
+    -- ---- a whole field f of an allowed length, whose content is c
+
+    module _ (f : Field) (c : Content) (a : lengthAllowed tags (f .tag) (length (f .value)) ≡ true)
+        (e : contentSaid (f .value) c ≡ laterContent me (k .place) (k .passed) (k .going .progress .offered) f) where
+      abbrev row : (d : Comes-in) → Type 0
+      row = ByRow tags (behindTolerances + k .place) (contentOf (k .passed) me [] (k .going .progress .offered)) f
+
+      -- what it says that something is brought
+      says-it : (g : Bring) → c ≡ Brought g
+          → Says (k .passed) me [] (k .going .progress .offered) (f .tag) (f .value) (behindTolerances + k .place) (bringSaid (f .value) g)
+          × (placeAfter tags (behindTolerances + k .place) (f .tag) (f .value) ≡ movesTo (bringSaid (f .value) g))
+      says-it g d =
+          let w : row (brought (bringSaid (f .value) g)) = by-row _ _ f _ (λ n q. false≢true cc) (sym e ∙ ap (contentSaid (f .value)) d) in
+          let z = says (k .passed) me [] (k .going .progress .offered) (f .tag) (f .value) (behindTolerances + k .place) (w .row) (w .one) (w .is) (w .stands) (bringSaid (f .value) g) (w .brings) in
+          (z .0, w .moves ∙ z .1)
+
+      moves-to : (g : Bring) → movesTo (bringSaid (f .value) g) ≡ behindTolerances + placeOf g
+      moves-to Samples = refl
+      moves-to (Before z) = refl
+      moves-to (After z) = refl
+      moves-to (Recharge z) = refl
+
+      pub takes : Ready me p (left k l m) → Takes p (left k l m) (f .value) c
+      takes h = record {
+        kept = h .kept;
+        brings = λ g d. record {
           kept = h .kept;
-          long = λ q. sizes tag (length v) e .block (own q .0) .0;
-          room = λ q. own q .1 .room;
-          samples = λ q. own q .1 .samples;
-          count = λ q. subst (Says me (k .passed) offered tag v) (sym p ∙ q) (says me (k .passed) offered tag v (k .place));
-        }
+          long = λ s. sizes (f .tag) (length (f .value)) a .block (own g d s .0) .0;
+          room = λ s. own g d s .3 .room;
+          samples = λ s. own g d s .3 .samples;
+        };
+        count = λ d.
+            let w : row foreign = by-row _ _ f _ (λ n q. false≢true cc) (sym e ∙ ap (contentSaid (f .value)) d) in
+            says-foreign (k .passed) me [] (k .going .progress .offered) (f .tag) (f .value) (behindTolerances + k .place) (w .row) (w .one) (w .stands) (w .brings) .0;
+      }
+        where
+          own : (g : Bring) → c ≡ Brought g → g ≡ Samples → Says (k .passed) me [] (k .going .progress .offered) (f .tag) (f .value) (behindTolerances + k .place) (ownSamples (momentsIn (samplesOf (f .value))))
+          own g d s = subst (λ (y : Bring). Says (k .passed) me [] (k .going .progress .offered) (f .tag) (f .value) (behindTolerances + k .place) (bringSaid (f .value) y)) s (says-it g d .0)
 
+      -- the vehicle has no part in it
+      same-brought : (q : ℕ) (g : Bring) → alongLeft (bringOn (stageHere b t k l m) q (bringSaid (f .value) g)) ≡ alongLeft (bringOn x q (bringSaid (f .value) g))
+      same-brought q Samples = refl
+      same-brought q (Before z) = refl
+      same-brought q (After z) = refl
+      same-brought q (Recharge z) = refl
+
+      same-answer : (d : Content) → c ≡ d
+          → contentTaken b t k l m (f .value) d (bytesOf f)
+          ≡ steppedLeft x (toField (answerBy (bringOn x (placeAfter tags (x .place) (f .tag) (f .value))) (passOn x) (contentSaid (f .value) d)) (bytesOf f))
+      same-answer (Brought g) d =
+          (λ i. let y = same-brought (behindTolerances + placeOf g) g i in record { answer = record { step = Taken (bytesOf f); along = y .answer }; memory = y .memory })
+          ∙ ap (λ (q : ℕ). steppedLeft x (toField (taken (bringOn x q (bringSaid (f .value) g))) (bytesOf f))) (sym (says-it g d .1 ∙ moves-to g))
+      same-answer Foreign d = refl
+      same-answer (Refused n) d = refl
+
+      pub content-whole : contentTaken b t k l m (f .value) c (bytesOf f) ≡ wholeTaken b t k l m me f
+      content-whole =
+          same-answer c refl
+          ∙ ap (λ (y : Comes-in). steppedLeft x (toField (answerBy (bringOn x (placeAfter tags (x .place) (f .tag) (f .value))) (passOn x) y) (bytesOf f))) (e ∙ sym (later-is f))
+
+    -- ---- the field at the front of the input, by what stands there
     module _ (i : List ℕ) {y : Left Stepped} where
-      -- by what stands at the front of the input
-      pub front-taken : {x : Front} → x ≡ frontOf i → Took (plan b t) (byFront offeredOf (takeBlock (plan b t)) me (taleAlong k l m) i x) y → y ≡ frontTaken b t k l m me i
-      unfolding fieldAt
-      front-taken e h = h ∙ ap (λ (x : Front). steppedLeft (plan b t) (byFront offeredOf (takeBlock (plan b t)) me (taleAlong k l m) i x)) e
-
-      -- a whole field, its value as it is lent on
-      pub whole-taken : (tag n : ℕ) → frontOf i ≡ field tag n → y ≡ wholeTaken b t k l m me tag (take (3 + n - 3) (drop 3 i)) → y ≡ frontTaken b t k l m me i
-      whole-taken tag n e h =
-          front-taken (sym e)
-          (of-value i tag n (front-whole i tag n e)
-          (λ v size. y ≡ contentTaken b t k l m v (contentOf me (k .place) (k .passed) (k .going .progress .offered) tag v) (3 + size)) h)
+      pub front-taken : {w : Front} → frontOf tags i ≡ w → y ≡ steppedLeft x (replyAs tags takeOn x w) → y ≡ frontTaken b t k l m me i
+      unfolding replyAt
+      front-taken e h = h ∙ ap (λ (w : Front). steppedLeft x (replyAs tags takeOn x w)) (sym e)

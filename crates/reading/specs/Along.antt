@@ -1,24 +1,31 @@
 -- A reading while fields are taken: its own numbers and where its run stands, beside the lent memory.
 -- Assumes nothing.
 use mathlib.Core.Bool.{true}
-use mathlib.Core.List.{List}
+use mathlib.Core.List.{List, []}
 use mathlib.Core.Path.{_≡_}
-use Prim.Native.Nat.{ℕ, _+_, _≤_}
+use Prim.Native.Nat.{ℕ, _+_, _-_, _≤_}
 use lib.IntN.{ℤ}
 use lib.ListN.{length}
 use Rattle.rules.specs.declared.Amounts.{Amounts}
 use Rattle.rules.specs.declared.Tolerances.{Tolerances}
 use Rattle.rules.specs.Bench.{mostOffered, mostPassed}
-use Rattle.rules.specs.Regular.{Plan, plan}
+use Rattle.rules.specs.Regular.{Plan}
+use Rattle.rules.specs.Table.{behindTolerances}
+use Rattle.rules.specs.Front.{Field}
+use Rattle.rules.specs.Front as front
+use Rattle.rules.specs.Machine.{Reply, toField, Ran}
+use Rattle.rules.specs.Values.{isNumber, samplesOf, countIn, areSamples}
+use Rattle.rules.specs.Record.{answerBy}
 use Rattle.state.specs.State.{Left, left}
-use Rattle.step.specs.Step.{State, Kept, held, standing, leftAt, withProgress}
-use Rattle.blocks.specs.Blocks.{samplesIn, areSamples}
-use Rattle.fields.specs.Values.{isNumber, samplesOf}
+use Rattle.step.specs.Step.{Kept, held, standing, withProgress}
+use Rattle.records.specs.Stage.{Stage, bringOn, passOn, takeOn, replyOn, runOn, stageAfter}
 use Rattle.contents.specs.declared.Content.{Content}
-use Rattle.contents.specs.declared.Content.the-variants.{Own, Foreign}
-use Rattle.reading.specs.Reading.{Tale, Answered, Read, stepOf, taleAfter, brought, fieldAt, fieldsOf}
+use Rattle.contents.specs.declared.Content.the-variants.{Brought, Foreign, Refused}
+use Rattle.contents.specs.declared.Bring.{Bring}
+use Rattle.contents.specs.declared.Bring.the-variants.{Samples, Before, After, Recharge}
+use Rattle.contents.specs.Content.{bringSaid, contentSaid}
 use Rattle.reading.specs.declared.Reading.{Reading}
-use Rattle.reading.specs.Answers.{offeredOf, takeBlock}
+use Rattle.reading.specs.Answers.{stepOf, lastOf}
 pub use Rattle.reading.specs.declared.Along.{Along}
 pub use Rattle.reading.specs.declared.Stepped.{Stepped}
 pub use Rattle.reading.specs.declared.Passage.{Passage}
@@ -30,21 +37,37 @@ alongAt r b = record { place = r .place; passed = r .passed; amounts = r .amount
 abbrev pub withAlong : Reading → Along → Reading
 withAlong r k = record { vehicle = r .vehicle; place = k .place; passed = k .passed; amounts = k .amounts; run = withProgress (r .run) (k .going .progress) }
 
--- as what has been read, on the memory l and m; and back
-abbrev pub taleAlong : Along → List ℤ → List ℕ → Tale State
-taleAlong k l m = record { place = k .place; passed = k .passed; amounts = k .amounts; run = held (k .going) l m }
+-- as what has been read of the vehicle me, on the cycle b and the memory l and m; and back
+abbrev pub stageAlong : List ℕ → List ℕ → Tolerances → Along → List ℤ → List ℕ → Stage
+stageAlong me b t k l m = record {
+  place = behindTolerances + k .place;
+  passed = k .passed;
+  vehicle = me;
+  cycle = b;
+  tolerances = t;
+  amounts = k .amounts;
+  run = held (k .going) l m;
+}
 
-abbrev pub alongOf : Plan → Tale State → Along
-alongOf p x = record { place = x .place; passed = x .passed; amounts = x .amounts; going = leftAt p (x .run) .answer }
+abbrev pub alongOf : Stage → Along
+alongOf x = record {
+  place = x .place - behindTolerances;
+  passed = x .passed;
+  amounts = x .amounts;
+  going = standing (x .cycle) (x .tolerances .time) (x .run .progress);
+}
 
--- the answer to a field, and to all, with the memory that is left
-abbrev pub steppedLeft : Plan → Answered State → Left Stepped
-steppedLeft p x = record { answer = record { step = x .step; along = alongOf p (x .tale) }; memory = x .tale .run .memory }
+-- with the memory that is left: of a state, of the answer y to a field, of all
+abbrev pub alongLeft : Stage → Left Along
+alongLeft x = record { answer = alongOf x; memory = x .run .memory }
 
-abbrev pub passageLeft : Plan → Read State → Left Passage
-passageLeft p x = record {
-  answer = record { along = alongOf p (x .tale); fields = x .fields; used = x .used; last = x .last };
-  memory = x .tale .run .memory;
+abbrev pub steppedLeft : Stage → Reply Stage → Left Stepped
+steppedLeft x y = let z = stageAfter x y in record { answer = record { step = stepOf y; along = alongOf z }; memory = z .run .memory }
+
+abbrev pub passageLeft : Ran Stage → Left Passage
+passageLeft y = record {
+  answer = record { along = alongOf (y .state); fields = y .fields; used = y .used; last = lastOf (y .end) };
+  memory = y .state .run .memory;
 }
 
 -- a block is passed over; an amount is brought, and moves the place in the order
@@ -54,28 +77,52 @@ withPassed k = record { place = k .place; passed = k .passed + 1; amounts = k .a
 abbrev pub withAmounts : Along → ℕ → Amounts → Along
 withAmounts k place a = record { place = place; passed = k .passed; amounts = a; going = k .going }
 
+-- the place to which each moves, counted from the start
+abbrev pub placeOf : Bring → ℕ
+placeOf Samples = 2
+placeOf (Before e) = 1
+placeOf (After e) = 3
+placeOf (Recharge w) = 4
+
+abbrev pub placeBy : Content → ℕ
+placeBy (Brought b) = placeOf b
+placeBy Foreign = 0
+placeBy (Refused n) = 0
+
 module _ (b : List ℕ) (t : Tolerances) (k : Along) (l : List ℤ) (m : List ℕ) where
+  -- the vehicle has no part in what is brought
+  abbrev pub stageHere : Stage
+  stageHere = stageAlong [] b t k l m
+
+  abbrev pub bringTaken : List ℕ → Bring → Left Along
+  bringTaken v c = alongLeft (bringOn stageHere (behindTolerances + placeOf c) (bringSaid v c))
+
   -- the content c of the value v, in a field of n bytes
   abbrev pub contentTaken : List ℕ → Content → ℕ → Left Stepped
-  contentTaken v c n = steppedLeft (plan b t) (record { step = stepOf c n; tale = taleAfter offeredOf (takeBlock (plan b t)) (taleAlong k l m) v c })
+  contentTaken v c n = steppedLeft stageHere (toField (answerBy (bringOn stageHere (behindTolerances + placeBy c)) (passOn stageHere) (contentSaid v c)) n)
 
-  -- a whole field, of the vehicle me
-  abbrev pub wholeTaken : List ℕ → ℕ → List ℕ → Left Stepped
-  wholeTaken me tag v = contentTaken v (brought offeredOf (takeBlock (plan b t)) me (taleAlong k l m) tag v) (3 + length v)
+  module _ (me : List ℕ) where
+    -- a whole field, the field at the front of the input, and all of its whole fields
+    abbrev pub wholeTaken : Field → Left Stepped
+    wholeTaken f = let x = stageAlong me b t k l m in steppedLeft x (toField (takeOn x f) (front.bytesOf f))
 
-  -- the field at the front of the input, and all of its whole fields
-  abbrev pub frontTaken : List ℕ → List ℕ → Left Stepped
-  frontTaken me i = steppedLeft (plan b t) (fieldAt offeredOf (takeBlock (plan b t)) me (taleAlong k l m) i)
+    abbrev pub frontTaken : List ℕ → Left Stepped
+    frontTaken i = let x = stageAlong me b t k l m in steppedLeft x (replyOn x i)
 
-  abbrev pub allTaken : List ℕ → List ℕ → Left Passage
-  allTaken me i = passageLeft (plan b t) (fieldsOf offeredOf (takeBlock (plan b t)) me (taleAlong k l m) i)
+    abbrev pub allTaken : List ℕ → Left Passage
+    allTaken i = passageLeft (runOn (stageAlong me b t k l m) i)
 
--- what the content c of the value v brings may be taken
-pub record Brought (p : Plan) (y : Left Along) (v : List ℕ) (c : Content) : Type 0 where
+-- what a value v brings may be taken
+pub record Brings (p : Plan) (y : Left Along) (v : List ℕ) (b : Bring) : Type 0 where
   pub kept : Kept p (left (y .answer .going) (y .memory .ledger) (y .memory .map))
-  pub long : c ≡ Own → 21 ≤ length v
-  pub room : c ≡ Own → y .answer .going .progress .offered + samplesIn (samplesOf v) ≤ mostOffered
-  pub samples : c ≡ Own → areSamples (samplesOf v) (samplesIn (samplesOf v)) ≡ true
+  pub long : b ≡ Samples → 21 ≤ length v
+  pub room : b ≡ Samples → y .answer .going .progress .offered + countIn (samplesOf v) ≤ mostOffered
+  pub samples : b ≡ Samples → areSamples (samplesOf v) (countIn (samplesOf v)) ≡ true
+
+-- and the content of a field with it
+pub record Takes (p : Plan) (y : Left Along) (v : List ℕ) (c : Content) : Type 0 where
+  pub kept : Kept p (left (y .answer .going) (y .memory .ledger) (y .memory .map))
+  pub brings : (b : Bring) → c ≡ Brought b → Brings p y v b
   pub count : c ≡ Foreign → y .answer .passed + 1 ≤ mostPassed
 
 -- what holds of a reading while fields are taken

@@ -1,4 +1,3 @@
--- Fields after the start, and calls of `read` and `read_all`.
-pub mod Reading
+-- Fields after the start, and the tests before them.
 pub mod Answers
 pub mod Along

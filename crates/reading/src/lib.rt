@@ -1,5 +1,6 @@
 // Fields after the start: the tests before them, one field, and all of an input.
 use blocks::take_block;
+use contents::Bring;
 use contents::Content;
 use contents::content_of;
 use fields::Front;
@@ -21,12 +22,11 @@ ghost use Prim.Native.Nat.{_+_, _≤_};
 ghost use lib.ListN.{length};
 ghost use Rattle.rules.specs.Cycle.{valid, seconds};
 ghost use Rattle.rules.specs.Bench.{mostTimeTolerance, mostPassed};
-ghost use Rattle.fields.specs.Fields.{isLength};
-ghost use Rattle.reading.specs.Reading.{bytesOf};
-ghost use Rattle.reading.specs.Answers.{isReading, readGround};
+ghost use Rattle.rules.specs.Table.{lengthAllowed, tags};
+ghost use Rattle.reading.specs.Answers.{bytesOf, isReading, readGround};
 ghost use Rattle.rules.specs.Regular.{plan};
 ghost use Rattle.state.specs.State.{left};
-ghost use Rattle.reading.specs.Along.{alongAt, withAlong, withPassed, withAmounts, contentTaken, wholeTaken, frontTaken, allTaken, Brought, Ready};
+ghost use Rattle.reading.specs.Along.{alongAt, withAlong, withPassed, withAmounts, bringTaken, contentTaken, wholeTaken, frontTaken, allTaken, Brings, Takes, Ready};
 
 // After the start. Place in the order: 0 after the tolerances, 1 after a 6 before, 2 after an own block, 3 after a 6 after, 4 after a 7.
 pub struct Reading {
@@ -164,6 +164,38 @@ fn with_amounts(k: Along, place: u32, before: i64, after: i64, charge: Charge) -
     }
 }
 
+// What a value brings is taken: samples by the judge.
+fn bring(
+    cycle: &[u8],
+    t: Tolerances,
+    k: Along,
+    ledger: &mut [i64],
+    map: &mut [u64],
+    v: &[u8],
+    b: Bring,
+) -> Along
+    requires { ⌜ Brings (plan (now cycle) t) (left k (now ledger) (now map)) (now v) b ⌝ }
+    ensures { λ r. ⌜
+        left r (now (ledger .exit)) (now (map .exit))
+        ≡ bringTaken (now (cycle .entry)) t k (now (ledger .entry)) (now (map .entry)) (now (v .entry)) b
+        ⌝ }
+{
+    let going = k.going;
+    let amounts = k.amounts;
+    let charge = amounts.charge;
+    match b {
+        Bring::Samples => Along {
+            place: 2,
+            passed: k.passed,
+            amounts,
+            going: take_block(cycle, t, going, &mut *ledger, &mut *map, &v[21..]),
+        },
+        Bring::Before(energy) => with_amounts(k, 1, energy, amounts.after, charge),
+        Bring::After(energy) => with_amounts(k, 3, amounts.before, energy, charge),
+        Bring::Recharge(wh) => { with_amounts(k, 4, amounts.before, amounts.after, Charge::Wh(wh)) }
+    }
+}
+
 // A field's content is taken; n is how many bytes the field has.
 fn take_content(
     cycle: &[u8],
@@ -175,40 +207,20 @@ fn take_content(
     c: Content,
     n: usize,
 ) -> Stepped
-    requires { ⌜ Brought (plan (now cycle) t) (left k (now ledger) (now map)) (now v) c ⌝ }
+    requires { ⌜ Takes (plan (now cycle) t) (left k (now ledger) (now map)) (now v) c ⌝ }
     ensures { λ r. ⌜
         left r (now (ledger .exit)) (now (map .exit))
         ≡ contentTaken (now (cycle .entry)) t k (now (ledger .entry)) (now (map .entry)) (now (v .entry)) c n
         ⌝ }
 {
-    let going = k.going;
-    let amounts = k.amounts;
-    let charge = amounts.charge;
     match c {
-        Content::Own => Stepped {
+        Content::Brought(b) => Stepped {
             step: Step::Taken(n),
-            along: Along {
-                place: 2,
-                passed: k.passed,
-                amounts,
-                going: take_block(cycle, t, going, &mut *ledger, &mut *map, &v[21..]),
-            },
+            along: bring(cycle, t, k, &mut *ledger, &mut *map, v, b),
         },
         Content::Foreign => Stepped {
             step: Step::Passed(n),
             along: with_passed(k),
-        },
-        Content::Before(energy) => Stepped {
-            step: Step::Taken(n),
-            along: with_amounts(k, 1, energy, amounts.after, charge),
-        },
-        Content::After(energy) => Stepped {
-            step: Step::Taken(n),
-            along: with_amounts(k, 3, amounts.before, energy, charge),
-        },
-        Content::Recharge(wh) => Stepped {
-            step: Step::Taken(n),
-            along: with_amounts(k, 4, amounts.before, amounts.after, Charge::Wh(wh)),
         },
         Content::Refused(x) => Stepped {
             step: Step::Refused(x),
@@ -228,10 +240,10 @@ fn whole_field(
     tag: u8,
     v: &[u8],
 ) -> Stepped
-    requires { ⌜ Ready (now me) (plan (now cycle) t) (left k (now ledger) (now map)) × (isLength tag (length (now v)) ≡ true) ⌝ }
+    requires { ⌜ Ready (now me) (plan (now cycle) t) (left k (now ledger) (now map)) × (lengthAllowed tags tag (length (now v)) ≡ true) ⌝ }
     ensures { λ r. ⌜
         left r (now (ledger .exit)) (now (map .exit))
-        ≡ wholeTaken (now (cycle .entry)) t k (now (ledger .entry)) (now (map .entry)) (now (me .entry)) tag (now (v .entry))
+        ≡ wholeTaken (now (cycle .entry)) t k (now (ledger .entry)) (now (map .entry)) (now (me .entry)) (record { tag = tag; value = now (v .entry) })
         ⌝ }
 {
     let going = k.going;

@@ -1,72 +1,68 @@
--- What fields after the start keep: the reader's own numbers stay within their limits.
+-- No number of the state passes its limits.
 -- Assumes nothing.
-use mathlib.Core.Bool.{true}
+use mathlib.Core.Bool.{Bool, true, false, _&&_, false≢true}
 use mathlib.Core.List.{List}
-use mathlib.Core.Path.{_≡_}
+use mathlib.Core.Path.{_≡_, refl, ap, subst, _∙_}
 use Prim.Native.Nat.{ℕ, _≤_}
-use lib.Dec.{lit≤}
-use Rattle.numbers.proofs.Tests.{both}
-use Rattle.rules.specs.declared.Amounts.{Amounts}
+use native.Mathlib.Omega.{arith}
+use lib.ListN.{length}
+use Rattle.rules.specs.declared.Charge.the-variants.{Wh as wh}
 use Rattle.rules.specs.Bench.{mostPassed}
-use Rattle.rules.specs.Closing.{isTransfer, isCharge, areAmounts}
-use Rattle.fields.specs.Fields.{valueIn}
-use Rattle.contents.specs.declared.Content.{Content}
-use Rattle.contents.specs.declared.Content.the-variants.{Own, Foreign, Before, After, Recharge, Refused}
-use Rattle.reading.specs.Reading.{Tale, Answered, withContent, placeAfter, passedAfter, brought, fieldAt, upto}
-use Rattle.contents.proofs.Brought.{Says, says}
-use Rattle.reading.proofs.Onwards.{by-front, kept}
+use Rattle.rules.specs.Closing.{isTransfer, isCharge}
+use Rattle.values.specs.Limits.{areAmounts}
+use Rattle.rules.specs.Cycle.{valid, mostBytes}
+use Rattle.rules.specs.Table.{behindRecharge, tags}
+use Rattle.rules.specs.Front.{Field}
+use Rattle.rules.specs.Machine.{on, moveAt, upto}
+use Rattle.rules.specs.Values.{isNumber}
+use Rattle.rules.specs.Record.{Bring, nothing, aNumber, aCycle, theTolerances, ownSamples, before, after, charged}
+use Rattle.laws.proofs.Prefixes.{kept}
+use Rattle.laws.proofs.Says.{movesTo, Says}
+use Rattle.laws.proofs.Sound.{sound}
+use Rattle.records.specs.Stage.{Stage, bringOn, takeOn}
+use Rattle.records.proofs.Came.{Moved, took, went, moved}
 
-pub record InLimits {S : Type 0} (k : Tale S) : Type 0 where
-  pub place : k .place ≤ 4
-  pub passed : k .passed ≤ mostPassed
-  pub amounts : areAmounts (k .amounts) ≡ true
+pub record InLimits (x : Stage) : Type 0 where
+  pub place : x .place ≤ behindRecharge
+  pub passed : x .passed ≤ mostPassed
+  pub amounts : areAmounts (x .amounts) ≡ true
+  pub number : isNumber (x .vehicle) ≡ true
+  pub size : length (x .cycle) ≤ mostBytes
 
-place-most : (place : ℕ) (c : Content) → place ≤ 4 → placeAfter place c ≤ 4
-place-most place Own h = lit≤ tt
-place-most place Foreign h = h
-place-most place (Before e) h = lit≤ tt
-place-most place (After e) h = lit≤ tt
-place-most place (Recharge w) h = lit≤ tt
-place-most place (Refused x) h = h
+-- one of three tests exchanged
+exchanged : (b c d e : Bool) → (b && c && d) ≡ true → e ≡ true → ((e && c && d) ≡ true) × ((b && e && d) ≡ true) × ((b && c && e) ≡ true)
+exchanged true true true true g k = (refl, refl, refl)
+exchanged b c d false g k = absurd (false≢true k)
+exchanged false c d true g k = absurd (false≢true g)
+exchanged true false d true g k = absurd (false≢true g)
+exchanged true true false true g k = absurd (false≢true g)
 
--- an amount and a count that a content brings are within their limits
-module _ (me : List ℕ) (passed offered tag : ℕ) (v : List ℕ) where
-  passed-most : (c : Content) → Says me passed offered tag v c → passed ≤ mostPassed → passedAfter passed c ≤ mostPassed
-  passed-most Own s h = h
-  passed-most Foreign s h = s
-  passed-most (Before e) s h = h
-  passed-most (After e) s h = h
-  passed-most (Recharge w) s h = h
-  passed-most (Refused x) s h = h
+module _ (x : Stage) (f : Field) (h : InLimits x) where
+  module _ (e : Bool) (k : e ≡ true) where
+    abbrev tests : ((e && isTransfer (x .amounts .after) && isCharge (x .amounts .charge)) ≡ true)
+        × ((isTransfer (x .amounts .before) && e && isCharge (x .amounts .charge)) ≡ true) × ((isTransfer (x .amounts .before) && isTransfer (x .amounts .after) && e) ≡ true)
+    unfolding areAmounts
+    tests = exchanged (isTransfer (x .amounts .before)) (isTransfer (x .amounts .after)) (isCharge (x .amounts .charge)) e (h .amounts) k
 
-  are-amounts : (c : Content) (a : Amounts) → Says me passed offered tag v c → areAmounts a ≡ true → areAmounts (withContent a c) ≡ true
+  limits-brought : (b : Bring) → Says (x .passed) (x .vehicle) (x .cycle) (x .run .progress .offered) (f .tag) (f .value) (x .place) b → InLimits (bringOn x (movesTo b) b)
   unfolding areAmounts
-  are-amounts c a s h =
-      let h₂ = both _ (isCharge (a .charge)) h in
-      let h₁ = both (isTransfer (a .before)) (isTransfer (a .after)) (h₂ .0) in
-      go c s (h₁ .0) (h₁ .1) (h₂ .1)
-    where
-      go : (c : Content) → Says me passed offered tag v c → isTransfer (a .before) ≡ true → isTransfer (a .after) ≡ true → isCharge (a .charge) ≡ true
-          → areAmounts (withContent a c) ≡ true
-      go Own s x y z = rw (x, y, z)
-      go Foreign s x y z = rw (x, y, z)
-      go (Before e) s x y z = rw (s, y, z)
-      go (After e) s x y z = rw (x, s, z)
-      go (Recharge w) s x y z = rw (x, y, s)
-      go (Refused _) s x y z = rw (x, y, z)
+  limits-brought nothing s = record { place = omega arith; passed = h .passed; amounts = h .amounts; number = h .number; size = h .size }
+  limits-brought (aNumber v) s = record { place = omega arith; passed = h .passed; amounts = h .amounts; number = ap isNumber (s .2) ∙ s .3; size = h .size }
+  limits-brought (aCycle v) s =
+      let o = sound v (ap valid (s .2) ∙ s .3) in
+      record { place = omega arith; passed = h .passed; amounts = h .amounts; number = h .number; size = omega (arith, o .whole, o .few-phases, o .short) }
+  limits-brought (theTolerances t) s = record { place = omega arith; passed = h .passed; amounts = h .amounts; number = h .number; size = h .size }
+  limits-brought (ownSamples xs) s = record { place = omega arith; passed = h .passed; amounts = h .amounts; number = h .number; size = h .size }
+  limits-brought (before e) s = record { place = omega arith; passed = h .passed; amounts = tests (isTransfer e) (s .2) .0; number = h .number; size = h .size }
+  limits-brought (after e) s = record { place = omega arith; passed = h .passed; amounts = tests (isTransfer e) (s .2) .1; number = h .number; size = h .size }
+  limits-brought (charged w) s = record { place = omega arith; passed = h .passed; amounts = tests (isCharge (wh w)) (s .2) .2; number = h .number; size = h .size }
 
-module _ {S : Type 0} (offered : S → ℕ) (take : S → List ℕ → S) (me : List ℕ) where
-  in-limits-field : (k : Tale S) (i : List ℕ) → InLimits k → InLimits (fieldAt offered take me k i .tale)
-  in-limits-field k i h =
-      by-front offered take me (λ (x : Answered S). InLimits (x .tale)) k i (λ _ _. h) (λ tag n _.
-      let v = valueIn i n in
-      let c = brought offered take me k tag v in
-      let s = says me (k .passed) (offered (k .run)) tag v (k .place) in
-      record {
-        place = place-most (k .place) c (h .place);
-        passed = passed-most me (k .passed) (offered (k .run)) tag v c s (h .passed);
-        amounts = are-amounts me (k .passed) (offered (k .run)) tag v c (k .amounts) s (h .amounts);
-      })
+pub limits-move : (x : Stage) (i : List ℕ) (y : Stage) (m : ℕ) → moveAt tags takeOn x i ≡ on y m → InLimits x → InLimits y
+limits-move x i y m e h = go (moved x i y m e)
+  where
+    go : Moved x i y m → InLimits y
+    go (took f _ _ _ c) = subst InLimits (c .is) (limits-brought x f h (c .brings) (c .says))
+    go (went f _ _ d l _) = subst InLimits d (record { place = h .place; passed = l; amounts = h .amounts; number = h .number; size = h .size })
 
-  pub in-limits : (n : ℕ) (k : Tale S) (i : List ℕ) → InLimits k → InLimits (upto offered take n me k i .tale)
-  in-limits = kept offered take me InLimits in-limits-field
+pub limits-upto : (n : ℕ) (x : Stage) (i : List ℕ) → InLimits x → InLimits (upto tags takeOn n x i .state)
+limits-upto n x i h = kept tags takeOn InLimits limits-move n x i h

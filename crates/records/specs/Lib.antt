@@ -1,2 +1,2 @@
--- A record as a whole.
-pub mod Records
+-- A record as the code keeps it.
+pub mod Stage

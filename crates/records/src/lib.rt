@@ -1,1 +1,1 @@
-// Nothing to run: what a whole record tells is defined in specs/, and its laws are in proofs/.
+// What a record does to the state that the code keeps: the machine of the rules over it. No code.

@@ -1,20 +1,4 @@
--- The laws of document 01's definitions.
+-- What the definitions compute to, row by row.
 pub mod Card
-pub mod Sound
-pub mod Band
-pub mod Tally
-pub mod Facts
-pub mod Gathered
-pub mod Longer
-pub mod Wider
-pub mod Total
-pub mod Bounds
-pub mod Maps
-pub mod Next
-pub mod Regular
-pub mod Weighing
-pub mod Closeness
-pub mod Recharge
-pub mod Same
-pub mod Closes
-pub mod NineNumbers
+pub mod Records
+pub mod Sheets

@@ -4,7 +4,7 @@ use mathlib.Core.Bool.{Bool, not, cond, _&&_}
 use mathlib.Core.List.{List}
 use Prim.Native.Nat.{ℕ, _+_, _-_, _*_, _/_, _%_, min}
 use lib.Dec.{leb}
-use Rattle.numbers.specs.Range.{least, greatest}
+use Rattle.rules.specs.Words.{least, greatest}
 use Rattle.rules.specs.Bench.{Tolerances}
 use Rattle.rules.specs.Cycle.{point, positions}
 
@@ -27,15 +27,12 @@ lo b w p = least (grid20 b) (from w p) (upto b w p)
 abbrev pub hi : List ℕ → ℕ → ℕ → ℕ
 hi b w p = greatest (grid20 b) (from w p) (upto b w p)
 
--- "inside when lo <= 20v + 20s and 20v <= hi + 20s", s the speed tolerance; below, above: where the one or the other fails
+-- "inside when lo <= 20v + 20s and 20v <= hi + 20s", s the speed tolerance; below: where the first fails
 abbrev pub insideOf : ℕ → ℕ → ℕ → ℕ → Bool
 insideOf lo hi s v = leb lo (20 * v + 20 * s) && leb (20 * v) (hi + 20 * s)
 
 abbrev pub belowOf : ℕ → ℕ → ℕ → Bool
 belowOf lo s v = not (leb lo (20 * v + 20 * s))
-
-abbrev pub aboveOf : ℕ → ℕ → ℕ → Bool
-aboveOf hi s v = not (leb (20 * v) (hi + 20 * s))
 
 -- the bench controller's "0 inside, 1 below, 2 above"
 unfoldable pub side : ℕ → ℕ → ℕ → ℕ → ℕ
@@ -44,12 +41,6 @@ side lo hi s v = cond (insideOf lo hi s v) 0 (cond (belowOf lo s v) 1 2)
 module _ (b : List ℕ) (t : Tolerances) (p v : ℕ) where
   unfoldable pub inside : Bool
   inside = insideOf (lo b (t .time) p) (hi b (t .time) p) (t .speed) v
-
-  unfoldable pub below : Bool
-  below = belowOf (lo b (t .time) p) (t .speed) v
-
-  unfoldable pub above : Bool
-  above = aboveOf (hi b (t .time) p) (t .speed) v
 
   unfoldable pub verdict : ℕ
   verdict = side (lo b (t .time) p) (hi b (t .time) p) (t .speed) v

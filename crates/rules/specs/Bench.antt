@@ -1,10 +1,10 @@
 -- 'Numbers on the bench': the limits, and what a sample brings.
 -- Assumes nothing.
-use mathlib.Core.Bool.{Bool, true, false, _&&_}
+use mathlib.Core.Bool.{Bool, _&&_}
 use Prim.Native.Nat.{ℕ, _*_}
 use lib.Dec.{leb}
 use lib.IntN.{ℤ, pos, negℤ, _*ℤ_}
-use Rattle.numbers.specs.Whole.{between}
+use Rattle.rules.specs.Words.{between}
 pub use Rattle.rules.specs.declared.Sample.{Sample}
 pub use Rattle.rules.specs.declared.Moment.{Moment}
 pub use Rattle.rules.specs.declared.Tolerances.{Tolerances}
@@ -36,12 +36,9 @@ drawn x = negℤ (pos (x .voltage) *ℤ x .current)
 abbrev pub momentOf : Sample → Moment
 momentOf x = record { speed = x .speed; energy = drawn x }
 
--- such as a sample within its limits brings: its energy is within the greatest product of voltage and current
+-- the most that a sample within its limits draws, either way: the greatest product of voltage and current
 abbrev pub mostDrawn : ℕ
 mostDrawn = mostVoltage * mostCurrent
-
-unfoldable pub isMoment : Moment → Bool
-isMoment x = leb (x .speed) mostSpeed && between (negℤ (pos mostDrawn)) (pos mostDrawn) (x .energy)
 
 -- the most that one share of a run brings: energy either way, and distance
 abbrev pub mostShareEnergy : ℕ
@@ -85,9 +82,3 @@ mostAllowance = 1200
 
 unfoldable pub tolerable : Tolerances → Bool
 tolerable t = leb (t .speed) mostSpeedTolerance && leb (t .time) mostTimeTolerance && leb (t .allowance) mostAllowance
-
--- the run has not ended
-abbrev pub isOpen : End → Bool
-isOpen none = true
-isOpen stop = false
-isOpen limit = false

@@ -6,14 +6,14 @@ use Prim.Native.Nat.{ℕ}
 use lib.Dec.{ltb, eqb}
 use lib.IntN.{ℤ, pos, negℤ}
 use lib.ListN.{length, getD}
-use Rattle.numbers.specs.Tests.{every}
-use Rattle.numbers.specs.Whole.{eqZ}
+use Rattle.rules.specs.Words.{every, eqZ}
 use Rattle.rules.specs.Bench.{Moment, Tolerances, End, none, stop, limit, drawn}
 use Rattle.rules.specs.Cycle.{valid}
 use Rattle.rules.specs.Band.{inside}
-use Rattle.rules.specs.Course.{closedWhere, endingWhere, outside, counted, judged}
-use Rattle.rules.specs.Parts.{cycles}
-use Rattle.rules.specs.Regular.{positionOf, regular}
+use Rattle.rules.specs.Question.{question}
+use Rattle.rules.specs.Course.{Layout, Course, course, closedWhere, endingWhere, outside, counted, judged}
+use Rattle.rules.specs.Parts.{phasePart, finished, cycles, partEnergy}
+use Rattle.rules.specs.Regular.{own, positionOf, regularLayout, regularRule, regular}
 use Rattle.rules.specs.Closing.{weighted, closingRefusal}
 
 abbrev pub sameEnd : End → End → Bool
@@ -58,9 +58,20 @@ pub data Row : Type 0 where
   weighs : ℕ → ℕ → ℕ → ℕ → List ℕ → ℕ → Row
   -- E, the energies and the distances of the finished cycles: the number that the closing is refused, or 0
   closes : ℤ → List ℤ → List ℤ → ℕ → Row
+  -- how many samples later a share is closed, how many samples can count, n offered, m counted: the shares closed, the end
+  shuts : ℕ → ℕ → ℕ → ℕ → ℕ → End → Row
+  -- a cycle of two phases, one second each, and shares of energy 1: cycle c, phase k of it, m shares closed: the phase's energy, whether it is finished
+  gathers : ℕ → ℕ → ℕ → ℕ → Bool → Row
+  -- the cycle's bytes, speed and time tolerance, position, speed: what the bench controller is answered
+  asks : List ℕ → ℕ → ℕ → ℕ → ℕ → ℤ → Row
+
+-- a cycle of one speed
+flat : ℕ → List ℕ
+unfolding bytes
+flat v = bytes (record { a = v; b = v; c = v })
 
 unfoldable pub card : List Row
-unfolding points
+unfolding points flat bytes
 card =
     band (points 0 100 0) 10 0 30 (20 ∷ 80 ∷ []) (19 ∷ 81 ∷ [])
     ∷ band (points 0 100 0) 20 5 30 (45 ∷ 130 ∷ []) (44 ∷ 131 ∷ [])
@@ -92,10 +103,44 @@ card =
     ∷ closes (pos 2) (pos 1 ∷ pos 1 ∷ pos 1 ∷ []) (pos 100 ∷ pos 100 ∷ pos 101 ∷ []) 12
     ∷ closes (pos 2) (pos 1 ∷ pos 1 ∷ pos 1 ∷ []) (pos 100 ∷ pos 100 ∷ pos 100 ∷ []) 13
     ∷ closes (pos 8) (pos 1 ∷ pos 1 ∷ pos 1 ∷ []) (pos 100 ∷ pos 100 ∷ pos 100 ∷ []) 0
+    -- not on the card: a share counts when it is closed, and the limit is reached when all are
+    ∷ shuts 0 40 40 40 40 limit
+    ∷ shuts 0 40 39 39 39 none
+    ∷ shuts 1 40 0 0 0 none
+    ∷ shuts 1 40 40 40 39 none
+    ∷ shuts 1 40 41 40 40 limit
+    ∷ shuts 1 40 30 20 20 stop
+    -- not on the card: a phase is of its cycle, and finished when its last position is counted
+    ∷ gathers 0 0 50 20 true
+    ∷ gathers 0 1 39 19 false
+    ∷ gathers 1 0 59 19 false
+    ∷ gathers 1 0 60 20 true
+    ∷ gathers 1 2 80 0 false
+    -- not on the card: the bench controller's answers, each refusal with the next one's fault there too
+    ∷ asks [] 101 0 40 1501 (negℤ (pos 2))
+    ∷ asks (flat 100) 101 0 40 1501 (negℤ (pos 3))
+    ∷ asks (flat 100) 30 0 40 1501 (negℤ (pos 6))
+    ∷ asks (flat 100) 30 0 39 1501 (negℤ (pos 5))
+    ∷ asks (flat 100) 30 0 39 69 (pos 1)
+    ∷ asks (flat 100) 30 0 39 130 (pos 0)
+    ∷ asks (flat 100) 30 0 39 131 (pos 2)
     ∷ []
 
+-- a course of such limits, and the layout of a cycle with two phases
+limited : ℕ → ℕ → Course
+limited ahead most =
+    let l = regularLayout [] in
+    course (record { row = l .row; phase = l .phase; begin = l .begin; rowEnd = l .rowEnd; phaseEnd = l .phaseEnd; rows = l .rows; most = most })
+    (regularRule [] (record { speed = 0; time = 0; allowance = 0 })) (record { ahead = ahead; energy = own .energy; distance = own .distance })
+
+twoPhases : Layout
+twoPhases = regularLayout (2 ∷ 0 ∷ 1 ∷ 0 ∷ 2 ∷ 0 ∷ 0 ∷ 0 ∷ 0 ∷ 0 ∷ 0 ∷ [])
+
+same : Bool → Bool → Bool
+same x y = cond x y (not y)
+
 unfoldable pub holds : Row → Bool
-unfolding bytes tolerances fastFrom
+unfolding bytes tolerances fastFrom limited twoPhases same
 holds (band q j w s in-speeds out-speeds) =
     let y = bytes q in
     let test = inside y (tolerances s w 0) (positionOf y j) in
@@ -108,3 +153,8 @@ holds (drive j s a e m c os) =
 holds (draws u i z) = eqZ (drawn (record { speed = 0; voltage = u; current = i })) z
 holds (weighs E e₁ e₂ n qs W) = eqb (weighted E n (λ c. getD (e₁ ∷ e₂ ∷ []) c 0) (λ c. getD qs c 0)) W
 holds (closes E es ds k) = eqb (closingRefusal E (length es) (λ c. getD es c (pos 0)) (λ c. getD ds c (pos 0))) k
+holds (shuts ahead most n m k e) = let c = limited ahead most in eqb (closedWhere c n m) k && sameEnd (endingWhere c n m) e
+holds (gathers c k m e done) =
+    let p = phasePart twoPhases c k in
+    eqZ (partEnergy own (λ j. record { speed = 0; energy = pos 1 }) p m) (pos e) && same (finished p m) done
+holds (asks y s w p v z) = eqZ (question y (tolerances s w 0) p v) z

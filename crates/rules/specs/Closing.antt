@@ -1,21 +1,19 @@
 -- 'Closing figures', on whole numbers of any size: n finished cycles of energies e and distances d, the whole energy E. Place 0 is cycle 1.
 -- Assumes nothing.
-use mathlib.Core.Bool.{Bool, true, cond, _&&_}
-use mathlib.Core.Path.{_≡_}
-use Prim.Native.Nat.{ℕ, _+_, _-_, _*_, _/_, _<_}
-use lib.Dec.{leb, ltb}
+use mathlib.Core.Bool.{Bool, true, _&&_}
+use Prim.Native.Nat.{ℕ, _+_, _-_, _*_, _/_}
+use lib.Dec.{leb}
 use lib.IntN.{ℤ, pos, negℤ, _+ℤ_}
 use lib.Signed.{leZ, ltZ}
-use Rattle.numbers.specs.Range.{sum}
-use Rattle.numbers.specs.Tests.{allBelow, unless}
-use Rattle.numbers.specs.Whole.{up, between}
-use Rattle.rules.specs.Bench.{Moment, mostCycles, mostPhases}
+use Rattle.rules.specs.Words.{settled, sum, allBelow, unless, up, between}
+use Rattle.rules.specs.Bench.{Moment}
 use Rattle.rules.specs.Course.{Course, closed}
 use Rattle.rules.specs.Parts.{energy}
-use Rattle.rules.specs.Shown.{mostEnergy}
 pub use Rattle.rules.specs.declared.Charge.{Charge}
 pub use Rattle.rules.specs.declared.Charge.the-variants.{Absent as absent, Wh as wh}
 pub use Rattle.rules.specs.declared.Amounts.{Amounts}
+pub use Rattle.rules.specs.declared.Figure.{Figure}
+pub use Rattle.rules.specs.declared.Figure.the-variants.{Is, Absent, Refused}
 
 -- "within 10^13 either way"; "recharge in Wh (4), 1..2,000,000"
 abbrev pub mostTransfer : ℕ
@@ -35,16 +33,9 @@ isCharge (wh A) = leb 1 A && leb A mostCharge
 abbrev pub wholeEnergy : ℤ → Course → (ℕ → Moment) → ℕ → ℤ
 wholeEnergy before c s n = before +ℤ energy (c .share) s (closed c s n)
 
--- the most that the whole energy can be, either way, of a ledger that is in bounds
-abbrev pub mostWhole : ℕ
-mostWhole = mostTransfer + mostCycles * (mostPhases * mostEnergy)
-
 -- "q_c = floor(100 e_c / d_c), in mWh/km"
 abbrev pub rate : ℕ → ℕ → ℕ
 rate e d = 100 * e / d
-
-abbrev pub rates : (ℕ → ℕ) → (ℕ → ℕ) → ℕ → ℕ
-rates e d c = rate (e c) (d c)
 
 -- "(n-2)(q_1 e_1 + q_2 e_2) + (E - e_1 - e_2)(q_3 + .. + q_n)"
 unfoldable pub weighing : ℕ → ℕ → (ℕ → ℕ) → (ℕ → ℕ) → ℕ
@@ -53,10 +44,6 @@ weighing E n e q = (n - 2) * (q 0 * e 0 + q 1 * e 1) + (E - e 0 - e 1) * sum (λ
 -- "E (n-2)"
 abbrev pub weight : ℕ → ℕ → ℕ
 weight E n = E * (n - 2)
-
--- "Weights by 000, formula 9: e_1/E, e_2/E, and (1 - K_1 - K_2)/(n-2) for the others": the weight of a cycle, over E (n-2)
-abbrev pub weightOf : ℕ → ℕ → (ℕ → ℕ) → ℕ → ℕ
-weightOf E n e c = cond (ltb c 2) (e c * (n - 2)) (E - e 0 - e 1)
 
 -- "Weighted W = floor of" their quotient
 abbrev pub weighted : ℕ → ℕ → (ℕ → ℕ) → (ℕ → ℕ) → ℕ
@@ -69,10 +56,6 @@ range E W = 5 * E / (36 * W)
 -- "Recharge figure, A in Wh, F the transfer energy after the test: floor(E × A × 1,000,000 / ((E+F) × range))": EF is E + F
 abbrev pub recharge : ℕ → ℕ → ℕ → ℕ → ℕ
 recharge E EF A r = E * A * 1000000 / (EF * r)
-
--- "the unrounded 100 e_c / d_c" over one denominator: u c / k is 100 e_c / d_c
-unfoldable pub Unrounded : ℕ → ℕ → (ℕ → ℕ) → (ℕ → ℕ) → (ℕ → ℕ) → Type 0
-Unrounded k n e d u = (c : ℕ) → c < n → u c * d c ≡ k * (100 * e c)
 
 -- "q_c outside 1..10,000,000"
 abbrev pub mostRate : ℕ
@@ -112,6 +95,25 @@ module _ (E : ℤ) (n : ℕ) (e d : ℕ → ℤ) where
       unless 14 (leZ (pos 1) (E +ℤ F))
       (unless 12 (leb (rechargeFigure F A) mostRate) 0)
 
--- no amount is beyond its limits: "within 10^13 either way", "1..2,000,000"
-unfoldable pub areAmounts : Amounts → Bool
-areAmounts a = isTransfer (a .before) && isTransfer (a .after) && isCharge (a .charge)
+-- ---- as the sheet has them
+
+-- "A closing refusal gives `refused N` in place of `weighted`, a recharge refusal in place of `ac`": the number of a refusal, or the figure
+abbrev pub figureOr : ℕ → Figure → Figure
+figureOr n f = settled n f (Refused n)
+
+-- n finished cycles of energies e and distances d, the whole energy E
+module _ (E : ℤ) (n : ℕ) (e d : ℕ → ℤ) where
+  abbrev pub weightedBy : Figure
+  weightedBy = figureOr (closingRefusal E n e d) (Is (weightedFigure E n e d))
+
+  abbrev pub rangeBy : Figure
+  rangeBy = figureOr (closingRefusal E n e d) (Is (rangeFigure E n e d))
+
+  -- "A missing 7 gives the recharge figure "absent".": with F and the recharge
+  abbrev pub chargedBy : ℤ → Charge → Figure
+  chargedBy F absent = Absent
+  chargedBy F (wh A) = figureOr (rechargeRefusal E n e d F A) (Is (rechargeFigure E n e d F A))
+
+  -- "Recharge: whatever closing refuses, then absent, 14, 12."
+  abbrev pub rechargeBy : ℤ → Charge → Figure
+  rechargeBy F charge = figureOr (closingRefusal E n e d) (chargedBy F charge)

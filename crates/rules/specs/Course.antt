@@ -75,12 +75,9 @@ module _ (c : Course) (s : ℕ → Moment) where
   abbrev pub stopsAt : ℕ → Bool
   stopsAt j = c .rule .halts (λ i. s i .speed) j || tally.over (c .layout .row) out (c .rule .allowance) j
 
-  -- how many are counted, whether the run stopped, how many are judged, how many shares are closed, how the run ended
+  -- how many are counted, how many are judged, how many shares are closed, how the run ended
   abbrev pub counted : ℕ → ℕ
   counted = tally.counted stopsAt (c .layout .most)
-
-  abbrev pub stopped : ℕ → Bool
-  stopped = tally.stopped stopsAt (c .layout .most)
 
   abbrev pub judged : ℕ → ℕ
   judged = tally.judged stopsAt (c .layout .most)

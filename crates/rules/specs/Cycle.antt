@@ -5,10 +5,8 @@ use mathlib.Core.List.{List}
 use Prim.Native.Nat.{ℕ, zero, suc, _+_, _-_, _*_}
 use lib.Dec.{leb, ltb, eqb}
 use lib.ListN.{length, getD}
-use Rattle.numbers.specs.Bytes.{be}
-use Rattle.numbers.specs.Range.{first}
-use Rattle.numbers.specs.Tests.{allBelow}
-use Rattle.rules.specs.Bench.{mostSpeed, leastSeconds, mostSeconds, mostPhases}
+use Rattle.rules.specs.Words.{be, first, allBelow, unless}
+use Rattle.rules.specs.Bench.{Tolerances, tolerable, mostSpeed, leastSeconds, mostSeconds, mostPhases}
 
 -- the number of phases
 abbrev pub phases : List ℕ → ℕ
@@ -57,6 +55,10 @@ valid b =
     && eqb (length b) (bytesFor (phases b) (seconds b))
     && allBelow (phases b) (rises b)
     && allBelow (seconds b + 1) (isSpeed b)
+
+-- "2, 3", of a start with this cycle and these tolerances, and of the bench controller's question: the refusal, or the answer
+abbrev pub startOr : {A : Type 0} → (ℕ → A) → List ℕ → Tolerances → A → A
+startOr refused b t answer = unless (refused 2) (valid b) (unless (refused 3) (tolerable t) answer)
 
 -- N: "A cycle has 20T positions"
 abbrev pub positions : List ℕ → ℕ

@@ -1,11 +1,22 @@
 -- Document 01 as definitions, in its order. This is what a reader must believe.
+pub mod Words
 pub mod Bench
 pub mod Cycle
 pub mod Band
+pub mod Question
 pub mod Tally
 pub mod Course
 pub mod Parts
 pub mod Regular
 pub mod Shown
 pub mod Closing
+pub mod Table
+pub mod Front
+pub mod Machine
+pub mod Values
+pub mod Record
+pub mod Figures
+pub mod Text
 pub mod Card
+pub mod Records
+pub mod Sheets

@@ -4,7 +4,7 @@ use mathlib.Core.Bool.{Bool, not, _&&_}
 use Prim.Native.Nat.{ℕ}
 use lib.Dec.{eqb}
 use lib.IntN.{ℤ}
-use Rattle.numbers.specs.Range.{sumOf, sumOfℤ, sumℤ, first}
+use Rattle.rules.specs.Words.{sumOf, sumOfℤ, sumℤ, first}
 use Rattle.rules.specs.Bench.{Moment, mostCycles}
 use Rattle.rules.specs.Course.{Bound, reached, Layout, Share}
 

@@ -5,8 +5,7 @@ use mathlib.Core.List.{List}
 use Prim.Native.Nat.{ℕ, _+_, _-_, _*_, _/_, _%_}
 use lib.Dec.{ltb, eqb}
 use lib.IntN.{ℤ, pos, negℤ}
-use Rattle.numbers.specs.Range.{fold, table}
-use Rattle.numbers.specs.Whole.{between}
+use Rattle.rules.specs.Words.{fold, table, between}
 use Rattle.rules.specs.Bench.{Moment, mostShareEnergy, mostShareDistance, mostPositions, mostCycles}
 use Rattle.rules.specs.Course.{Layout, Course, out, outside, judged, closed}
 use Rattle.rules.specs.Parts.{phasePart, partEnergy, partDistance}

@@ -3,8 +3,7 @@
 use mathlib.Core.Bool.{Bool}
 use Prim.Native.Nat.{ℕ, suc, _+_, min}
 use lib.Dec.{ltb, eqb}
-use Rattle.numbers.specs.Range.{sumOf, first}
-use Rattle.numbers.specs.Tests.{bit}
+use Rattle.rules.specs.Words.{sumOf, first, bit}
 
 module _ (cycle : ℕ → ℕ) (out : ℕ → Bool) where
   -- "Outside samples are counted afresh in each cycle": of the first m, those of cycle c that are outside

@@ -40,3 +40,24 @@ pub struct Amounts {
     pub after: i64,
     pub charge: Charge,
 }
+
+// A figure, no figure, or the number of a refusal.
+pub enum Figure {
+    Is(u64),
+    Absent,
+    Refused(u32),
+}
+
+// What the report prints of a record that was read to its end.
+pub struct Figures {
+    pub vehicle: [u8; 17],
+    pub end: End,
+    pub counted: u32,
+    pub cycles: u32,
+    pub outside: i64,
+    pub passed: u32,
+    pub drawn: i64,
+    pub weighted: Figure,
+    pub range: Figure,
+    pub ac: Figure,
+}

@@ -13,7 +13,7 @@ use lib.IntN.{ℤ, pos, negsuc, natAbs}
 use lib.ListN.{length, length-append}
 use lib.Signed.{ltZ}
 use Rattle.numbers.proofs.Order.{side}
-use Rattle.sheet.specs.Text.{digitsBy, digits, signed}
+use Rattle.rules.specs.Text.{digitsBy, digits, signed}
 
 by-small : (k n : ℕ) → n < 10 → digitsBy (suc k) n ≡ (48 + n) ∷ []
 unfolding digitsBy

@@ -2,4 +2,3 @@
 pub mod Digits
 pub mod Signs
 pub mod Overlaid
-pub mod Rows

@@ -9,10 +9,9 @@ use native.Mathlib.Omega.{arith}
 use lib.Dec.{leb}
 use lib.ListN.{length, take, drop, set, length-append}
 use lib.Seq.{length-take-le, take-at, drop-at, drop-drop, set-split, append-snoc, paste-zero}
-use Rattle.numbers.specs.Tests.{unless}
+use Rattle.rules.specs.Words.{unless}
 use Rattle.numbers.proofs.Tests.{pass, stop, tests}
-use Rattle.sheet.specs.Overlaid.{overlaid, Wrote}
-use Rattle.sheet.specs.Text.{mostSheet}
+use Rattle.sheet.specs.Overlaid.{overlaid, Wrote, mostSheet}
 
 pub overlaid-then : (out : List ℕ) (at : ℕ) (a b : List ℕ) → at ≤ length out → overlaid (overlaid out at a) (at + length a) b ≡ overlaid out at (a ++ b)
 unfolding overlaid

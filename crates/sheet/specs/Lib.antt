@@ -1,4 +1,2 @@
--- What the report prints, byte for byte.
+-- Text in lent lines.
 pub mod Overlaid
-pub mod Text
-pub mod Rows

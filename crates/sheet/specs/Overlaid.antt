@@ -5,6 +5,10 @@ use mathlib.Core.Path.{_≡_}
 use Prim.Native.Nat.{ℕ, _+_, _≤_}
 use lib.ListN.{length, take, drop}
 
+-- a buffer of this many bytes holds every sheet and every refusal
+abbrev pub mostSheet : ℕ
+mostSheet = 512
+
 -- the text in place of as many bytes of out, from place at on
 unfoldable pub overlaid : List ℕ → ℕ → List ℕ → List ℕ
 overlaid out at text = take at out ++ text ++ drop (at + length text) out

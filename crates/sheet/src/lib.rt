@@ -1,29 +1,14 @@
 // The bytes that the report prints.
-use consumption::Figure;
-use rules::End;
+use rules::Figures;
 ghost use mathlib.Core.Path.{_≡_};
 ghost use lib.Dec.{leb};
 ghost use lib.ListN.{length};
-ghost use Rattle.numbers.specs.Tests.{unless};
-ghost use Rattle.sheet.specs.Overlaid.{overlaid};
-ghost use Rattle.sheet.specs.Text.{mostSheet, sheetText, refusalText};
+ghost use Rattle.rules.specs.Words.{unless};
+ghost use Rattle.sheet.specs.Overlaid.{overlaid, mostSheet};
+ghost use Rattle.rules.specs.Text.{sheetText, refusalText};
 
 mod lines;
 mod text;
-
-// What the report prints of a record that was read to its end.
-pub struct Figures {
-    pub vehicle: [u8; 17],
-    pub end: End,
-    pub counted: u32,
-    pub cycles: u32,
-    pub outside: i64,
-    pub passed: u32,
-    pub drawn: i64,
-    pub weighted: Figure,
-    pub range: Figure,
-    pub ac: Figure,
-}
 
 // How long lines are lent: no sheet is longer.
 pub const MOST_SHEET: usize = 512;

@@ -1,16 +1,16 @@
 // The lines of a sheet, each written from a place on. Each function answers the place after what it wrote.
 // A line takes at most 32 bytes, the one with the end 40.
-use super::Figures;
 use super::text::put_number;
 use super::text::put_signed;
 use super::text::put_text;
-use consumption::Figure;
 use rules::End;
+use rules::Figure;
+use rules::Figures;
 ghost use mathlib.Core.Path.{_≡_};
 ghost use Prim.Native.Nat.{_+_, _≤_};
 ghost use lib.ListN.{length};
 ghost use Rattle.sheet.specs.Overlaid.{Wrote};
-ghost use Rattle.sheet.specs.Text.{digits, signed, line, endLine, isRefused, figureLine, headLines, countLines, closingLines};
+ghost use Rattle.rules.specs.Text.{digits, signed, line, endLine, isRefused, figureLine, headLines, countLines, closingLines};
 
 fn text_line(out: &mut [u8], at: usize, word: &[u8], value: &[u8]) -> usize
     requires { ⌜ (at + 32 ≤ length (now out)) × (length (now word) ≤ 8) × (length (now value) ≤ 17) ⌝ }

@@ -6,7 +6,7 @@ ghost use Prim.Native.Nat.{_+_, _≤_};
 ghost use lib.IntN.{natAbs};
 ghost use lib.ListN.{length};
 ghost use Rattle.sheet.specs.Overlaid.{Wrote};
-ghost use Rattle.sheet.specs.Text.{digits, signed};
+ghost use Rattle.rules.specs.Text.{digits, signed};
 
 fn put(out: &mut [u8], at: usize, text: &[u8]) -> usize
     requires { ⌜ at + length (now text) ≤ length (now out) ⌝ }

@@ -9,14 +9,15 @@ use borrow.Author.Tests.{leb-true, ltb-true, eqb-true, le-leb, eq-eqb}
 use lib.Dec.{leb, ltb, eqb}
 use lib.IntN.{ℤ}
 use lib.ListN.{length}
-use Rattle.numbers.specs.Tests.{unless}
+use Rattle.rules.specs.Words.{unless}
 use Rattle.numbers.proofs.Tests.{not-refused, both, pass}
 use Rattle.rules.specs.declared.Tolerances.{Tolerances}
 use Rattle.rules.specs.declared.End.{End}
 use Rattle.rules.specs.declared.End.the-variants.{None as none, Stop as stop, Limit as limit}
-use Rattle.rules.specs.Bench.{isOpen, tolerable, mostSeconds, mostOffered}
+use Rattle.laws.specs.Beside.{isOpen}
+use Rattle.rules.specs.Bench.{tolerable, mostSeconds, mostOffered}
 use Rattle.rules.specs.Cycle.{seconds, valid}
-use Rattle.rules.proofs.Band.{Tolerated, tolerated}
+use Rattle.laws.proofs.Band.{Tolerated, tolerated}
 use Rattle.rules.specs.Shown.{ledgerNumbers, mapWords}
 use Rattle.ledger.specs.Row.{bounded}
 use Rattle.state.specs.State.{Ends, Run, endsOf, sameEnds, mostOf, isProgress, areEnds, isRun, isLent, isStarts, ground}

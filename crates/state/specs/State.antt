@@ -6,7 +6,7 @@ use Prim.Native.Nat.{ℕ, _*_}
 use lib.Dec.{leb, ltb, eqb}
 use lib.IntN.{ℤ}
 use lib.ListN.{length}
-use Rattle.numbers.specs.Tests.{unless}
+use Rattle.rules.specs.Words.{unless}
 use Rattle.rules.specs.declared.End.{End}
 use Rattle.rules.specs.declared.End.the-variants.{None as none, Stop as stop, Limit as limit}
 use Rattle.rules.specs.Bench.{tolerable, leastSeconds, mostSeconds, mostOffered, mostCycles}

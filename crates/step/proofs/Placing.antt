@@ -10,7 +10,7 @@ use Rattle.rules.specs.declared.End.{End}
 use Rattle.rules.specs.declared.End.the-variants.{None as none, Limit as limit}
 use Rattle.rules.specs.Cycle.{positions, phaseEnd, phaseAt}
 use Rattle.rules.specs.Regular.{cycleOf, positionOf, most}
-use Rattle.rules.proofs.Sound.{Sound, phase-first}
+use Rattle.laws.proofs.Sound.{Sound, phase-first}
 use Rattle.rules.specs.Bench.{mostCycles}
 use Rattle.window.specs.declared.Window.{Window}
 use Rattle.window.specs.Moving.{windowOf}

@@ -12,7 +12,7 @@ use borrow.Author.Tests.{lt-ltb}
 use Rattle.numbers.proofs.Order.{digits, ltb-div}
 use Rattle.rules.specs.Cycle.{positions, phaseEnd, phaseAt}
 use Rattle.rules.specs.Regular.{cycleOf, positionOf, most}
-use Rattle.rules.proofs.Sound.{Sound, real, four, ends-within, phase-exists, phase-stays}
+use Rattle.laws.proofs.Sound.{Sound, real, four, ends-within, phase-exists, phase-stays}
 use Rattle.rules.specs.Bench.{mostPositions, mostPhases, mostCycles}
 use Rattle.window.specs.declared.Window.{Window}
 use Rattle.window.specs.Moving.{windowOf}

@@ -8,13 +8,14 @@ use lib.Dec.{ltb}
 use lib.IntN.{ℤ, pos}
 use lib.ListN.{length}
 use Rattle.numbers.specs.Lists.{cleared}
-use Rattle.numbers.specs.Range.{fold}
+use Rattle.rules.specs.Words.{fold}
 use Rattle.numbers.specs.Whole.{Sized}
 use Rattle.rules.specs.declared.Moment.{Moment}
 use Rattle.rules.specs.declared.Tolerances.{Tolerances}
 use Rattle.rules.specs.declared.End.{End}
 use Rattle.rules.specs.declared.End.the-variants.{None as none, Stop as stop, Limit as limit}
-use Rattle.rules.specs.Bench.{isOpen, mostTimeTolerance, mostOffered}
+use Rattle.laws.specs.Beside.{isOpen}
+use Rattle.rules.specs.Bench.{mostTimeTolerance, mostOffered}
 use Rattle.rules.specs.Cycle.{valid, phaseEnd, phaseAt}
 use Rattle.rules.specs.Course.{Course}
 use Rattle.rules.specs.Regular.{cycleOf, positionOf, most, Plan, plan, courseOf}
@@ -24,7 +25,7 @@ use Rattle.ledger.specs.Row.{at, isOver, sampleAdded, mostStep}
 use Rattle.map.specs.Map.{opened, markedIf}
 use Rattle.state.specs.declared.Progress.{Progress}
 use Rattle.state.specs.declared.Run.{Run}
-use Rattle.state.specs.State.{Memory, lent, Left, left}
+use Rattle.state.specs.State.{Memory, lent, Left}
 use Rattle.state.specs.Refusals.{notBegun}
 pub use Rattle.step.specs.declared.Going.{Going}
 pub use Rattle.step.specs.declared.Next.{Next}

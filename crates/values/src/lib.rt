@@ -15,9 +15,10 @@ use rules::limits::MOST_TIME_TOLERANCE;
 use rules::limits::MOST_TRANSFER;
 use rules::limits::MOST_VOLTAGE;
 ghost use mathlib.Core.Path.{_≡_};
-ghost use Rattle.numbers.specs.Whole.{between};
+ghost use Rattle.rules.specs.Words.{between};
 ghost use Rattle.rules.specs.Bench.{isSample, tolerable, drawn, momentOf};
-ghost use Rattle.rules.specs.Closing.{isTransfer, isCharge, areAmounts};
+ghost use Rattle.rules.specs.Closing.{isTransfer, isCharge};
+ghost use Rattle.values.specs.Limits.{areAmounts};
 
 pub fn is_between(lo: i64, hi: i64, z: i64) -> bool
     ensures { λ r. ⌜ r ≡ between lo hi z ⌝ }

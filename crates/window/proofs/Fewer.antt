@@ -7,12 +7,12 @@ use mathlib.Core.Path.{_≡_, sym, subst}
 use Prim.Native.Nat.{ℕ, suc, _+_, _-_, _*_, _/_, _≤_, _<_, min, max, zero-le}
 use native.Mathlib.Nat.{le-refl, le-trans}
 use native.Mathlib.Omega.{arith}
-use Rattle.numbers.specs.Range.{fold, least, greatest}
+use Rattle.rules.specs.Words.{fold, least, greatest}
 use Rattle.numbers.proofs.Order.{side}
 use Rattle.numbers.proofs.Extremes.{Meet, meet-min, meet-max, bound, greatest-bound, bound-at}
 use Rattle.rules.specs.Cycle.{point, positions, valid}
 use Rattle.rules.specs.Band.{grid20, from, upto, lo, hi}
-use Rattle.rules.proofs.Sound.{Sound, sound}
+use Rattle.laws.proofs.Sound.{Sound, sound}
 use Rattle.window.specs.Moving.{mostGrid, innerLeast, innerGreatest, windowOf, leastIn, greatestIn}
 use Rattle.window.proofs.Lines.{grid-whole, rises-within, falls-within, grid-most}
 

@@ -11,7 +11,7 @@ use Rattle.numbers.proofs.Order.{side}
 use Rattle.numbers.proofs.Tests.{all-at}
 use Rattle.rules.specs.Cycle.{seconds, point, positions, isSpeed}
 use Rattle.rules.specs.Band.{grid20}
-use Rattle.rules.proofs.Sound.{Sound}
+use Rattle.laws.proofs.Sound.{Sound}
 use Rattle.rules.specs.Bench.{mostSpeed}
 
 -- a weighted sum as its second weight grows by d

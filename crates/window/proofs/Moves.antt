@@ -11,7 +11,7 @@ use lib.Dec.{leb}
 use Rattle.numbers.proofs.Order.{side}
 use Rattle.rules.specs.Cycle.{seconds, positions}
 use Rattle.rules.specs.Band.{grid20, from, upto}
-use Rattle.rules.proofs.Sound.{Sound}
+use Rattle.laws.proofs.Sound.{Sound}
 use Rattle.window.specs.Moving.{Edge, Window, riseOf, edgeOf, leftMoves, rightMoves, leftSteps, untilOf, innerLeast, innerGreatest, Small, onward, shifted, windowOf}
 use Rattle.window.proofs.Lines.{grid-within, grid-next, grid-most, point-most}
 

@@ -13,9 +13,9 @@ use Rattle.numbers.proofs.Tests.{pass, stop, tests}
 use Rattle.rules.specs.declared.Tolerances.{Tolerances}
 use Rattle.rules.specs.Bench.{tolerable}
 use Rattle.rules.specs.Cycle.{valid}
-use Rattle.rules.proofs.Band.{tolerated, verdict-most}
-use Rattle.rules.proofs.Sound.{sound}
-use Rattle.bench.specs.Question.{question}
+use Rattle.laws.proofs.Band.{tolerated, verdict-most}
+use Rattle.laws.proofs.Sound.{sound}
+use Rattle.rules.specs.Question.{question}
 use Rattle.bench.proofs.paperwhelk_verdict.Statement.{statement}
 use Rattle.bench.proofs.paperwhelk_verdict.Tie as tie
 

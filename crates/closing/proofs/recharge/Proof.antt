@@ -8,14 +8,14 @@ use mir.Syntax.{w64}
 use mir.Val.{toZ, ofZ}
 use Rattle.numbers.proofs.Signed.{sfits, read}
 use Rattle.rules.specs.declared.Charge.{Charge}
-use Rattle.rules.specs.Closing.{isCharge}
+use Rattle.rules.specs.Closing.{isCharge, chargedBy}
 use Rattle.state.specs.Refusals.{cyclesBy}
 use Rattle.ledger.specs.Row.{energyIn, distanceIn}
 use Rattle.numbers.proofs.Tests.{settled-taken}
-use Rattle.consumption.specs.declared.Figure.{Figure}
+use Rattle.rules.specs.declared.Figure.{Figure}
 use Rattle.consumption.specs.declared.Closed.{Closed}
 use Rattle.closing.specs.Answers.{whole, refusalOf, closingOf}
-use Rattle.consumption.specs.Figures.{chargedBy, rechargedBy}
+use Rattle.consumption.specs.Figures.{rechargedBy}
 use Rattle.closing.proofs.Grounds.{figure-refused, Standing, nothing-refused, whole-fits, whole-read, Charged, range-is, closing-charged, charge-most, recharged-is}
 use Rattle.closing.proofs.recharge.Statement.{statement}
 use Rattle.closing.proofs.recharge.Tie as tie

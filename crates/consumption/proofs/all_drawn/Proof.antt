@@ -8,7 +8,7 @@ use lib.IntN.{pos}
 use lib.Signed.{leZ, ltZ}
 use mir.Syntax.{w64}
 use mir.Val.{toZ, ofZ}
-use Rattle.numbers.specs.Tests.{allBelow}
+use Rattle.rules.specs.Words.{allBelow}
 use Rattle.numbers.proofs.Whole.{le-not}
 use Rattle.numbers.proofs.Signed.{read}
 use Rattle.ledger.specs.Row.{energyIn}

@@ -8,7 +8,7 @@ use native.Mathlib.Omega.{arith}
 use lib.IntN.{ℤ, pos}
 use lib.Signed.{leZ, ltZ}
 use mir.Syntax.{w64}
-use Rattle.numbers.specs.Tests.{allBelow}
+use Rattle.rules.specs.Words.{allBelow}
 use Rattle.numbers.proofs.Tests.{all-more, all-fails, all-at}
 use Rattle.numbers.proofs.Signed.{read}
 use Rattle.rules.specs.Closing.{mostRate, isRate, rateOf}

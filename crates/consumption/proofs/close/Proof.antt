@@ -10,11 +10,12 @@ use lib.IntN.{ℤ, pos, natAbs, _+ℤ_}
 use lib.Signed.{leZ, ltZ}
 use mir.Syntax.{w64}
 use mir.Val.{SFits}
-use Rattle.numbers.specs.Tests.{allBelow, unless}
+use Rattle.rules.specs.Words.{allBelow, unless}
 use Rattle.numbers.proofs.Tests.{both, pass, stop, tests}
 use Rattle.numbers.proofs.Whole.{sized-add, le-not}
 use Rattle.numbers.proofs.Signed.{sfits, read}
-use Rattle.rules.specs.Closing.{isRate, rateOf, closingRefusal, mostWhole}
+use Rattle.rules.specs.Closing.{isRate, rateOf, closingRefusal}
+use Rattle.laws.specs.Beside.{mostWhole}
 use Rattle.ledger.specs.Row.{energyIn, distanceIn}
 use Rattle.ledger.proofs.Bounded.{energy-sized}
 use Rattle.consumption.specs.Figures.{Closable, closingIn}

@@ -6,7 +6,7 @@ use native.Mathlib.Omega.{arith}
 use borrow.Author.Needs.{needs}
 use Rattle.wide.specs.Ratio.{ratio}
 use Rattle.wide.proofs.Answers.{is-quotient, over-quotient, more-is}
-use Rattle.rules.proofs.Recharge.{by-parts, part-small}
+use Rattle.laws.proofs.Recharge.{by-parts, part-small}
 use Rattle.consumption.proofs.divided.Statement.{statement}
 use Rattle.consumption.proofs.divided.Tie as tie
 

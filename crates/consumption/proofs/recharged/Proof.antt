@@ -9,15 +9,17 @@ use lib.IntN.{ℤ, pos, _+ℤ_}
 use lib.Signed.{leZ, ltZ}
 use mir.Syntax.{w64}
 use mir.Val.{toZ, ofZ}
-use Rattle.numbers.specs.Whole.{up, Sized}
+use Rattle.rules.specs.Words.{up}
+use Rattle.numbers.specs.Whole.{Sized}
 use Rattle.numbers.proofs.Tests.{pass, stop, tests}
 use Rattle.numbers.proofs.Whole.{le-up, le-not, abs-is, sized-add}
 use Rattle.numbers.proofs.Signed.{read, sum-fits, sum-read}
 use Rattle.wide.specs.Ratio.{ratio}
 use Rattle.wide.proofs.Answers.{is-quotient, over-quotient}
-use Rattle.rules.specs.Closing.{recharge, mostWhole, mostTransfer}
-use Rattle.rules.proofs.Recharge.{twice}
-use Rattle.consumption.specs.declared.Figure.the-variants.{Is}
+use Rattle.rules.specs.Closing.{recharge, mostTransfer}
+use Rattle.laws.specs.Beside.{mostWhole}
+use Rattle.laws.proofs.Recharge.{twice}
+use Rattle.rules.specs.declared.Figure.the-variants.{Is}
 use Rattle.consumption.specs.Figures.{rechargedBy}
 use Rattle.consumption.proofs.Weights.{positive, cast}
 use Rattle.consumption.proofs.recharged.Statement.{statement}

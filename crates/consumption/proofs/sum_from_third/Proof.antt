@@ -5,7 +5,7 @@ use mathlib.Core.Path.{_≡_, refl, sym, ap, _∙_}
 use Prim.Native.Nat.{ℕ, _+_, _-_, _*_, _≤_}
 use native.Mathlib.Omega.{arith}
 use lib.IntN.{ℤ}
-use Rattle.numbers.specs.Range.{fold, sum}
+use Rattle.rules.specs.Words.{fold, sum}
 use Rattle.numbers.proofs.Range.{fold-more}
 use Rattle.numbers.proofs.Sums.{sum-most}
 use Rattle.rules.specs.Closing.{rateOf, mostRate}

@@ -3,7 +3,7 @@
 use mathlib.Core.Path.{_≡_, sym, _∙_}
 use native.Mathlib.Omega.{arith}
 use borrow.Author.Needs.{needs}
-use Rattle.numbers.specs.Whole.{up}
+use Rattle.rules.specs.Words.{up}
 use Rattle.numbers.proofs.Signed.{read}
 use Rattle.rules.specs.Closing.{rateOf, weighing, weight}
 use Rattle.wide.specs.Ratio.{ratio}

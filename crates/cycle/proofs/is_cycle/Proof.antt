@@ -4,9 +4,9 @@ use mathlib.Core.Bool.{true, false≢true}
 use mathlib.Core.Path.{_≡_, sym}
 use native.Mathlib.Omega.{arith}
 use borrow.Author.Needs.{needs}
-use Rattle.numbers.specs.Tests.{allBelow}
+use Rattle.rules.specs.Words.{allBelow}
 use Rattle.rules.specs.Cycle.{phases, rises}
-use Rattle.rules.proofs.Sound.{not-valid, valid-by-points}
+use Rattle.laws.proofs.Sound.{not-valid, valid-by-points}
 use Rattle.cycle.proofs.is_cycle.Statement.{statement}
 use Rattle.cycle.proofs.is_cycle.Tie as tie
 

@@ -5,7 +5,7 @@ use Prim.Native.Nat.{_-_, _≤_}
 use native.Mathlib.Omega.{arith}
 use borrow.Author.Needs.{needs}
 use Rattle.rules.specs.Cycle.{phases, phaseAt}
-use Rattle.rules.proofs.Sound.{sound, phase-before, phase-least, phase-exists}
+use Rattle.laws.proofs.Sound.{sound, phase-before, phase-least, phase-exists}
 use Rattle.cycle.proofs.phase_of.Statement.{statement}
 use Rattle.cycle.proofs.phase_of.Tie as tie
 

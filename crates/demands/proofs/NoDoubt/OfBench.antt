@@ -2,7 +2,8 @@
 -- Assumes nothing.
 use mathlib.Core.Path.{refl}
 use Rattle.bench.proofs.paperwhelk_verdict
-use Rattle.demands.proofs.NoDoubt.{AsksNothing, OneAnswer, same}
+use Rattle.demands.specs.Calls.{AsksNothing, OneAnswer}
+use Rattle.demands.proofs.NoDoubt.{same}
 
 pub paperwhelk-verdict-one-answer : OneAnswer paperwhelk_verdict.ended paperwhelk_verdict.Reads.Learnt
 paperwhelk-verdict-one-answer κs a r r′ w w′ p q = (same p q, refl)

@@ -4,8 +4,10 @@ use mathlib.Core.Path.{refl, ap}
 use Rattle.blocks.proofs.is_block
 use Rattle.blocks.proofs.block_refusal
 use Rattle.blocks.proofs.are_samples
+use Rattle.blocks.proofs.numbered_refusal
 use Rattle.blocks.proofs.take_block
-use Rattle.demands.proofs.NoDoubt.{AsksNothing, OneAnswer, same}
+use Rattle.demands.specs.Calls.{AsksNothing, OneAnswer}
+use Rattle.demands.proofs.NoDoubt.{same}
 
 pub is-block-one-answer : OneAnswer is_block.ended is_block.Reads.Learnt
 is-block-one-answer κs a r r′ w w′ p q = (same p q, refl)
@@ -21,6 +23,9 @@ block-refusal-asks-nothing κs a = tt
 
 pub are-samples-one-answer : OneAnswer are_samples.ended are_samples.Reads.Learnt
 are-samples-one-answer κs a r r′ w w′ p q = (same p q, refl)
+
+pub numbered-refusal-one-answer : OneAnswer numbered_refusal.ended numbered_refusal.Reads.Learnt
+numbered-refusal-one-answer κs a r r′ w w′ p q = (same p q, refl)
 
 pub take-block-one-answer : OneAnswer take_block.ended take_block.Reads.Learnt
 take-block-one-answer κs a r r′ w w′ p q = (ap (λ y. y .answer) (same p q), λ i. (tt, (tt, (tt, (same p q i .memory .ledger, (same p q i .memory .map, (tt, tt)))))))

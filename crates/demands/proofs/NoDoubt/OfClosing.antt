@@ -5,7 +5,8 @@ use Rattle.closing.proofs.weighted
 use Rattle.closing.proofs.range
 use Rattle.closing.proofs.recharge
 use Rattle.closing.proofs.checks.closing_of
-use Rattle.demands.proofs.NoDoubt.{AsksNothing, OneAnswer, same}
+use Rattle.demands.specs.Calls.{AsksNothing, OneAnswer}
+use Rattle.demands.proofs.NoDoubt.{same}
 
 pub weighted-one-answer : OneAnswer weighted.ended weighted.Reads.Learnt
 weighted-one-answer κs a r r′ w w′ p q = (same p q, refl)

@@ -3,7 +3,8 @@
 use mathlib.Core.Path.{refl}
 use Rattle.consumption.proofs.close
 use Rattle.consumption.proofs.recharged
-use Rattle.demands.proofs.NoDoubt.{OneAnswer, same}
+use Rattle.demands.specs.Calls.{OneAnswer}
+use Rattle.demands.proofs.NoDoubt.{same}
 
 pub close-one-answer : OneAnswer close.ended close.Reads.Learnt
 close-one-answer κs a r r′ w w′ p q = (same p q, refl)

@@ -6,7 +6,8 @@ use Rattle.cycle.proofs.end_of
 use Rattle.cycle.proofs.point_of
 use Rattle.cycle.proofs.seconds_of
 use Rattle.cycle.proofs.phase_of
-use Rattle.demands.proofs.NoDoubt.{AsksNothing, OneAnswer, same}
+use Rattle.demands.specs.Calls.{AsksNothing, OneAnswer}
+use Rattle.demands.proofs.NoDoubt.{same}
 
 pub is-cycle-one-answer : OneAnswer is_cycle.ended is_cycle.Reads.Learnt
 is-cycle-one-answer κs a r r′ w w′ p q = (same p q, refl)

@@ -7,7 +7,8 @@ use Rattle.desk.proofs.empty
 use Rattle.desk.proofs.feed_on
 use Rattle.desk.proofs.desk_refusal
 use Rattle.desk.proofs.feed
-use Rattle.demands.proofs.NoDoubt.{AsksNothing, OneAnswer, same}
+use Rattle.demands.specs.Calls.{AsksNothing, OneAnswer}
+use Rattle.demands.proofs.NoDoubt.{same}
 
 -- the answer of what a call leaves
 abbrev answerOf : Consumed → Fed

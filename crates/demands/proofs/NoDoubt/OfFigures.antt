@@ -2,7 +2,8 @@
 -- Assumes nothing.
 use mathlib.Core.Path.{refl}
 use Rattle.figures.proofs.figures_of
-use Rattle.demands.proofs.NoDoubt.{AsksNothing, OneAnswer, same}
+use Rattle.demands.specs.Calls.{AsksNothing, OneAnswer}
+use Rattle.demands.proofs.NoDoubt.{same}
 
 pub figures-of-one-answer : OneAnswer figures_of.ended figures_of.Reads.Learnt
 figures-of-one-answer κs a r r′ w w′ p q = (same p q, refl)

@@ -6,7 +6,8 @@ use Rattle.judge.proofs.sample
 use Rattle.judge.proofs.block
 use Rattle.judge.proofs.shown
 use Rattle.judge.proofs.totals
-use Rattle.demands.proofs.NoDoubt.{AsksNothing, OneAnswer, same}
+use Rattle.demands.specs.Calls.{AsksNothing, OneAnswer}
+use Rattle.demands.proofs.NoDoubt.{same}
 
 pub start-one-answer : OneAnswer start.ended start.Reads.Learnt
 start-one-answer κs a r r′ w w′ p q = (ap (λ y. y .answer) (same p q), λ i. (tt, (tt, (same p q i .memory .ledger, (same p q i .memory .map, tt)))))

@@ -8,7 +8,8 @@ use Rattle.ledger.proofs.totals.distance_in
 use Rattle.ledger.proofs.totals.energy_all
 use Rattle.ledger.proofs.totals.outside_all
 use Rattle.ledger.proofs.whole.clear_ledger
-use Rattle.demands.proofs.NoDoubt.{AsksNothing, OneAnswer, same}
+use Rattle.demands.specs.Calls.{AsksNothing, OneAnswer}
+use Rattle.demands.proofs.NoDoubt.{same}
 
 pub is-bounded-one-answer : OneAnswer is_bounded.ended is_bounded.Reads.Learnt
 is-bounded-one-answer κs a r r′ w w′ p q = (same p q, refl)

@@ -6,7 +6,8 @@ use Rattle.map.proofs.mark_if
 use Rattle.map.proofs.clear_map
 use Rattle.map.proofs.open_map
 use Rattle.map.proofs.count_marks
-use Rattle.demands.proofs.NoDoubt.{AsksNothing, OneAnswer, same}
+use Rattle.demands.specs.Calls.{AsksNothing, OneAnswer}
+use Rattle.demands.proofs.NoDoubt.{same}
 
 pub is-set-one-answer : OneAnswer is_set.ended is_set.Reads.Learnt
 is-set-one-answer κs a r r′ w w′ p q = (same p q, refl)

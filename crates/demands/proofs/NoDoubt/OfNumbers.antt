@@ -11,7 +11,8 @@ use Rattle.numbers.proofs.signed64
 use Rattle.numbers.proofs.read16
 use Rattle.numbers.proofs.read32
 use Rattle.numbers.proofs.read64
-use Rattle.demands.proofs.NoDoubt.{AsksNothing, OneAnswer, same}
+use Rattle.demands.specs.Calls.{AsksNothing, OneAnswer}
+use Rattle.demands.proofs.NoDoubt.{same}
 
 pub smaller-one-answer : OneAnswer smaller.ended smaller.Reads.Learnt
 smaller-one-answer κs a r r′ w w′ p q = (same p q, refl)

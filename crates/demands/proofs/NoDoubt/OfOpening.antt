@@ -4,7 +4,8 @@ use mathlib.Core.Path.{refl, ap}
 use Rattle.opening.proofs.open_refusal
 use Rattle.opening.proofs.refused_at
 use Rattle.opening.proofs.open_whole
-use Rattle.demands.proofs.NoDoubt.{AsksNothing, OneAnswer, same}
+use Rattle.demands.specs.Calls.{AsksNothing, OneAnswer}
+use Rattle.demands.proofs.NoDoubt.{same}
 
 pub open-refusal-one-answer : OneAnswer open_refusal.ended open_refusal.Reads.Learnt
 open-refusal-one-answer κs a r r′ w w′ p q = (same p q, refl)

@@ -2,7 +2,8 @@
 -- Assumes nothing.
 use Rattle.prints.proofs.refuse
 use Rattle.prints.proofs.close
-use Rattle.demands.proofs.NoDoubt.{AsksNothing, OneAnswer, same}
+use Rattle.demands.specs.Calls.{AsksNothing, OneAnswer}
+use Rattle.demands.proofs.NoDoubt.{same}
 
 pub refuse-one-answer : OneAnswer refuse.ended refuse.Reads.Learnt
 refuse-one-answer κs a r r′ w w′ p q = (same (p .0) (q .0), λ i. (tt, (tt, (same (p .1) (q .1) i, tt))))

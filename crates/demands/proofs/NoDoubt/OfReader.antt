@@ -8,7 +8,8 @@ use Rattle.reader.proofs.read
 use Rattle.reader.proofs.read_fields
 use Rattle.reader.proofs.read_all
 use Rattle.reader.proofs.ended
-use Rattle.demands.proofs.NoDoubt.{AsksNothing, OneAnswer, same}
+use Rattle.demands.specs.Calls.{AsksNothing, OneAnswer}
+use Rattle.demands.proofs.NoDoubt.{same}
 
 pub blank-one-answer : OneAnswer blank.ended blank.Reads.Learnt
 blank-one-answer κs a r r′ w w′ p q = (same p q, refl)

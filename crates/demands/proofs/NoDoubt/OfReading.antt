@@ -6,7 +6,8 @@ use Rattle.reading.proofs.with_along
 use Rattle.reading.proofs.along_at
 use Rattle.reading.proofs.one_field
 use Rattle.reading.proofs.all_fields
-use Rattle.demands.proofs.NoDoubt.{AsksNothing, OneAnswer, same}
+use Rattle.demands.specs.Calls.{AsksNothing, OneAnswer}
+use Rattle.demands.proofs.NoDoubt.{same}
 
 pub read-refusal-one-answer : OneAnswer read_refusal.ended read_refusal.Reads.Learnt
 read-refusal-one-answer κs a r r′ w w′ p q = (same p q, refl)

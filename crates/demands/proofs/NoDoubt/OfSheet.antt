@@ -2,7 +2,8 @@
 -- Assumes nothing.
 use Rattle.sheet.proofs.sheet_lines
 use Rattle.sheet.proofs.refusal_line
-use Rattle.demands.proofs.NoDoubt.{AsksNothing, OneAnswer, same}
+use Rattle.demands.specs.Calls.{AsksNothing, OneAnswer}
+use Rattle.demands.proofs.NoDoubt.{same}
 
 pub sheet-lines-one-answer : OneAnswer sheet_lines.ended sheet_lines.Reads.Learnt
 sheet-lines-one-answer κs a r r′ w w′ p q = (same (p .0) (q .0), λ i. (tt, (same (p .1) (q .1) i, tt)))

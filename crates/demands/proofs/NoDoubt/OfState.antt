@@ -7,7 +7,8 @@ use Rattle.state.proofs.sample_refusal
 use Rattle.state.proofs.ends_of
 use Rattle.state.proofs.last_cycle
 use Rattle.state.proofs.cycles_of
-use Rattle.demands.proofs.NoDoubt.{AsksNothing, OneAnswer, same}
+use Rattle.demands.specs.Calls.{AsksNothing, OneAnswer}
+use Rattle.demands.proofs.NoDoubt.{same}
 
 pub ground-refusal-one-answer : OneAnswer ground_refusal.ended ground_refusal.Reads.Learnt
 ground-refusal-one-answer κs a r r′ w w′ p q = (same p q, refl)

@@ -4,7 +4,8 @@ use mathlib.Core.Path.{refl, ap}
 use Rattle.step.proofs.with_going
 use Rattle.step.proofs.going_at
 use Rattle.step.proofs.take_one
-use Rattle.demands.proofs.NoDoubt.{AsksNothing, OneAnswer, same}
+use Rattle.demands.specs.Calls.{AsksNothing, OneAnswer}
+use Rattle.demands.proofs.NoDoubt.{same}
 
 pub with-going-one-answer : OneAnswer with_going.ended with_going.Reads.Learnt
 with-going-one-answer κs a r r′ w w′ p q = (same p q, refl)

@@ -8,7 +8,8 @@ use Rattle.values.proofs.are_amounts
 use Rattle.values.proofs.is_between
 use Rattle.values.proofs.is_sample
 use Rattle.values.proofs.moment_of
-use Rattle.demands.proofs.NoDoubt.{AsksNothing, OneAnswer, same}
+use Rattle.demands.specs.Calls.{AsksNothing, OneAnswer}
+use Rattle.demands.proofs.NoDoubt.{same}
 
 pub is-tolerable-one-answer : OneAnswer is_tolerable.ended is_tolerable.Reads.Learnt
 is-tolerable-one-answer κs a r r′ w w′ p q = (same p q, refl)

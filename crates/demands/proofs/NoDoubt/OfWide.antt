@@ -4,7 +4,8 @@ use mathlib.Core.Path.{refl}
 use Rattle.wide.proofs.whole
 use Rattle.wide.proofs.more
 use Rattle.wide.proofs.muldiv
-use Rattle.demands.proofs.NoDoubt.{AsksNothing, OneAnswer, same}
+use Rattle.demands.specs.Calls.{AsksNothing, OneAnswer}
+use Rattle.demands.proofs.NoDoubt.{same}
 
 -- The divisors 0 and 2^63 and above are not excluded: they are answered Over, as is a quotient of 2^63 or above.
 pub whole-one-answer : OneAnswer whole.ended whole.Reads.Learnt

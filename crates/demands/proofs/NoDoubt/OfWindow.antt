@@ -5,7 +5,8 @@ use Rattle.window.proofs.window_at
 use Rattle.window.proofs.shift
 use Rattle.window.proofs.verdict_in
 use Rattle.window.proofs.verdict_at
-use Rattle.demands.proofs.NoDoubt.{AsksNothing, OneAnswer, same}
+use Rattle.demands.specs.Calls.{AsksNothing, OneAnswer}
+use Rattle.demands.proofs.NoDoubt.{same}
 
 pub window-at-one-answer : OneAnswer window_at.ended window_at.Reads.Learnt
 window-at-one-answer κs a r r′ w w′ p q = (same (p .0) (q .0), refl)

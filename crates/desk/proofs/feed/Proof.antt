@@ -4,8 +4,7 @@ use mathlib.Core.Path.{sym, ap, _∙_}
 use borrow.Author.Needs.{needs}
 use Rattle.desk.specs.declared.Fed.{Fed}
 use Rattle.desk.specs.Feeding.{Laid, laidOf, fedLeft}
-use Rattle.desk.proofs.Grounds.{ground-steady}
-use Rattle.desk.proofs.Onward.{feed-stops}
+use Rattle.desk.proofs.Grounds.{ground-steady, feed-stops}
 use Rattle.desk.proofs.feed.Statement.{statement}
 use Rattle.desk.proofs.feed.Tie as tie
 

@@ -7,7 +7,7 @@ use borrow.Author.Needs.{needs}
 use borrow.Author.Tests.{not-true, not-false}
 use lib.ListN.{length}
 use Rattle.desk.specs.Feeding.{Laid, laidOf, mostFields}
-use Rattle.desk.proofs.Onward.{open-size-all, then-ground, not-yet, rest-size, read-then}
+use Rattle.desk.proofs.Feeds.{open-size-all, then-ground, not-yet, rest-size, read-then}
 use Rattle.desk.proofs.feed_on.Statement.{statement}
 use Rattle.desk.proofs.feed_on.Tie as tie
 
@@ -61,7 +61,7 @@ read-on-requires c κs =
     let e = c .before .before .before .before in
     let x = opened (e .before) in
     let s = entry x in
-    (size x .1, then-ground (laid s) (s .args .input .now) (s .pre .few) (x .open-all .ensures) (s .pre .ground) (not-false _ (e .if1 .left)))
+    (size x .1, not-false _ (e .if1 .left), then-ground (laid s) (s .args .input .now) (s .pre .few) (x .open-all .ensures) (s .pre .ground) (not-false _ (e .if1 .left)))
 
 add-t20 : tie.Need-add-t20
 add-t20 c =
@@ -87,7 +87,7 @@ returns-2 c =
     let e = y .before .before .before .before .before in
     let x = opened (e .before) in
     let s = entry x in
-    read-then (laid s) (s .args .input .now) (s .pre .few) (x .open-all .ensures) (y .read-on .ensures) (not-false _ (e .if1 .left))
+    read-then (laid s) (s .args .input .now) (s .pre .few) (x .open-all .ensures) (y .read-on .ensures) (s .pre .ground) (not-false _ (e .if1 .left))
 
 pub feed-on-spec : {M : Type 1} → statement M
 feed-on-spec =

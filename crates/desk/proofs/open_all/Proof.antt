@@ -1,19 +1,39 @@
 -- `desk::open_all` meets its contract. The loop's invariant: what is left to open is what the desk, as it is now, has to open of the rest.
 -- Assumes nothing.
+use mathlib.Core.Bool.{Bool, true, false}
+use mathlib.Core.Logic.{_⊎_, inl, inr, ⊎-elim}
 use mathlib.Core.Path.{_≡_, refl, _∙_}
-use Prim.Native.Nat.{_+_, _≤_, zero-le}
+use Prim.Native.Nat.{ℕ, _+_, _-_, _≤_, zero-le}
 use native.Mathlib.Omega.{arith}
 use borrow.Author.Needs.{needs}
 use lib.ListN.{length, drop}
-use Rattle.desk.specs.Feeding.{Laid, laidOf, behind, openUpto, mostFields}
-use Rattle.desk.proofs.Turns.{before-all, turn, turn-end, turn-size, turn-started, no-turn}
+use Rattle.desk.specs.Feeding.{Desk, Laid, laidOf, behind, openAll, mostFields}
+use Rattle.desk.proofs.Turns.{before-all, turn, turn-end, turn-size, turn-started}
 use Rattle.desk.proofs.open_all.Statement.{statement}
 use Rattle.desk.proofs.open_all.Tie as tie
+
+-- a desk that has not started is at the first turn, or at the turn of its fields
+abbrev InTurn : Desk → ℕ → Type 0
+InTurn on left = on .started ≡ false → (left ≡ 4) ⊎ ((4 ≤ on .opening .fields + left) × (on .opening .fields ≤ 3))
+
+-- so after four turns it has
+at-last : (on : Desk) (left : ℕ) → left ≡ 0 → InTurn on left → on .started ≡ true
+at-last on left e h = go (on .started) refl
+  where
+    go : (b : Bool) → on .started ≡ b → b ≡ true
+    go true f = refl
+    go false f = absurd (⊎-elim (λ (q : left ≡ 4). omega arith) (λ q. let r = q .0 in let t = q .1 in omega arith) (h f))
+
+-- one field more, one turn less
+next-turn : (on y : Desk) (left : ℕ) → (left ≡ 0 → ⊥) → on .started ≡ false → InTurn on left → (y .opening .fields ≡ on .opening .fields + 1) × (y .opening .fields ≤ 3)
+    → (4 ≤ y .opening .fields + (left - 1)) × (y .opening .fields ≤ 3)
+next-turn on y left some f h (p, q) = ⊎-elim (λ (z : left ≡ 4). (omega arith, q)) (λ z. let r = z .0 in (omega arith, q)) (h f)
 
 abbrev Inv-loop : tie.InvT-loop
 Inv-loop input room₀ ledger₀ map₀ on₀ used₀ left₀ room ledger map on used left =
     ((used ≤ length input) × (on .fields + left ≤ mostFields + 4) × (length room ≡ length room₀) × (length ledger ≡ length ledger₀) × (length map ≡ length map₀))
-    × (behind used (openUpto left (laidOf on room ledger map) (drop used input)) ≡ openUpto 4 (laidOf on₀ room₀ ledger₀ map₀) input)
+    × (behind used (openAll (laidOf on room ledger map) (drop used input)) ≡ openAll (laidOf on₀ room₀ ledger₀ map₀) input)
+    × InTurn on left
 
 abbrev μ-loop : tie.MeasureT-loop
 μ-loop input room₀ ledger₀ map₀ on₀ used₀ left₀ room ledger map on used left = left
@@ -38,18 +58,21 @@ answer c = c .before .before .before .before .before .before
 abbrev laid : tie.At-loop Inv-loop μ-loop → Laid
 laid at = laidOf (at .loop .on) (at .loop .room) (at .loop .ledger) (at .loop .map)
 
+not-started : (c : tie.Else1 Inv-loop μ-loop) → c .before .before .loop .on .started ≡ false
+not-started c = c .if1 .left
+
 sized : (c : tie.After-on Inv-loop μ-loop)
     → (let at = place c in
     let r = answer c .open-one .result in
     (at .loop .used + r .used ≤ length (entry c .args .input .now)) × (r .desk .fields ≤ at .loop .on .fields + 1))
 sized c =
     let at = place c in
-    turn-size (laid at) (entry c .args .input .now) (at .loop .used) (answer c .open-one .ensures) (at .loop .inv .0 .0)
+    turn-size (laid at) (entry c .args .input .now) (at .loop .used) (answer c .open-one .ensures) (not-started (tested c)) (at .loop .inv .0 .0)
 
 loop-holds : tie.Need-loop-holds Inv-loop μ-loop
 loop-holds c =
     let s = c .before .before .before in
-    ((zero-le, omega (arith, s .pre), refl, refl, refl), before-all _)
+    ((zero-le, omega (arith, s .pre), refl, refl, refl), before-all _, λ _. inl refl)
 
 same-length : tie.Need-same-length Inv-loop μ-loop
 same-length c = search needs
@@ -63,7 +86,7 @@ same-length-3 c = search needs
 returns : tie.Need-returns Inv-loop μ-loop
 returns c =
     let at = c .before .before in
-    turn-started (laid at) _ (at .loop .used) (at .loop .left) (c .if1 .taken) ∙ at .loop .inv .1
+    turn-started (laid at) _ (at .loop .used) (c .if1 .taken) ∙ at .loop .inv .1
 
 sub-open-one : tie.Need-sub-open-one Inv-loop μ-loop
 sub-open-one c = c .before .before .loop .inv .0 .0
@@ -96,7 +119,7 @@ returns-2 : tie.Need-returns-2 Inv-loop μ-loop
 returns-2 c =
     let f = c .before in
     let at = place f in
-    turn-end (laid at) (entry f .args .input .now) (at .loop .used) (answer f .open-one .ensures) (at .loop .left) (inside f .loop-test .taken) (tested f .if1 .left) (c .if2 .taken)
+    turn-end (laid at) (entry f .args .input .now) (at .loop .used) (answer f .open-one .ensures) (not-started (tested f)) (c .if2 .taken)
     ∙ at .loop .inv .1
 
 loop-less : tie.Need-loop-less Inv-loop μ-loop
@@ -106,10 +129,11 @@ loop-again : tie.Need-loop-again Inv-loop μ-loop
 loop-again c =
     let f = c .before in
     let at = place f in
-    let s = sized f in (
+    let s = sized f in
+    let (again, onward) = turn (laid at) (entry f .args .input .now) (at .loop .used) (answer f .open-one .ensures) (not-started (tested f)) (c .if2 .left) in (
       (s .0, omega (arith, s .1, at .loop .inv .0 .1, inside f .loop-test .taken), search needs, search needs, search needs),
-      turn (laid at) (entry f .args .input .now) (at .loop .used) (answer f .open-one .ensures) (at .loop .left) (inside f .loop-test .taken) (tested f .if1 .left) (c .if2 .left)
-          ∙ at .loop .inv .1,
+      again ∙ at .loop .inv .1,
+      λ q. inr (next-turn (at .loop .on) (answer f .open-one .result .desk) (at .loop .left) (inside f .loop-test .taken) (not-started (tested f)) (at .loop .inv .2) (onward .turn q)),
     )
 
 same-length-7 : tie.Need-same-length-7 Inv-loop μ-loop
@@ -124,7 +148,7 @@ same-length-9 c = search needs
 returns-3 : tie.Need-returns-3 Inv-loop μ-loop
 returns-3 c =
     let at = c .before in
-    no-turn (laid at) _ (at .loop .used) (at .loop .left) (c .loop-test .left) ∙ at .loop .inv .1
+    turn-started (laid at) _ (at .loop .used) (at-last (at .loop .on) (at .loop .left) (c .loop-test .left) (at .loop .inv .2)) ∙ at .loop .inv .1
 
 pub open-all-spec : {M : Type 1} → statement M
 open-all-spec =

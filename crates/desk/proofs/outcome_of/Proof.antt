@@ -2,7 +2,7 @@
 -- Assumes nothing.
 use mathlib.Core.Path.{sym, ap}
 use borrow.Author.Needs.{needs}
-use Rattle.desk.specs.Feeding.{outcomeOf}
+use Rattle.desk.specs.Feeding.{outcomeBy}
 use Rattle.desk.proofs.outcome_of.Statement.{statement}
 use Rattle.desk.proofs.outcome_of.Tie as tie
 
@@ -28,7 +28,7 @@ returns-3 : tie.Need-returns-3
 returns-3 c = search needs
 
 returns-4 : tie.Need-returns-4
-returns-4 c = ap outcomeOf (sym (c .before .step .given .1))
+returns-4 c = ap outcomeBy (sym (c .before .step .given .1))
 
 pub outcome-of-spec : {M : Type 1} → statement M
 outcome-of-spec =

@@ -1,16 +1,15 @@
 -- `desk::read_on` meets its contract: the reader reads all.
 -- Assumes nothing.
-use mathlib.Core.Path.{sym, ap}
+use mathlib.Core.Path.{_≡_, sym}
 use Prim.Native.Nat.{_≤_}
 use native.Mathlib.Omega.{arith}
 use borrow.Author.Needs.{needs}
 use lib.ListN.{length}
 use lib.Seq.{length-take-le}
-use Rattle.state.specs.State.{Left}
-use Rattle.reader.specs.declared.AllAnswer.{AllAnswer}
-use Rattle.desk.specs.Feeding.{Laid, laidOf}
+use Rattle.reading.specs.Answers.{readGround}
+use Rattle.desk.specs.Feeding.{Laid, laidOf, lentCycle}
 use Rattle.desk.proofs.Grounds.{started-fits}
-use Rattle.desk.proofs.Onward.{read-left, all-size}
+use Rattle.desk.proofs.Feeds.{read-left, all-size}
 use Rattle.desk.proofs.read_on.Statement.{statement}
 use Rattle.desk.proofs.read_on.Tie as tie
 
@@ -22,13 +21,16 @@ laid s = laidOf (s .args .desk) (s .args .room .now) (s .args .ledger .now) (s .
 
 -- the room is long enough
 long : (s : tie.Start) → s .args .desk .opening .cycle ≤ length (s .args .room .now)
-long s = started-fits (laid s) (s .pre .1) .0
+long s = started-fits (laid s) (s .pre .2) .0
+
+ground : (s : tie.Start) → (let x = laid s in readGround (x .desk .reading) (lentCycle x) (x .memory .ledger) (x .memory .map) ≡ 0)
+ground s = started-fits (laid s) (s .pre .2) .1
 
 slice-aggregate-read-fields : tie.Need-slice-aggregate-read-fields
 slice-aggregate-read-fields c = let s = entry (c .before) in sym (length-take-le (s .args .desk .opening .cycle) (s .args .room .now) (long s))
 
 read-fields-requires : tie.Need-read-fields-requires
-read-fields-requires c κs = let s = entry (c .before .before .before) in started-fits (laid s) (s .pre .1) .1
+read-fields-requires c κs = ground (entry (c .before .before .before))
 
 outcome-of-requires : tie.Need-outcome-of-requires
 outcome-of-requires c κs = search needs
@@ -41,8 +43,7 @@ add-t19 c =
       arith,
       s .pre .0,
       s .good .1 .0 .0,
-      ap (λ (y : Left AllAnswer). y .answer .fields) (x .read-fields .ensures),
-      all-size (laid s) (s .args .input .now),
+      all-size (laid s) (s .args .input .now) (ground s) (x .read-fields .ensures),
     )
 
 same-length : tie.Need-same-length
@@ -55,7 +56,7 @@ returns : tie.Need-returns
 returns c =
     let x = c .before .before .before .before .before .before in
     let s = entry (x .before .before .before .before) in
-    read-left (laid s) (s .args .input .now) (long s) (x .read-fields .ensures) (c .before .outcome-of .ensures)
+    read-left (laid s) (s .args .input .now) (ground s) (s .pre .1) (x .read-fields .ensures) (c .before .outcome-of .ensures)
 
 pub read-on-spec : {M : Type 1} → statement M
 read-on-spec =

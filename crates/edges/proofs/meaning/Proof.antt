@@ -11,7 +11,7 @@ use lib.Signed.{ltZ}
 use borrow.Author.Tests.{eq-eqb, ne-eqb}
 use mir.Syntax.{Width, w32, w64}
 use mir.Val.{toZ, ofZ, SFits, hbits}
-use Rattle.numbers.specs.Whole.{eqZ}
+use Rattle.rules.specs.Words.{eqZ}
 use Rattle.numbers.proofs.Whole.{of-nat}
 use Rattle.numbers.proofs.Signed.{read, read-eq, sfits, sized-fits}
 use Rattle.edges.specs.declared.Got.the-variants.{Again, Failed}

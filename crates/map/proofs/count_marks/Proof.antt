@@ -5,7 +5,7 @@ use Prim.Native.Nat.{ℕ, _+_, _-_, _*_, _≤_}
 use native.Mathlib.Omega.{arith}
 use lib.Count.{ones, ones-le}
 use lib.ListN.{getD}
-use Rattle.numbers.specs.Range.{fold}
+use Rattle.rules.specs.Words.{fold}
 use Rattle.numbers.proofs.Range.{fold-more}
 use Rattle.rules.specs.Shown.{mapWords}
 use Rattle.map.proofs.Marks.{onesIn}

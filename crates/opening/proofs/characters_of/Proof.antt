@@ -5,7 +5,7 @@ use mathlib.Core.Path.{ap, _∙_}
 use Prim.Native.Nat.{ℕ}
 use borrow.Author.Needs.{needs}
 use lib.ListN.{drop, replicate}
-use Rattle.opening.specs.Answers.{written}
+use Rattle.records.specs.Stage.{written}
 use Rattle.opening.proofs.characters_of.Statement.{statement}
 use Rattle.opening.proofs.characters_of.Tie as tie
 

@@ -9,7 +9,7 @@ use native.Mathlib.Omega.{arith}
 use borrow.Author.Needs.{needs}
 use lib.ListN.{length, getD, set, drop, length-set}
 use lib.Seq.{paste, paste-zero, paste-suc, take-length}
-use Rattle.opening.specs.Answers.{written}
+use Rattle.records.specs.Stage.{written}
 use Rattle.opening.proofs.keep.Statement.{statement}
 use Rattle.opening.proofs.keep.Tie as tie
 

@@ -3,7 +3,7 @@
 use mathlib.Core.Path.{sym, ap}
 use borrow.Author.Needs.{needs}
 use lib.Seq.{length-take-le}
-use Rattle.sheet.specs.Text.{sheetText}
+use Rattle.rules.specs.Text.{sheetText}
 use Rattle.figures.specs.declared.Found.{Found}
 use Rattle.prints.proofs.Texts.{as-text}
 use Rattle.prints.proofs.print_run.Statement.{statement}

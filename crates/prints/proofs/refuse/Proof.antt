@@ -2,7 +2,7 @@
 -- Assumes nothing.
 use mathlib.Core.Path.{ap}
 use borrow.Author.Needs.{needs}
-use Rattle.sheet.specs.Text.{refusalText}
+use Rattle.rules.specs.Text.{refusalText}
 use Rattle.prints.proofs.Texts.{as-text}
 use Rattle.prints.proofs.refuse.Statement.{statement}
 use Rattle.prints.proofs.refuse.Tie as tie

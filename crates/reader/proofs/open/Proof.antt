@@ -3,11 +3,10 @@
 use mathlib.Core.Path.{_≡_, refl, sym, _∙_}
 use native.Mathlib.Omega.{arith}
 use borrow.Author.Needs.{needs}
-use Rattle.fields.specs.declared.Front.the-variants.{Field as field}
-use Rattle.fields.specs.Fields.{frontOf}
-use Rattle.fields.proofs.Fronts.{Whole, sizes, front-whole, lent-allowed}
+use Rattle.laws.proofs.Tags.{sizes}
+use Rattle.fields.proofs.Fronts.{Whole, said-whole, said-incomplete, said-impossible}
 use Rattle.opening.specs.Answers.{openGround, openLeft}
-use Rattle.opening.proofs.Starting.{ground-refuses, ground-passes, whole-opens}
+use Rattle.opening.proofs.Starting.{ground-refuses, ground-passes}
 use Rattle.reader.proofs.open.Statement.{statement}
 use Rattle.reader.proofs.open.Tie as tie
 
@@ -22,11 +21,8 @@ passed c = sym (c .before .open-refusal .ensures) ∙ c .if1 .left
 abbrev tested : tie.After-front → tie.Else1
 tested c = c .before .before .before
 
-at-front : (c : tie.After-front) → frontOf (entry (tested c) .args .input .now) ≡ field (c .front .given .0 .0) (c .front .given .0 .1 .0)
-at-front c = sym (c .before .before .front-of .ensures) ∙ c .front .given .1
-
 whole : (c : tie.After-front) → Whole (entry (tested c) .args .input .now) (c .front .given .0 .0) (c .front .given .0 .1 .0)
-whole c = front-whole _ _ _ (at-front c)
+whole c = said-whole _ _ _ (sym (c .before .before .front-of .ensures) ∙ c .front .given .1)
 
 open-refusal-requires : tie.Need-open-refusal-requires
 open-refusal-requires c κs = search needs
@@ -59,7 +55,7 @@ enum-known-front : tie.Need-enum-known-front
 enum-known-front c = search needs
 
 add-open-whole : tie.Need-add-open-whole
-add-open-whole c = omega (arith, sizes _ _ (whole (c .before .before .before .before) .allowed) .most)
+add-open-whole c = let w = whole (c .before .before .before .before) in omega (arith, sizes _ _ (w .allowed) .most, w .size)
 
 sub-open-whole : tie.Need-sub-open-whole
 sub-open-whole c = search needs
@@ -73,7 +69,7 @@ part-open-whole-end c = whole (c .before .before .before .before) .long
 open-whole-requires : tie.Need-open-whole-requires
 open-whole-requires c κs =
     let known = c .before .before .before .before .before in
-    (lent-allowed _ _ _ (whole known), passed (tested known))
+    (whole known .allowed, passed (tested known))
 
 same-length-2 : tie.Need-same-length-2
 same-length-2 c = search needs
@@ -83,7 +79,7 @@ returns-2 c =
     let front = c .before .before in
     let a = entry (front .before) .args in
     ground-passes (a .opening) (a .room .now) (a .ledger .now) (a .map .now) (a .input .now) (passed (front .before))
-    (sym (c .enum-told .given .1) ∙ front .front-of .ensures) refl
+    (said-incomplete _ (sym (front .front-of .ensures) ∙ c .enum-told .given .1)) refl
 
 same-length-3 : tie.Need-same-length-3
 same-length-3 c = search needs
@@ -94,7 +90,7 @@ returns-3 c =
     let front = told .before .before in
     let a = entry (front .before) .args in
     ground-passes (a .opening) (a .room .now) (a .ledger .now) (a .map .now) (a .input .now) (passed (front .before))
-    (sym (told .enum-told2 .given .1) ∙ front .front-of .ensures) (λ i. openLeft (c .refused-at2 .ensures i) (a .room .now) (a .ledger .now) (a .map .now))
+    (said-impossible _ (sym (front .front-of .ensures) ∙ told .enum-told2 .given .1)) (λ i. openLeft (c .refused-at2 .ensures i) (a .room .now) (a .ledger .now) (a .map .now))
 
 same-length-4 : tie.Need-same-length-4
 same-length-4 c = search needs
@@ -110,7 +106,7 @@ returns-4 c =
     let taken = c .before .before .before .before .before in
     let known = taken .before .before .before .before .before .before in
     let a = entry (tested known) .args in
-    whole-opens (a .opening) (a .room .now) (a .ledger .now) (a .map .now) (a .input .now) (passed (tested known)) _ _ (at-front known) (taken .open-whole .ensures)
+    ground-passes (a .opening) (a .room .now) (a .ledger .now) (a .map .now) (a .input .now) (passed (tested known)) (whole known .is) (taken .open-whole .ensures)
 
 pub open-spec : {M : Type 1} → statement M
 open-spec =

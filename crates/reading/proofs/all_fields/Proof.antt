@@ -5,7 +5,6 @@ use Prim.Native.Nat.{_+_, _-_, _≤_}
 use native.Mathlib.Omega.{arith}
 use borrow.Author.Needs.{needs}
 use lib.ListN.{length}
-use Rattle.rules.specs.Regular.{Plan, plan}
 use Rattle.state.specs.State.{left}
 use Rattle.reading.proofs.Loop.{Past, past-none, turn, turn-end, turn-size, nothing-left}
 use Rattle.reading.proofs.all_fields.Statement.{statement}
@@ -14,7 +13,7 @@ use Rattle.reading.proofs.all_fields.Tie as tie
 abbrev Inv-loop : tie.InvT-loop
 Inv-loop me b t ledger₀ map₀ input size along₀ fields₀ used₀ ledger map along fields used =
     (length ledger ≡ length ledger₀) × (length map ≡ length map₀)
-    × Past me (plan b t) (left along₀ ledger₀ map₀) input fields used (left along ledger map)
+    × Past me b t (left along₀ ledger₀ map₀) input fields used (left along ledger map)
 
 abbrev μ-loop : tie.MeasureT-loop
 μ-loop me b t ledger₀ map₀ input size along₀ fields₀ used₀ ledger map along fields used = length input - used
@@ -29,20 +28,16 @@ entry c = c .before .before .before .before .before
 abbrev answer : tie.After-bytes-of Inv-loop μ-loop → tie.After-one-field Inv-loop μ-loop
 answer c = c .before .before .before .before .before
 
--- the plan
-abbrev p : tie.At-loop Inv-loop μ-loop → Plan
-p c = let a = entry c .args in plan (a .cycle .now) (a .t)
-
 sized : (c : tie.Else1 Inv-loop μ-loop) → (let at = place (c .before) in (3 ≤ c .before .bytes-of .result) × (at .loop .used + c .before .bytes-of .result ≤ length (entry at .args .input .now)))
 sized c =
     let f = c .before in
     let at = place f in
-    turn-size (entry at .args .me .now) (p at) (at .loop .inv .2) (answer f .one-field .ensures) (f .bytes-of .ensures) (c .if1 .left)
+    turn-size (entry at .args .me .now) (entry at .args .cycle .now) (entry at .args .t) (at .loop .inv .2) (answer f .one-field .ensures) (f .bytes-of .ensures) (c .if1 .left)
 
 loop-holds : tie.Need-loop-holds Inv-loop μ-loop
 loop-holds c =
     let s = c .before .before .before .before in
-    (refl, refl, past-none (s .args .me .now) _ _ _ (s .pre))
+    (refl, refl, past-none (s .args .me .now) (s .args .cycle .now) (s .args .t) _ _ (s .pre))
 
 sub-one-field : tie.Need-sub-one-field Inv-loop μ-loop
 sub-one-field c = c .before .before .before .loop .inv .2 .within
@@ -69,7 +64,7 @@ returns : tie.Need-returns Inv-loop μ-loop
 returns c =
     let f = c .before in
     let at = place f in
-    turn-end (entry at .args .me .now) (p at) (at .loop .inv .2) (answer f .one-field .ensures) (f .bytes-of .ensures) (c .if1 .taken)
+    turn-end (entry at .args .me .now) (entry at .args .cycle .now) (entry at .args .t) (at .loop .inv .2) (answer f .one-field .ensures) (f .bytes-of .ensures) (c .if1 .taken)
 
 add-fields : tie.Need-add-fields Inv-loop μ-loop
 add-fields c = let at = place (c .before) in omega (arith, sized c, at .loop .inv .2 .fewer, entry at .good .1 .1 .1 .1 .1 .1 .0 .0)
@@ -84,7 +79,7 @@ loop-again : tie.Need-loop-again Inv-loop μ-loop
 loop-again c =
     let f = c .before in
     let at = place f in
-    (search needs, search needs, turn (entry at .args .me .now) (p at) (at .loop .inv .2) (answer f .one-field .ensures) (f .bytes-of .ensures) (c .if1 .left))
+    (search needs, search needs, turn (entry at .args .me .now) (entry at .args .cycle .now) (entry at .args .t) (at .loop .inv .2) (answer f .one-field .ensures) (f .bytes-of .ensures) (c .if1 .left))
 
 same-length-3 : tie.Need-same-length-3 Inv-loop μ-loop
 same-length-3 c = search needs
@@ -96,7 +91,7 @@ returns-2 : tie.Need-returns-2 Inv-loop μ-loop
 returns-2 c =
     let at = c .before in
     let within = at .loop .inv .2 .within in
-    nothing-left (entry at .args .me .now) (p at) (at .loop .inv .2) (omega arith)
+    nothing-left (entry at .args .me .now) (entry at .args .cycle .now) (entry at .args .t) (at .loop .inv .2) (omega arith)
 
 pub all-fields-spec : {M : Type 1} → statement M
 all-fields-spec =

@@ -1,85 +1,31 @@
--- `reading::take_content` meets its contract: an own block is taken by the judge, and all else leaves the run as it is.
+-- `reading::take_content` meets its contract: what is brought is taken, and all else leaves the run as it is.
 -- Assumes nothing.
-use mathlib.Core.List.{List}
-use mathlib.Core.Path.{refl, ap, subst⁻¹, _∙_}
-use Prim.Native.Nat.{ℕ, _+_, _≤_}
+use mathlib.Core.List.{[]}
 use borrow.Author.Needs.{needs}
-use lib.ListN.{length}
-use mir.Syntax.{w64}
-use mir.Val.{SFits}
-use Rattle.numbers.proofs.Lists.{part-rest}
-use Rattle.rules.specs.Bench.{mostOffered}
-use Rattle.blocks.specs.Blocks.{samplesIn, areSamples}
-use Rattle.contents.specs.declared.Content.the-variants.{Foreign, Before, After, Recharge, Refused}
-use Rattle.reading.proofs.Taking.{by-content, own-taken, left-by, as-held}
+use Rattle.reading.specs.declared.Step.the-variants as step
+use Rattle.reading.proofs.Taking.{by-content, brought-taken, passed-taken, unmoved}
 use Rattle.reading.proofs.take_content.Statement.{statement}
 use Rattle.reading.proofs.take_content.Tie as tie
 
-abbrev entry : tie.After-amounts → tie.Start
-entry c = c .before .before .before .before .before
-
--- the energies that were there
-before-fits : (s : tie.Start) → SFits w64 (s .args .k .amounts .before)
-before-fits s = search needs
-
-after-fits : (s : tie.Start) → SFits w64 (s .args .k .amounts .after)
-after-fits s = search needs
-
--- the value has 21 bytes before its samples
-long : (c : tie.After-enum-told) → 21 ≤ length (entry (c .before .before) .args .v .now)
-long c = entry (c .before .before) .pre .long (c .enum-told .given .1)
-
-enum-told : tie.Need-enum-told
-enum-told c = search needs
-
-sub-take-block : tie.Need-sub-take-block
-sub-take-block c = long (c .before .before)
-
-part-take-block-start : tie.Need-part-take-block-start
-part-take-block-start c = long (c .before .before)
-
-part-take-block-end : tie.Need-part-take-block-end
-part-take-block-end c = search needs
-
-take-block-requires : tie.Need-take-block-requires
-take-block-requires c κs =
-    let told = c .before .before .before in
-    let s = entry (told .before .before) in
-    let own = told .enum-told .given .1 in
-    let e = part-rest 21 (s .args .v .now) in (
-      s .pre .kept,
-      (
-        subst⁻¹ (λ (q : List ℕ). s .args .k .going .progress .offered + samplesIn q ≤ mostOffered) e (s .pre .room own),
-        ap (λ (q : List ℕ). areSamples q (samplesIn q)) e ∙ s .pre .samples own,
-      ),
-    )
-
-enum-told-2 : tie.Need-enum-told-2
-enum-told-2 c = search needs
-
-with-passed-requires : tie.Need-with-passed-requires
-with-passed-requires c κs = entry (c .before .before) .pre .count (c .enum-told2 .given .1)
+abbrev entry : tie.After-shared-slice-known2 → tie.Start
+entry c = c .before .before .before
 
 enum-known-c : tie.Need-enum-known-c
 enum-known-c c = search needs
 
-with-amounts-requires : tie.Need-with-amounts-requires
-with-amounts-requires c κs = search needs
+bring-requires : tie.Need-bring-requires
+bring-requires c κs =
+    let known = c .before .before .before in
+    entry (known .before .before) .pre .brings _ (known .c .given .1)
+
+enum-told : tie.Need-enum-told
+enum-told c = search needs
+
+with-passed-requires : tie.Need-with-passed-requires
+with-passed-requires c κs = entry (c .before .before) .pre .count (c .enum-told .given .1)
 
 enum-known-c-2 : tie.Need-enum-known-c-2
 enum-known-c-2 c = search needs
-
-with-amounts-requires-2 : tie.Need-with-amounts-requires-2
-with-amounts-requires-2 c κs = search needs
-
-enum-known-c-3 : tie.Need-enum-known-c-3
-enum-known-c-3 c = search needs
-
-with-amounts-requires-3 : tie.Need-with-amounts-requires-3
-with-amounts-requires-3 c κs = search needs
-
-enum-known-c-4 : tie.Need-enum-known-c-4
-enum-known-c-4 c = search needs
 
 same-length : tie.Need-same-length
 same-length c = search needs
@@ -90,75 +36,38 @@ same-length-2 c = search needs
 returns : tie.Need-returns
 returns c =
     let taken = c .before .before .before in
-    let told = taken .before .before .before .before in
-    let a = entry (told .before .before) .args in
-    by-content (a .cycle .now) (a .t) (a .k) (a .ledger .now) (a .map .now) (a .v .now) (a .n) (told .enum-told .given .1)
-    (own-taken (a .cycle .now) (a .t) (a .k) (a .ledger .now) (a .map .now) (a .v .now) (a .n) (part-rest 21 (a .v .now)) (taken .take-block .ensures))
+    let known = taken .before .before .before .before in
+    let a = entry (known .before .before) .args in
+    by-content (a .cycle .now) (a .t) (a .k) (a .ledger .now) (a .map .now) (a .v .now) (a .n) (known .c .given .1)
+    (brought-taken (a .cycle .now) (a .t) (a .k) (a .ledger .now) (a .map .now) (a .v .now) (a .n) (known .c .given .0 .0) (taken .bring .ensures))
 
 returns-2 : tie.Need-returns-2
 returns-2 c =
     let told = c .before in
     let s = entry (told .before .before) in
     let a = s .args in
-    left-by (a .cycle .now) (a .t) (a .k) (a .ledger .now) (a .map .now) (a .v .now) (a .n) (s .pre .kept) Foreign (told .enum-told2 .given .1) refl (c .with-passed .ensures)
+    by-content (a .cycle .now) (a .t) (a .k) (a .ledger .now) (a .map .now) (a .v .now) (a .n) (told .enum-told .given .1)
+    (passed-taken (a .cycle .now) (a .t) (a .k) (a .ledger .now) (a .map .now) (a .v .now) (a .n) (s .pre .kept) (c .with-passed .ensures))
 
 returns-3 : tie.Need-returns-3
 returns-3 c =
-    let known = c .before .before .before in
-    let s = entry (known .before .before) in
-    let a = s .args in
-    let e = known .c .given in
-    let fits : SFits w64 (e .0 .0) = search needs in
-    left-by (a .cycle .now) (a .t) (a .k) (a .ledger .now) (a .map .now) (a .v .now) (a .n) (s .pre .kept) (Before (e .0 .0)) (e .1) refl (as-held (a .k) fits (after-fits s) (c .with-amounts .ensures))
-
-returns-4 : tie.Need-returns-4
-returns-4 c =
-    let known = c .before .before .before in
-    let s = entry (known .before .before) in
-    let a = s .args in
-    let e = known .c2 .given in
-    let fits : SFits w64 (e .0 .0) = search needs in
-    left-by (a .cycle .now) (a .t) (a .k) (a .ledger .now) (a .map .now) (a .v .now) (a .n) (s .pre .kept) (After (e .0 .0)) (e .1) refl (as-held (a .k) (before-fits s) fits (c .with-amounts2 .ensures))
-
-returns-5 : tie.Need-returns-5
-returns-5 c =
-    let known = c .before .before .before .before in
-    let s = entry (known .before .before) in
-    let a = s .args in
-    let e = known .c3 .given in
-    left-by (a .cycle .now) (a .t) (a .k) (a .ledger .now) (a .map .now) (a .v .now) (a .n) (s .pre .kept) (Recharge (e .0 .0)) (e .1) refl (as-held (a .k) (before-fits s) (after-fits s) (c .with-amounts3 .ensures))
-
-returns-6 : tie.Need-returns-6
-returns-6 c =
     let known = c .before in
     let s = entry (known .before .before) in
     let a = s .args in
-    let e = known .c4 .given in
-    left-by (a .cycle .now) (a .t) (a .k) (a .ledger .now) (a .map .now) (a .v .now) (a .n) (s .pre .kept) (Refused (e .0 .0)) (e .1) refl refl
+    by-content (a .cycle .now) (a .t) (a .k) (a .ledger .now) (a .map .now) (a .v .now) (a .n) (known .c2 .given .1)
+    (unmoved (a .cycle .now) (a .t) (a .k) (a .ledger .now) (a .map .now) [] (s .pre .kept) (step.Refused (known .c2 .given .0 .0)))
 
 pub take-content-spec : {M : Type 1} → statement M
 take-content-spec =
     tie.close
     (tie.spec
-    enum-told
-    sub-take-block
-    part-take-block-start
-    part-take-block-end
-    take-block-requires
-    enum-told-2
-    with-passed-requires
     enum-known-c
-    with-amounts-requires
+    bring-requires
+    enum-told
+    with-passed-requires
     enum-known-c-2
-    with-amounts-requires-2
-    enum-known-c-3
-    with-amounts-requires-3
-    enum-known-c-4
     same-length
     same-length-2
     returns
     returns-2
-    returns-3
-    returns-4
-    returns-5
-    returns-6)
+    returns-3)

@@ -2,7 +2,7 @@
 -- Assumes nothing.
 use native.Mathlib.Omega.{arith}
 use borrow.Author.Needs.{needs}
-use Rattle.sheet.specs.Text.{refusalText}
+use Rattle.rules.specs.Text.{refusalText}
 use Rattle.sheet.proofs.Overlaid.{wrote-then, kept-whole, too-short}
 use Rattle.sheet.proofs.refusal_line.Statement.{statement}
 use Rattle.sheet.proofs.refusal_line.Tie as tie

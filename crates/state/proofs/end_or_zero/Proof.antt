@@ -5,7 +5,7 @@ use native.Mathlib.Omega.{arith}
 use borrow.Author.Needs.{needs}
 use borrow.Author.Tests.{lt-ltb, le-ltb}
 use Rattle.rules.specs.Cycle.{phases}
-use Rattle.rules.proofs.Sound.{sound}
+use Rattle.laws.proofs.Sound.{sound}
 use Rattle.state.proofs.end_or_zero.Statement.{statement}
 use Rattle.state.proofs.end_or_zero.Tie as tie
 

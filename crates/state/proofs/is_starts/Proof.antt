@@ -6,7 +6,7 @@ use native.Mathlib.Omega.{arith}
 use borrow.Author.Needs.{needs}
 use borrow.Author.Tests.{not-true, not-false, eq-eqb, ne-eqb}
 use Rattle.rules.specs.Cycle.{valid}
-use Rattle.rules.proofs.Sound.{sound}
+use Rattle.laws.proofs.Sound.{sound}
 use Rattle.state.specs.State.{isStarts}
 use Rattle.state.proofs.is_starts.Statement.{statement}
 use Rattle.state.proofs.is_starts.Tie as tie

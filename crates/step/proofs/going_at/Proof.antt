@@ -5,7 +5,7 @@ use Prim.Native.Nat.{ℕ, _*_, _/_, _%_, _<_}
 use native.Mathlib.Nat.{mod-lt, div-le-self}
 use native.Mathlib.Omega.{arith}
 use Rattle.rules.specs.Cycle.{positions, phaseAt}
-use Rattle.rules.proofs.Sound.{Sound, sound, real, phase-exists}
+use Rattle.laws.proofs.Sound.{Sound, sound, real, phase-exists}
 use Rattle.window.specs.Moving.{windowOf}
 use Rattle.step.specs.Step.{untilAt}
 use Rattle.step.proofs.Placing.{until-made}

@@ -5,7 +5,7 @@ use mathlib.Core.Path.{ap, _∙_}
 use Prim.Native.Nat.{ℕ}
 use borrow.Author.Needs.{needs}
 use lib.Dec.{eqb}
-use Rattle.rules.proofs.Band.{side-zero}
+use Rattle.laws.proofs.Band.{side-zero}
 use Rattle.step.proofs.is_outside.Statement.{statement}
 use Rattle.step.proofs.is_outside.Tie as tie
 

@@ -9,7 +9,7 @@ use lib.IntN.{ℤ}
 use Rattle.rules.specs.Regular.{plan, courseOf}
 use Rattle.state.specs.State.{left}
 use Rattle.step.specs.Step.{State, Going, outNow, judge, standing, held, leftAt, Kept}
-use Rattle.rules.proofs.Sound.{Sound, sound}
+use Rattle.laws.proofs.Sound.{Sound, sound}
 use Rattle.step.proofs.Standing.{position-most, phase-small, row-small}
 use Rattle.step.proofs.Keeping.{number-small}
 use Rattle.step.proofs.Steps.{out-in, ledger-is, map-is, stops-is, goes-is}

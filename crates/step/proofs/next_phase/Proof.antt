@@ -7,7 +7,7 @@ use native.Mathlib.Numerals.{add-one}
 use native.Mathlib.Omega.{arith}
 use borrow.Author.Needs.{needs}
 use Rattle.rules.specs.Cycle.{phases, phaseEnd, phaseAt, positions}
-use Rattle.rules.proofs.Sound.{Sound, sound, phase-exists, phase-stays, phase-next}
+use Rattle.laws.proofs.Sound.{Sound, sound, phase-exists, phase-stays, phase-next}
 use Rattle.step.proofs.next_phase.Statement.{statement}
 use Rattle.step.proofs.next_phase.Tie as tie
 

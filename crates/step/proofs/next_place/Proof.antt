@@ -6,7 +6,7 @@ use native.Mathlib.Omega.{arith}
 use borrow.Author.Needs.{needs}
 use Rattle.rules.specs.Cycle.{phaseAt}
 use Rattle.rules.specs.Regular.{cycleOf, positionOf}
-use Rattle.rules.proofs.Sound.{Sound, sound}
+use Rattle.laws.proofs.Sound.{Sound, sound}
 use Rattle.rules.specs.Bench.{mostPositions, mostCycles}
 use Rattle.step.proofs.Standing.{position-is, row-is, phase-is, position-most, row-small}
 use Rattle.step.proofs.Placing.{next-within, next-first}

@@ -3,7 +3,7 @@
 use mathlib.Core.Bool.{false}
 use mathlib.Core.Path.{_≡_, sym, ap, _∙_}
 use borrow.Author.Needs.{needs}
-use Rattle.rules.specs.Bench.{isOpen}
+use Rattle.laws.specs.Beside.{isOpen}
 use Rattle.rules.specs.Course.{Course}
 use Rattle.rules.specs.Regular.{plan, courseOf}
 use Rattle.state.specs.State.{left}

@@ -6,7 +6,7 @@ use native.Mathlib.Nat.{mod-lt}
 use native.Mathlib.Omega.{arith}
 use Rattle.rules.specs.Cycle.{phases, positions}
 use Rattle.rules.specs.Regular.{positionOf}
-use Rattle.rules.proofs.Sound.{Sound, sound, real, phase-exists}
+use Rattle.laws.proofs.Sound.{Sound, sound, real, phase-exists}
 use Rattle.step.specs.Step.{Next}
 use Rattle.step.proofs.Placing.{turned-is}
 use Rattle.step.proofs.turned_by.Statement.{statement}

@@ -6,7 +6,7 @@ use mathlib.Core.Path.{ap, _∙_}
 use lib.IntN.{pos, negℤ}
 use mir.Syntax.{w16, w64}
 use mir.Val.{SFits}
-use Rattle.numbers.specs.Whole.{between}
+use Rattle.rules.specs.Words.{between}
 use Rattle.numbers.proofs.Signed.{widen, read, read-wide}
 use Rattle.rules.specs.Bench.{isSample, mostCurrent}
 use Rattle.values.proofs.is_sample.Statement.{statement}

@@ -3,7 +3,7 @@
 use mathlib.Core.Path.{sym, ap, _∙_}
 use Prim.Native.Nat.{_+_, _<_}
 use native.Mathlib.Omega.{arith}
-use Rattle.rules.proofs.Sound.{sound}
+use Rattle.laws.proofs.Sound.{sound}
 use Rattle.window.specs.Moving.{Window, shifted, windowOf}
 use Rattle.window.proofs.Moves.{shifts, left-small, right-small}
 use Rattle.window.proofs.shift.Statement.{statement}

@@ -6,7 +6,7 @@ use lib.ListN.{take}
 use lib.Seq.{length-take-le}
 use Rattle.desk.specs.declared.Outcome.the-variants.{Refused}
 use Rattle.desk.specs.Feeding.{Laid, Consumed, laidOf}
-use Rattle.desk.proofs.Onward.{feed-used}
+use Rattle.desk.proofs.LeftOver.{feed-used}
 use Rattle.intake.proofs.Fed.{fed-turn, more-turn}
 use borrow.Author.Needs.{needs}
 use Rattle.intake.proofs.parts.digest.Statement.{statement}

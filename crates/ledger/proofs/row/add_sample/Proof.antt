@@ -18,7 +18,7 @@ use Rattle.numbers.proofs.Whole.{of-nat, sized-add, small-plus}
 use Rattle.numbers.proofs.Signed.{sfits, read}
 use Rattle.rules.specs.declared.Moment.{Moment}
 use Rattle.rules.specs.Bench.{mostShareEnergy, mostShareDistance}
-use Rattle.rules.proofs.Bounds.{Within, within}
+use Rattle.laws.proofs.Bounds.{Within, within}
 use Rattle.ledger.specs.Row.{at, outsideAdded, isOver, sampleAdded, mostHeld}
 use Rattle.ledger.proofs.Rows.{small-outside, added-over, added-not-over}
 use Rattle.ledger.proofs.row.add_sample.Statement.{statement}

@@ -5,7 +5,7 @@ use Prim.Native.Nat.{_-_}
 use native.Mathlib.Omega.{arith}
 use mir.Syntax.{w64}
 use mir.Val.{toZ, ofZ}
-use Rattle.numbers.specs.Range.{fold}
+use Rattle.rules.specs.Words.{fold}
 use Rattle.numbers.proofs.Signed.{read}
 use Rattle.numbers.proofs.Sums.{Summed, Added, added, summed-all}
 use Rattle.ledger.specs.Row.{energyIn}

@@ -9,7 +9,7 @@ use borrow.Author.Tests.{lt-ltb}
 use lib.IntN.{ℤ}
 use mir.Syntax.{w64}
 use mir.Val.{hbits, toZ, ofZ}
-use Rattle.numbers.specs.Range.{fold}
+use Rattle.rules.specs.Words.{fold}
 use Rattle.numbers.proofs.Signed.{read}
 use Rattle.numbers.proofs.Sums.{Summed, Added, added, summed-all}
 use Rattle.numbers.proofs.Tests.{true-T}

@@ -3,7 +3,7 @@
 use borrow.Author.Needs.{needs}
 use mathlib.Core.Path.{_∙_, ap, sym}
 use lib.IntN.{pos, negℤ}
-use Rattle.numbers.specs.Whole.{between}
+use Rattle.rules.specs.Words.{between}
 use Rattle.numbers.proofs.Signed.{read}
 use Rattle.rules.specs.Shown.{mostEnergy, mostDistance, mostOutside}
 use Rattle.ledger.proofs.Bounded.{bounds-energy, bounds-distance, bounds-outside}

@@ -8,7 +8,7 @@ use native.Mathlib.Omega.{arith}
 use borrow.Author.Needs.{needs}
 use lib.ListN.{length}
 use Rattle.numbers.proofs.Tests.{pass, stop}
-use Rattle.sheet.specs.Text.{closingLines}
+use Rattle.rules.specs.Text.{closingLines}
 use Rattle.sheet.proofs.Overlaid.{nothing, wrote-then, wrote-most, wrote-is}
 use Rattle.sheet.proofs.lines.closing_lines.Statement.{statement}
 use Rattle.sheet.proofs.lines.closing_lines.Tie as tie

@@ -7,7 +7,7 @@ use lib.IntN.{ℤ}
 use mir.Syntax.{w64}
 use mir.Val.{SFits}
 use Rattle.numbers.proofs.Signed.{read}
-use Rattle.sheet.specs.Text.{line, signed, countLines}
+use Rattle.rules.specs.Text.{line, signed, countLines}
 use Rattle.sheet.proofs.Overlaid.{wrote-then, wrote-most, wrote-is}
 use Rattle.sheet.proofs.lines.count_lines.Statement.{statement}
 use Rattle.sheet.proofs.lines.count_lines.Tie as tie

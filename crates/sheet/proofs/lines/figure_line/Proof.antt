@@ -1,7 +1,7 @@
 -- `sheet::lines::figure_line` meets its contract: each case is a line.
 -- Assumes nothing.
 use borrow.Author.Needs.{needs}
-use Rattle.sheet.specs.Text.{figureLine}
+use Rattle.rules.specs.Text.{figureLine}
 use Rattle.sheet.proofs.lines.figure_line.Statement.{statement}
 use Rattle.sheet.proofs.lines.figure_line.Tie as tie
 

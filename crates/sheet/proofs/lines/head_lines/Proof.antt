@@ -4,7 +4,7 @@ use mathlib.Core.Path.{_≡_}
 use native.Mathlib.Omega.{arith}
 use borrow.Author.Needs.{needs}
 use lib.ListN.{length}
-use Rattle.sheet.specs.Text.{headLines}
+use Rattle.rules.specs.Text.{headLines}
 use Rattle.sheet.proofs.Overlaid.{wrote-then, wrote-most}
 use Rattle.sheet.proofs.lines.head_lines.Statement.{statement}
 use Rattle.sheet.proofs.lines.head_lines.Tie as tie

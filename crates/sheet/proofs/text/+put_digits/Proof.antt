@@ -10,7 +10,7 @@ use borrow.Fn.Kinds.{In}
 use borrow.Fn.PlainCycle.{Measures, is, falls, and}
 use lib.Dec.{lit<}
 use lib.ListN.{length, length-append}
-use Rattle.sheet.specs.Text.{digits}
+use Rattle.rules.specs.Text.{digits}
 use Rattle.sheet.proofs.Digits.{tenth, digits-small, digits-more}
 use Rattle.sheet.proofs.Overlaid.{one-byte, wrote-is, wrote-tight, wrote-byte}
 use Rattle.sheet.proofs.text.put_digits.Reads as reads

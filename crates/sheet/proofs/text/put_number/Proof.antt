@@ -4,7 +4,7 @@ use Prim.Native.Nat.{_≤_}
 use native.Mathlib.Omega.{arith}
 use borrow.Author.Needs.{needs}
 use lib.ListN.{length}
-use Rattle.sheet.specs.Text.{digits}
+use Rattle.rules.specs.Text.{digits}
 use Rattle.sheet.proofs.Digits.{digits-most}
 use Rattle.sheet.proofs.Overlaid.{wrote-most, wrote-byte}
 use Rattle.sheet.proofs.text.put_number.Statement.{statement}

@@ -1,0 +1,74 @@
+-- The three demands: specs/Demand1.antt, Demand2.antt and Demand3.antt state them, and here each is proved from its parts.
+-- Assumes nothing.
+use mathlib.Core.List.{List}
+use mathlib.Core.Path.{_≡_}
+use lib.IntN.{ℤ}
+use Prim.Native.Nat.{ℕ}
+use Rattle.rules.specs.declared.Moment.{Moment}
+use Rattle.rules.specs.Regular.{Plan}
+use Rattle.state.specs.declared.Run.{Run}
+use Rattle.judge.proofs.Runs as runs
+use Rattle.intake.proofs.Told as intake
+use Rattle.demands.specs.Demand1.{Demand1}
+use Rattle.demands.specs.Demand2.{Demand2}
+use Rattle.demands.specs.Demand3.{Demand3}
+use Rattle.demands.specs.Runs.{Driven}
+use Rattle.demands.proofs.Takes.{takes-every-input}
+use Rattle.demands.proofs.HasItsNumber.{has-its-number}
+use Rattle.demands.proofs.InTheList.{in-the-list}
+use Rattle.demands.proofs.Unchanged.{refused-changes-nothing, lines-stay}
+use Rattle.demands.proofs.BeyondDesk.{beyond-stays}
+use Rattle.demands.proofs.Driven.{driven-reached}
+use Rattle.demands.proofs.OfRun.{run-shows, run-answers, weighted-holds}
+use Rattle.demands.proofs.NeverRefused.{never-refused}
+use Rattle.demands.proofs.Verdict.{verdict-is-the-judges}
+use Rattle.demands.proofs.ShutOut.{shuts-out, shuts-out-always}
+use Rattle.demands.proofs.SomeRecord.{speaks}
+use Rattle.demands.proofs.ForeignBlocks.{foreign-changes-nothing, read-passes-over}
+use Rattle.demands.proofs.Arrivals.{before-all, prints}
+use Rattle.demands.proofs.WiderRuns.{wider-run, longer-run}
+use Rattle.demands.proofs.Calls.{wider-calls, longer-calls}
+use Rattle.demands.proofs.Splits.{told-has-four}
+use Rattle.demands.proofs.ToldLaws.{told-grows}
+use Rattle.demands.proofs.Records.{field-four-alone, wider-record, longer-told, ended-stays, blocks-added-between}
+
+pub demand-1 : {M : Type 1} → Demand1 M
+demand-1 = record { takes = takes-every-input; numbers = has-its-number; listed = in-the-list; refused = refused-changes-nothing; lines = lines-stay; beyond = beyond-stays }
+
+-- "The same accepted samples cut into other blocks give the same run."
+same-run : {p : Plan} {l₀ : List ℤ} {m₀ : List ℕ} {xs : List Moment} {r r′ : Run} {l l′ : List ℤ} {m m′ : List ℕ}
+    → Driven p l₀ m₀ xs r l m → Driven p l₀ m₀ xs r′ l′ m′ → (r ≡ r′) × (l ≡ l′) × (m ≡ m′)
+same-run {p} {l₀} {m₀} h g = runs.cut-otherwise-same-run p l₀ m₀ (driven-reached p l₀ m₀ h) (driven-reached p l₀ m₀ g)
+
+pub demand-2 : Demand2
+demand-2 = record {
+  shows = run-shows;
+  answers = run-answers;
+  weighted = weighted-holds;
+  never-refused-1-or-2 = never-refused;
+  cut-otherwise-same-run = same-run;
+  verdict-is-the-judges = verdict-is-the-judges;
+  shuts-out = shuts-out;
+  shuts-out-always = shuts-out-always;
+  speaks = speaks;
+  foreign = foreign-changes-nothing;
+  read-passes-over = read-passes-over;
+  prints = prints;
+  before-all = before-all;
+  program = λ lent. record { take-record-prints = intake.take-record-prints lent; short-buffer-prints = intake.short-buffer-prints lent };
+}
+
+pub demand-3 : Demand3
+demand-3 = record {
+  wider-runs = wider-run;
+  longer-runs = longer-run;
+  wider-calls = wider-calls;
+  longer-calls = longer-calls;
+  told-has-four = told-has-four;
+  field-four-alone = field-four-alone;
+  wider-records = wider-record;
+  longer-record = told-grows;
+  longer-told = longer-told;
+  ended-stays = ended-stays;
+  blocks-added-between = blocks-added-between;
+}

@@ -1,0 +1,352 @@
+-- "Each refusal has a number": it is one of document 01's list, whatever is refused.
+-- Assumes nothing.
+use mathlib.Core.Bool.{Bool, true, false, cond, false≢true}
+use mathlib.Core.List.{List}
+use mathlib.Core.Path.{_≡_, refl, sym, ap, subst, _∙_}
+use Prim.Native.Nat.{ℕ, suc, _+_, _-_, _≤_, zero-le}
+use native.Mathlib.Omega.{arith}
+use borrow.Author.Tests.{eqb-false}
+use lib.Dec.{leb, eqb}
+use lib.IntN.{ℤ, _+ℤ_}
+use lib.ListN.{length, drop}
+use denote.Ref.{now}
+use Rattle.rules.specs.Words.{unless, settled}
+use Rattle.rules.specs.declared.Amounts.{Amounts}
+use Rattle.rules.specs.declared.Charge.{Charge}
+use Rattle.rules.specs.declared.Charge.the-variants.{Absent as absent, Wh as wh}
+use Rattle.rules.specs.declared.Figure.the-variants as figure
+use Rattle.rules.specs.Bench.{mostPassed}
+use Rattle.rules.specs.Closing.{closingRefusal, rechargeRefusal, chargedBy}
+use Rattle.rules.specs.Table.{Matter, mark, number, cycle, tolerances, block, energyBefore, energyAfter, recharge, behindTolerances, tags}
+use Rattle.rules.specs.Front.{Field, Front, incomplete, impossible, field, frontOf}
+use Rattle.rules.specs.Machine.{Reply, toField, notYet, noField, taken, passed, refused, End, waiting, broken, stopped, Ran, off, Answer, moveOf, replyAs, replyAt, run}
+use Rattle.rules.specs.Values.{sameNumber, firstIn, samplesOf, momentsIn, blockOr}
+use Rattle.rules.specs.Record.{Bring, ownSamples, Content, brought, foreign, wrong, blockContent, contentOf, fieldContent, answerBy, fieldAnswer, Told, contentAt, bringAt, morePassed, takeField, untold, told, refusedAt, sheetBy, sheetOf}
+use Rattle.laws.proofs.Carried.{by-field}
+use Rattle.laws.proofs.Prefixes.{run-stops}
+use Rattle.state.specs.State.{Left, left, ground}
+use Rattle.ledger.specs.Row.{energyIn, distanceIn, energyAll}
+use Rattle.state.specs.declared.Run.{Run}
+use Rattle.state.specs.Refusals.{startRefusal, sampleRefusal, cyclesBy}
+use Rattle.blocks.specs.Blocks.{blockRefusal}
+use Rattle.judge.specs.declared.Answer.the-variants as answer
+use Rattle.judge.specs.declared.ShownAnswer.the-variants as counts
+use Rattle.judge.specs.declared.TotalsAnswer.the-variants as sums
+use Rattle.consumption.specs.Figures.{closingIn}
+use Rattle.closing.specs.Answers.{refusalOf}
+use Rattle.records.specs.Stage.{Stage, contentOn, bringOn, passOn, replyOn, runOn}
+use Rattle.opening.specs.declared.Opening.{Opening}
+use Rattle.opening.specs.declared.OpenStep.the-variants as opening
+use Rattle.opening.specs.Answers.{OpenLeft, stageOf, runOf, openGround, notOpened, openedBy, frontOpened}
+use Rattle.reading.specs.declared.Reading.{Reading}
+use Rattle.reading.specs.declared.Step.the-variants as step
+use Rattle.reading.specs.Answers.{stageAt, stepOf, lastOf, readGround}
+use Rattle.reader.specs.declared.AllAnswer.{AllAnswer}
+use Rattle.reader.specs.declared.Ending.the-variants as ending
+use Rattle.reader.specs.declared.ReadAnswer.{ReadAnswer}
+use Rattle.reader.specs.Answers.{readBy, allBy, readLeft, allLeft, endingOf}
+use Rattle.desk.specs.declared.Outcome.the-variants as outcome
+use Rattle.desk.specs.Feeding.{Laid, Consumed, laidOf, stageOn, outcomeOf, deskGround, feedOf}
+use Rattle.desk.proofs.LeftOver.{by-feed}
+use Rattle.demands.specs.Cases.{Listed}
+use Rattle.demands.specs.Demand1.{InTheList}
+use Rattle.demands.proofs.Numbers.{along, either}
+
+-- ---- numbers: 0 where nothing is refused
+
+abbrev Few : ℕ → Type 0
+Few n = n ≤ 15
+
+few-unless : {n : ℕ} (t : Bool) {rest : ℕ} → Few n → Few rest → Few (unless n t rest)
+few-unless = along Few (λ (k : ℕ). k)
+
+few-cond : (t : Bool) (m n : ℕ) → Few m → Few n → Few (cond t m n)
+few-cond = either Few (λ (k : ℕ). k)
+
+few-ground : (r : Run) (b : List ℕ) (l : List ℤ) (m : List ℕ) (others : ℕ) → Few others → Few (ground r b l m others)
+unfolding ground
+few-ground r b l m others h = few-unless _ (omega arith) (few-unless _ (omega arith) h)
+
+few-closing : (E : ℤ) (n : ℕ) (e d : ℕ → ℤ) → Few (closingRefusal E n e d)
+unfolding closingRefusal
+few-closing E n e d =
+    few-unless _ (omega arith)
+    (few-unless _ (omega arith)
+    (few-unless _ (omega arith) (few-unless _ (omega arith) (few-unless _ (omega arith) (few-unless _ (omega arith) zero-le)))))
+
+few-reading : (r : Reading) (b : List ℕ) (l : List ℤ) (m : List ℕ) → Few (readGround r b l m)
+unfolding readGround
+few-reading r b l m = few-unless _ (omega arith) (few-ground (r .run) b l m 0 zero-le)
+
+few-opening : (o : Opening) (room : List ℕ) → Few (openGround o room)
+unfolding openGround
+few-opening o room = few-unless _ (omega arith) (few-unless _ (omega arith) zero-le)
+
+few-desk : (x : Laid) → Few (deskGround x)
+unfolding deskGround
+few-desk x =
+    few-unless _ (omega arith)
+    (few-cond (x .desk .started) _ _ (few-unless _ (omega arith) (few-reading (x .desk .reading) _ (x .memory .ledger) (x .memory .map))) (few-opening (x .desk .opening) (x .room)))
+
+listed : (k : ℕ) → Few k → (k ≡ 0 → ⊥) → Listed k
+listed k h some = record { from-1 = go k some; to-15 = h }
+  where
+    go : (k : ℕ) → (k ≡ 0 → ⊥) → 1 ≤ k
+    go k n = omega arith
+
+-- an answer by the number of its refusal
+settled-listed : {A : Type 0} (refusal : ℕ → A) (new : A) (k n : ℕ) → Few k → (new ≡ refusal n → Listed n) → (refusal k ≡ refusal n → k ≡ n)
+    → settled k new (refusal k) ≡ refusal n → Listed n
+settled-listed refusal new k n few ok same = go (eqb k 0) refl
+  where
+    go : (t : Bool) → eqb k 0 ≡ t → cond t new (refusal k) ≡ refusal n → Listed n
+    go true z e = ok e
+    go false z e = subst Listed (same e) (listed k few (eqb-false k 0 z))
+
+-- ---- what a field brings
+
+-- the number of a refusal; 1, which is one of the list, where nothing is refused
+abbrev asNumber : Content → ℕ
+asNumber (brought b) = 1
+asNumber foreign = 1
+asNumber (wrong n) = n
+
+abbrev Proper : Content → Type 0
+Proper c = Listed (asNumber c)
+
+at : (n : ℕ) → 1 ≤ n → n ≤ 15 → Listed n
+at n h g = record { from-1 = h; to-15 = g }
+
+one : Listed 1
+one = at 1 (omega arith) (omega arith)
+
+-- "for field 5: 4, pass over, 6, 7, 5 (a block passed over can only meet 7)"
+block-proper : (over : ℕ) (me : List ℕ) (offered : ℕ) (v : List ℕ) → Proper (blockContent over me offered v)
+unfolding blockContent
+block-proper over me offered v =
+    along Listed asNumber _ (at 4 (omega arith) (omega arith))
+    (either Listed asNumber (sameNumber me v) (blockOr wrong offered (firstIn v) (samplesOf v) (brought (ownSamples (momentsIn (samplesOf v))))) (unless (wrong 7) (leb (over + 1) mostPassed) foreign)
+    (along Listed asNumber _ (at 6 (omega arith) (omega arith))
+    (along Listed asNumber _ (at 7 (omega arith) (omega arith)) (along Listed asNumber _ (at 5 (omega arith) (omega arith)) one)))
+    (along Listed asNumber _ (at 7 (omega arith) (omega arith)) one))
+
+content-proper : (over : ℕ) (me course : List ℕ) (offered : ℕ) (m : Matter) (v : List ℕ) → Proper (contentOf over me course offered m v)
+content-proper over me course offered mark v = one
+content-proper over me course offered number v = along Listed asNumber _ (at 4 (omega arith) (omega arith)) one
+content-proper over me course offered cycle v = along Listed asNumber _ (at 2 (omega arith) (omega arith)) one
+content-proper over me course offered tolerances v =
+    along Listed asNumber _ (at 2 (omega arith) (omega arith)) (along Listed asNumber _ (at 3 (omega arith) (omega arith)) one)
+content-proper over me course offered block v = block-proper over me offered v
+content-proper over me course offered energyBefore v = along Listed asNumber _ (at 14 (omega arith) (omega arith)) one
+content-proper over me course offered energyAfter v = along Listed asNumber _ (at 14 (omega arith) (omega arith)) one
+content-proper over me course offered recharge v = along Listed asNumber _ (at 14 (omega arith) (omega arith)) one
+
+-- ---- the machine's answers, for a state of any kind whose contents are proper
+
+module _ {S : Type 0} (place : S → ℕ) (content : S → Matter → List ℕ → Content) (bring : S → ℕ → Bring → S) (pass : S → S)
+    (proper : (s : S) (m : Matter) (v : List ℕ) → Proper (content s m v)) where
+  abbrev act : S → Field → Answer S
+  act s f = fieldAnswer (place s) (content s) (bring s) (pass s) f
+
+  field-proper : (s : S) (f : Field) → Proper (fieldContent (place s) (content s) f)
+  field-proper s f = by-field Proper (place s) (content s) f (at 8 (omega arith) (omega arith)) (at 9 (omega arith) (omega arith)) (λ r _ _. proper s (r .holds) (f .value))
+
+  abbrev ProperReply : Reply S → Type 0
+  ProperReply y = (n k : ℕ) → y ≡ toField (refused n) k → Listed n
+
+  reply-proper : (s : S) (i : List ℕ) → ProperReply (replyAt tags act s i)
+  unfolding replyAt
+  reply-proper s i = go (frontOf tags i)
+    where
+      by : (s′ : ℕ → Bring → S) (m size : ℕ) (c : Content) → Proper c → ProperReply (toField (answerBy (s′ m) (pass s) c) size)
+      by s′ m size (brought b) p n k e = absurd (false≢true cc)
+      by s′ m size foreign p n k e = absurd (false≢true cc)
+      by s′ m size (wrong x) p n k e = let d : x ≡ n = cc e in subst Listed d p
+
+      go : (w : Front) → ProperReply (replyAs tags act s w)
+      go incomplete n k e = absurd (false≢true cc)
+      go impossible n k e = absurd (false≢true cc)
+      go (field f) n k e = by (bring s) _ _ (fieldContent (place s) (content s) f) (field-proper s f) n k e
+
+  pub end-proper : (s : S) (i : List ℕ) (n : ℕ) → run tags act s i .end ≡ stopped n → Listed n
+  end-proper s i n e =
+      let x = run tags act s i in
+      go (replyAt tags act (x .state) (drop (x .used) i)) refl (run-stops tags act s i ∙ ap off e)
+    where
+      go : (y : Reply S) → replyAt tags act (run tags act s i .state) (drop (run tags act s i .used) i) ≡ y → moveOf y ≡ off (stopped n) → Listed n
+      go (toField (taken z) k) q d = absurd (false≢true cc)
+      go (toField (passed z) k) q d = absurd (false≢true cc)
+      go (toField (refused x) k) q d = let f : x ≡ n = cc d in reply-proper (run tags act s i .state) (drop (run tags act s i .used) i) n k (q ∙ ap (λ (z : ℕ). toField (refused z) k) f)
+      go notYet q d = absurd (false≢true cc)
+      go noField q d = absurd (false≢true cc)
+
+-- ---- as the code keeps it
+
+on-proper : (x : Stage) (m : Matter) (v : List ℕ) → Proper (contentOn x m v)
+on-proper x m v = along Listed asNumber _ one (content-proper (x .passed) (x .vehicle) (x .cycle) (x .run .progress .offered) m v)
+
+reply-listed : (x : Stage) (i : List ℕ) (n k : ℕ) → replyOn x i ≡ toField (refused n) k → Listed n
+reply-listed x i = reply-proper (λ s. s .place) contentOn bringOn passOn on-proper x i
+
+run-listed : (x : Stage) (i : List ℕ) (n : ℕ) → runOn x i .end ≡ stopped n → Listed n
+run-listed x i = end-proper (λ s. s .place) contentOn bringOn passOn on-proper x i
+
+-- ---- the answers
+
+eight : Listed 8
+eight = at 8 (omega arith) (omega arith)
+
+open-listed : (o : Opening) (room : List ℕ) (l : List ℤ) (m i : List ℕ) (n : ℕ) → frontOpened o room l m i .answer .step ≡ opening.Refused n → Listed n
+unfolding frontOpened
+open-listed o room l m i n = go (eqb (openGround o room) 0) refl
+  where
+    x : Stage
+    x = stageOf o room l m
+
+    started : (b : Bool) (z : Stage) (k : ℕ) → cond b (opening.Started k (runOf z)) (opening.Taken k) ≡ opening.Refused n → Listed n
+    started true z k e = absurd (false≢true cc)
+    started false z k e = absurd (false≢true cc)
+
+    by : (y : Reply Stage) → replyOn x i ≡ y → openedBy o room x y .answer .step ≡ opening.Refused n → Listed n
+    by (toField (taken z) k) q e = started (eqb (z .place) behindTolerances) z k e
+    by (toField (passed z) k) q e = absurd (false≢true cc)
+    by (toField (refused x) k) q e = let d : x ≡ n = cc e in subst Listed d (reply-listed _ i x k q)
+    by notYet q e = absurd (false≢true cc)
+    by noField q e = let d : 8 ≡ n = cc e in subst Listed d eight
+
+    go : (b : Bool) → eqb (openGround o room) 0 ≡ b
+        → cond b (openedBy o room x (replyOn x i)) (notOpened o room x (opening.Refused (openGround o room))) .answer .step ≡ opening.Refused n → Listed n
+    go true z e = by (replyOn x i) refl e
+    go false z e = let d : openGround o room ≡ n = cc e in subst Listed d (listed (openGround o room) (few-opening o room) (eqb-false _ 0 z))
+
+module _ (r : Reading) (b : List ℕ) (l : List ℤ) (m i : List ℕ) (n : ℕ) where
+  abbrev x : Stage
+  x = stageAt r b l m
+
+  refused-listed : eqb (readGround r b l m) 0 ≡ false → readGround r b l m ≡ n → Listed n
+  refused-listed z d = subst Listed d (listed (readGround r b l m) (few-reading r b l m) (eqb-false _ 0 z))
+
+  read-listed : readLeft r b l m i .answer .step ≡ step.Refused n → Listed n
+  unfolding readLeft
+  read-listed = go (eqb (readGround r b l m) 0) refl
+    where
+      by : (y : Reply Stage) → replyOn x i ≡ y → stepOf y ≡ step.Refused n → Listed n
+      by (toField (taken z) k) q e = absurd (false≢true cc)
+      by (toField (passed z) k) q e = absurd (false≢true cc)
+      by (toField (refused j) k) q e = let d : j ≡ n = cc e in subst Listed d (reply-listed x i j k q)
+      by notYet q e = absurd (false≢true cc)
+      by noField q e = let d : 8 ≡ n = cc e in subst Listed d eight
+
+      go : (t : Bool) → eqb (readGround r b l m) 0 ≡ t
+          → cond t (readBy r x (replyOn x i)) (left {A = ReadAnswer} (record { step = step.Refused (readGround r b l m); reading = r }) l m) .answer .step ≡ step.Refused n → Listed n
+      go true z e = by (replyOn x i) refl e
+      go false z e = refused-listed z cc
+
+  read-all-listed : allLeft r b l m i .answer .last ≡ step.Refused n → Listed n
+  unfolding allLeft
+  read-all-listed = go (eqb (readGround r b l m) 0) refl
+    where
+      by : (e : End) → runOn x i .end ≡ e → lastOf e ≡ step.Refused n → Listed n
+      by waiting q e = absurd (false≢true cc)
+      by broken q e = let d : 8 ≡ n = cc e in subst Listed d eight
+      by (stopped j) q e = let d : j ≡ n = cc e in subst Listed d (run-listed x i j q)
+
+      go : (t : Bool) → eqb (readGround r b l m) 0 ≡ t
+          → cond t (allBy r (runOn x i)) (left {A = AllAnswer} (record { reading = r; fields = 0; used = 0; last = step.Refused (readGround r b l m) }) l m) .answer .last ≡ step.Refused n → Listed n
+      go true z e = by (runOn x i .end) refl e
+      go false z e = refused-listed z cc
+
+ended-listed : (started : Bool) (left n : ℕ) → endingOf started left ≡ ending.Refused n → Listed n
+unfolding endingOf unless
+ended-listed started left n = go started (eqb left 0)
+  where
+    go : (s t : Bool) → unless (ending.Refused 15) s (unless (ending.Refused 15) t ending.Whole) ≡ ending.Refused n → Listed n
+    go true true e = absurd (false≢true cc)
+    go true false e = let d : 15 ≡ n = cc e in subst Listed d (at 15 (omega arith) (omega arith))
+    go false t e = let d : 15 ≡ n = cc e in subst Listed d (at 15 (omega arith) (omega arith))
+
+feed-listed : (x : Laid) (i : List ℕ) (n : ℕ) → feedOf x i .outcome ≡ outcome.Refused n → Listed n
+feed-listed x i n =
+    by-feed x i (λ (y : Consumed). y .outcome ≡ outcome.Refused n → Listed n) (λ _ e. by (runOn (stageOn x) i .end) refl e)
+    (λ z e. let d : deskGround x ≡ n = cc e in subst Listed d (listed (deskGround x) (few-desk x) z))
+  where
+    by : (e : End) → runOn (stageOn x) i .end ≡ e → outcomeOf e ≡ outcome.Refused n → Listed n
+    by waiting q e = absurd (false≢true cc)
+    by broken q e = let d : 8 ≡ n = cc e in subst Listed d eight
+    by (stopped j) q e = let d : j ≡ n = cc e in subst Listed d (run-listed (stageOn x) i j q)
+
+at-proper : (s : Told) (m : Matter) (v : List ℕ) → Proper (contentAt s m v)
+at-proper s = content-proper (s .passed) (s .holding .vehicle) (s .holding .cycle) (length (s .holding .samples))
+
+sheet-listed : (i : List ℕ) (n k : ℕ) → sheetOf i ≡ refusedAt n k → Listed n
+unfolding sheetOf unless
+sheet-listed i n k = by (run tags takeField untold i .end) refl
+  where
+    at-end : (a b : Bool) (f : ℕ) (s : Told) → unless (refusedAt 15 f) a (unless (refusedAt 15 f) b (told s)) ≡ refusedAt n k → Listed n
+    at-end true true f s e = absurd (false≢true cc)
+    at-end true false f s e = let d : 15 ≡ n = cc e in subst Listed d (at 15 (omega arith) (omega arith))
+    at-end false b f s e = let d : 15 ≡ n = cc e in subst Listed d (at 15 (omega arith) (omega arith))
+
+    x : Ran Told
+    x = run tags takeField untold i
+
+    by : (e : End) → x .end ≡ e → sheetBy e (x .state) (0 + x .fields) (length i - x .used) ≡ refusedAt n k → Listed n
+    by waiting q e = at-end (leb behindTolerances (x .state .place)) (eqb (length i - x .used) 0) (suc (0 + x .fields)) (x .state) e
+    by broken q e = let d : 8 ≡ n = cc e in subst Listed d eight
+    by (stopped j) q e =
+        let d : j ≡ n = cc e in
+        subst Listed d (end-proper (λ s. s .place) contentAt bringAt morePassed at-proper untold i j q)
+
+-- a figure
+charge-listed : (E : ℤ) (N : ℕ) (e d : ℕ → ℤ) (F : ℤ) (y : Charge) (n : ℕ) → chargedBy E N e d F y ≡ figure.Refused n → Listed n
+unfolding rechargeRefusal
+charge-listed E N e d F absent n q = absurd (false≢true cc)
+charge-listed E N e d F (wh A) n q =
+    settled-listed figure.Refused _ (rechargeRefusal E N e d F A) n (few-unless _ (omega arith) (few-unless _ (omega arith) zero-le)) (λ z. absurd (false≢true cc)) (λ z. cc z) q
+
+few-figure : (r : Run) (a : Amounts) (b : List ℕ) (l : List ℤ) (m : List ℕ) → Few (refusalOf r a b l m)
+unfolding refusalOf closingIn
+few-figure r a b l m = few-unless _ (omega arith) (few-ground r b l m _ (few-closing (a .before +ℤ energyAll l) (cyclesBy r) (energyIn l) (distanceIn l)))
+
+pub in-the-list : InTheList
+unfolding startRefusal sampleRefusal blockRefusal
+in-the-list = record {
+  start-listed = λ c n e.
+      settled-listed answer.Refused _ _ n (few-unless _ (omega arith) (few-unless _ (omega arith) (few-unless _ (omega arith) (few-unless _ (omega arith) zero-le))))
+      (λ z. absurd (false≢true cc)) (λ z. cc z) (sym (ap (λ y. y .answer) (c .kept)) ∙ e);
+  sample-listed = λ c n e.
+      let (r, (b, (l, (m, _)))) = c .args in
+      settled-listed answer.Refused _ _ n (few-ground r (now b) (now l) (now m) _ (few-unless _ (omega arith) (few-unless _ (omega arith) zero-le)))
+      (λ z. absurd (false≢true cc)) (λ z. cc z) (sym (ap (λ y. y .answer) (c .kept)) ∙ e);
+  block-listed = λ c n e.
+      let (r, (b, (l, (m, _)))) = c .args in
+      settled-listed answer.Refused _ _ n
+      (few-ground r (now b) (now l) (now m) _ (few-unless _ (omega arith) (few-unless _ (omega arith) (few-unless _ (omega arith) (few-unless _ (omega arith) zero-le)))))
+      (λ z. absurd (false≢true cc)) (λ z. cc z) (sym (ap (λ y. y .answer) (c .kept)) ∙ e);
+  shown-listed = λ c n e.
+      let (r, (b, (l, (m, _)))) = c .args in
+      settled-listed counts.Refused _ _ n (few-ground r (now b) (now l) (now m) 0 zero-le) (λ z. absurd (false≢true cc)) (λ z. cc z) (sym (c .kept) ∙ e);
+  totals-listed = λ c n e.
+      let (r, (b, (l, (m, _)))) = c .args in
+      settled-listed sums.Refused _ _ n (few-ground r (now b) (now l) (now m) 0 zero-le) (λ z. absurd (false≢true cc)) (λ z. cc z) (sym (c .kept) ∙ e);
+  weighted-listed = λ c n e. settled-listed figure.Refused _ _ n (few-figure _ _ _ _ _) (λ z. absurd (false≢true cc)) (λ z. cc z) (sym (c .kept) ∙ e);
+  range-listed = λ c n e. settled-listed figure.Refused _ _ n (few-figure _ _ _ _ _) (λ z. absurd (false≢true cc)) (λ z. cc z) (sym (c .kept) ∙ e);
+  recharge-listed = λ c n e.
+      let (r, (a, (b, (l, (m, _))))) = c .args in
+      settled-listed figure.Refused _ _ n (few-figure _ _ _ _ _)
+      (charge-listed (a .before +ℤ energyAll (now l)) (cyclesBy r) (energyIn (now l)) (distanceIn (now l)) (a .after) (a .charge) n) (λ z. cc z) (sym (c .kept) ∙ e);
+  open-listed = λ c n e.
+      let (o, (i, (room, (l, (m, _))))) = c .args in
+      open-listed o (now room) (now l) (now m) (now i) n (sym (ap (λ (y : OpenLeft). y .answer .step) (c .kept)) ∙ e);
+  read-listed = λ c n e.
+      let (r, (i, (b, (l, (m, _))))) = c .args in
+      read-listed r (now b) (now l) (now m) (now i) n (sym (ap (λ (y : Left ReadAnswer). y .answer .step) (c .kept)) ∙ e);
+  read-all-listed = λ c n e.
+      let (r, (i, (b, (l, (m, _))))) = c .args in
+      read-all-listed r (now b) (now l) (now m) (now i) n (sym (ap (λ (y : Left AllAnswer). y .answer .last) (c .kept)) ∙ e);
+  ended-listed = λ c n e. ended-listed (c .args .0) (c .args .1 .0) n (sym (c .kept) ∙ e);
+  feed-listed = λ c n e.
+      let (d, (i, (room, (l, (m, _))))) = c .args in
+      feed-listed (laidOf d (now room) (now l) (now m)) (now i) n (sym (ap (λ (y : Consumed). y .outcome) (c .kept)) ∙ e);
+  sheet-listed = sheet-listed;
+}

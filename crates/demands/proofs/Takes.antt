@@ -1,0 +1,61 @@
+-- "Reader and judge take every input, broken ones included, and end.": every operation's code meets its contract, which asks nothing.
+-- Assumes nothing.
+use Rattle.judge.proofs.start
+use Rattle.judge.proofs.sample
+use Rattle.judge.proofs.block
+use Rattle.judge.proofs.shown
+use Rattle.judge.proofs.totals
+use Rattle.closing.proofs.weighted
+use Rattle.closing.proofs.range
+use Rattle.closing.proofs.recharge
+use Rattle.reader.proofs.blank
+use Rattle.reader.proofs.open
+use Rattle.reader.proofs.reading_of
+use Rattle.reader.proofs.read
+use Rattle.reader.proofs.read_all
+use Rattle.reader.proofs.ended
+use Rattle.figures.proofs.figures_of
+use Rattle.sheet.proofs.sheet_lines
+use Rattle.sheet.proofs.refusal_line
+use Rattle.desk.proofs.empty
+use Rattle.desk.proofs.desk_refusal
+use Rattle.desk.proofs.feed
+use Rattle.prints.proofs.refuse
+use Rattle.prints.proofs.close
+use Rattle.bench.proofs.paperwhelk_verdict
+use Rattle.demands.specs.Demand1.{TakesEveryInput}
+use Rattle.demands.proofs.NoDoubt.OfJudge as ofJudge
+use Rattle.demands.proofs.NoDoubt.OfClosing as ofClosing
+use Rattle.demands.proofs.NoDoubt.OfReader as ofReader
+use Rattle.demands.proofs.NoDoubt.OfFigures as ofFigures
+use Rattle.demands.proofs.NoDoubt.OfSheet as ofSheet
+use Rattle.demands.proofs.NoDoubt.OfDesk as ofDesk
+use Rattle.demands.proofs.NoDoubt.OfPrints as ofPrints
+use Rattle.demands.proofs.NoDoubt.OfBench as ofBench
+
+pub takes-every-input : {M : Type 1} → TakesEveryInput M
+takes-every-input = record {
+  start-takes-every-input = (start.Met.met, ofJudge.start-asks-nothing);
+  sample-takes-every-input = (sample.Met.met, ofJudge.sample-asks-nothing);
+  block-takes-every-input = (block.Met.met, ofJudge.block-asks-nothing);
+  shown-takes-every-input = (shown.Met.met, ofJudge.shown-asks-nothing);
+  totals-takes-every-input = (totals.Met.met, ofJudge.totals-asks-nothing);
+  weighted-takes-every-input = (weighted.Met.met, ofClosing.weighted-asks-nothing);
+  range-takes-every-input = (range.Met.met, ofClosing.range-asks-nothing);
+  recharge-takes-every-input = (recharge.Met.met, ofClosing.recharge-asks-nothing);
+  blank-takes-every-input = (blank.Met.met, ofReader.blank-asks-nothing);
+  open-takes-every-input = (open.Met.met, ofReader.open-asks-nothing);
+  reading-of-takes-every-input = (reading_of.Met.met, ofReader.reading-of-asks-nothing);
+  read-takes-every-input = (read.Met.met, ofReader.read-asks-nothing);
+  read-all-takes-every-input = (read_all.Met.met, ofReader.read-all-asks-nothing);
+  ended-takes-every-input = (ended.Met.met, ofReader.ended-asks-nothing);
+  figures-of-takes-every-input = (figures_of.Met.met, ofFigures.figures-of-asks-nothing);
+  sheet-lines-takes-every-input = (sheet_lines.Met.met, ofSheet.sheet-lines-asks-nothing);
+  refusal-line-takes-every-input = (refusal_line.Met.met, ofSheet.refusal-line-asks-nothing);
+  empty-takes-every-input = (empty.Met.met, ofDesk.empty-asks-nothing);
+  desk-refusal-takes-every-input = (desk_refusal.Met.met, ofDesk.desk-refusal-asks-nothing);
+  feed-takes-every-input = (feed.Met.met, ofDesk.feed-asks-nothing);
+  refuse-takes-every-input = (refuse.Met.met, ofPrints.refuse-asks-nothing);
+  close-takes-every-input = (close.Met.met, ofPrints.close-asks-nothing);
+  verdict-takes-every-input = (paperwhelk_verdict.Met.met, ofBench.paperwhelk-verdict-asks-nothing);
+}

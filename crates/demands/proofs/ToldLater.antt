@@ -1,0 +1,68 @@
+-- What the fields after the start leave: vehicle, cycle and tolerances, and the samples before their own.
+-- Assumes nothing.
+use mathlib.Core.List.{List, [], _++_, append-nil, append-assoc}
+use mathlib.Core.Path.{_≡_, refl, sym, ap, subst, _∙_}
+use Prim.Native.Nat.{ℕ, _≤_}
+use native.Mathlib.Omega.{arith}
+use lib.ListN.{length, length-append}
+use Rattle.rules.specs.declared.Moment.{Moment}
+use Rattle.rules.specs.Table.{behindTolerances, tags}
+use Rattle.rules.specs.Front.{Field}
+use Rattle.rules.specs.Machine.{on, moveAt, upto, run}
+use Rattle.rules.specs.Record.{Told, Bring, nothing, aNumber, aCycle, theTolerances, ownSamples, before, after, charged, bringAt, takeField}
+use Rattle.laws.proofs.Places.{place-is}
+use Rattle.laws.proofs.Prefixes.{kept}
+use Rattle.laws.proofs.Says.{movesTo}
+use Rattle.demands.specs.Compared.{Appends}
+use Rattle.demands.proofs.ToldCame.{SaysAt, Moved, took, went, moved}
+
+-- y came after x, where the run is started
+pub record Later (x y : Told) : Type 0 where
+  pub late : behindTolerances ≤ y .place
+  pub vehicle : y .holding .vehicle ≡ x .holding .vehicle
+  pub cycle : y .holding .cycle ≡ x .holding .cycle
+  pub tolerances : y .holding .tolerances ≡ x .holding .tolerances
+  pub samples : Appends (x .holding .samples) (y .holding .samples)
+
+later-none : (x : Told) → behindTolerances ≤ x .place → Later x x
+later-none x l =
+    let none : Appends (x .holding .samples) (x .holding .samples) = record { added = []; joins = sym (append-nil (x .holding .samples)) } in
+    record { late = l; vehicle = refl; cycle = refl; tolerances = refl; samples = none }
+
+module _ (x s : Told) (h : Later x s) where
+  later-brought : (f : Field) (b : Bring) → SaysAt s f b → Later x (bringAt s (movesTo b) b)
+  later-brought f nothing w = absurd (let l = place-is (s .place) 0 (w .1) in omega (arith, h .late))
+  later-brought f (aNumber v) w = absurd (let l = place-is (s .place) 1 (w .1) in omega (arith, h .late))
+  later-brought f (aCycle v) w = absurd (let l = place-is (s .place) 2 (w .1) in omega (arith, h .late))
+  later-brought f (theTolerances t) w = absurd (let l = place-is (s .place) 3 (w .1) in omega (arith, h .late))
+  later-brought f (ownSamples xs) w =
+      let a = h .samples in
+      let more : Appends (x .holding .samples) (s .holding .samples ++ xs) = record {
+        added = a .added ++ xs;
+        joins = ap (λ (y : List Moment). y ++ xs) (a .joins) ∙ append-assoc (x .holding .samples) (a .added) xs;
+      } in
+      record { late = omega arith; vehicle = h .vehicle; cycle = h .cycle; tolerances = h .tolerances; samples = more }
+  later-brought f (before e) w = record { late = omega arith; vehicle = h .vehicle; cycle = h .cycle; tolerances = h .tolerances; samples = h .samples }
+  later-brought f (after e) w = record { late = omega arith; vehicle = h .vehicle; cycle = h .cycle; tolerances = h .tolerances; samples = h .samples }
+  later-brought f (charged k) w = record { late = omega arith; vehicle = h .vehicle; cycle = h .cycle; tolerances = h .tolerances; samples = h .samples }
+
+  later-move : (i : List ℕ) (s′ : Told) (m : ℕ) → moveAt tags takeField s i ≡ on s′ m → Later x s′
+  later-move i s′ m e = go (moved s i s′ m e)
+    where
+      go : Moved s i s′ → Later x s′
+      go (took f _ _ c) = subst (Later x) (c .is) (later-brought f (c .brings) (c .says))
+      go (went d) = subst (Later x) d (record { late = h .late; vehicle = h .vehicle; cycle = h .cycle; tolerances = h .tolerances; samples = h .samples })
+
+-- over one field, at most n, and all of them
+pub later-first : (x : Told) (i : List ℕ) (s′ : Told) (m : ℕ) → moveAt tags takeField x i ≡ on s′ m → behindTolerances ≤ x .place → Later x s′
+later-first x i s′ m e l = later-move x x (later-none x l) i s′ m e
+
+pub later-upto : (n : ℕ) (x : Told) (i : List ℕ) → behindTolerances ≤ x .place → Later x (upto tags takeField n x i .state)
+later-upto n x i l = kept tags takeField (Later x) (λ s j s′ m e h. later-move x s h j s′ m e) n x i (later-none x l)
+
+pub later-run : (x : Told) (i : List ℕ) → behindTolerances ≤ x .place → Later x (run tags takeField x i .state)
+later-run x i = later-upto (length i) x i
+
+-- the samples do not get fewer
+pub later-longer : (x y : Told) → Later x y → length (x .holding .samples) ≤ length (y .holding .samples)
+later-longer x y h = let a = h .samples in omega (arith, ap length (a .joins), length-append (x .holding .samples) (a .added))

@@ -1,0 +1,86 @@
+-- What it says that the closing refuses nothing, and what W then is: between the least and the greatest rate, never above the same weighting of the
+-- unrounded rates and less than 2 below it.
+-- Assumes nothing.
+use mathlib.Core.Bool.{true, false≢true}
+use mathlib.Core.Path.{_≡_, refl, sym, subst}
+use Prim.Native.Nat.{ℕ, _+_, _*_, _≤_, _<_}
+use native.Mathlib.Omega.{arith}
+use lib.Dec.{leb}
+use lib.IntN.{ℤ, pos, negsuc, _+ℤ_}
+use lib.Signed.{leZ, ltZ}
+use borrow.Author.Tests.{leb-true, ltb-true}
+use Rattle.rules.specs.Words.{allBelow, up}
+use Rattle.numbers.proofs.Tests.{both, all-at, not-refused}
+use Rattle.rules.specs.Closing.{weight, weighing, isRate, rateOf, weightedFigure, rangeFigure, closingRefusal, mostRate}
+use Rattle.laws.specs.Beside.{Unrounded}
+use Rattle.laws.proofs.Closeness.{never-above, two-below}
+use Rattle.laws.proofs.Weighing.{least-rate, greatest-rate}
+
+-- an integer that is at least k, and one above 0, as natural numbers
+at-least : (k : ℕ) (z : ℤ) → leZ (pos k) z ≡ true → (pos (up z) ≡ z) × (k ≤ up z)
+at-least k (pos m) e = (refl, leb-true k m e)
+at-least k (negsuc m) e = absurd (false≢true e)
+
+above-zero : (z : ℤ) → ltZ (pos 0) z ≡ true → 0 < up z
+above-zero (pos m) e = ltb-true 0 m e
+above-zero (negsuc m) e = absurd (false≢true e)
+
+module _ (E : ℤ) (n : ℕ) (e d : ℕ → ℤ) where
+  pub record Closes : Type 0 where
+    pub three : 3 ≤ n
+    pub drawn : (c : ℕ) → c < n → 1 ≤ up (e c)
+    pub natural : (c : ℕ) → c < n → pos (up (e c)) ≡ e c
+    pub fits : up (e 0) + up (e 1) ≤ up E
+    pub moved : (c : ℕ) → c < n → 0 < up (d c)
+    pub rated : (c : ℕ) → c < n → (1 ≤ rateOf e d c) × (rateOf e d c ≤ mostRate)
+    pub somewhere : 1 ≤ rangeFigure E n e d
+
+  pub closes : closingRefusal E n e d ≡ 0 → Closes
+  unfolding closingRefusal
+  closes h =
+      let (t₁, h₁) = not-refused 9 (leb 3 n) _ h in
+      let (t₂, h₂) = not-refused 10 (allBelow n (λ c. leZ (pos 1) (e c))) _ h₁ in
+      let (t₃, h₃) = not-refused 10 (leZ (e 0 +ℤ e 1) E) _ h₂ in
+      let (t₄, h₄) = not-refused 11 (allBelow n (λ c. ltZ (pos 0) (d c))) _ h₃ in
+      let (t₅, h₅) = not-refused 11 (allBelow n (λ c. isRate (rateOf e d c))) _ h₄ in
+      let (t₆, h₆) = not-refused 12 (leb 1 (rangeFigure E n e d)) _ h₅ in
+      let three = leb-true 3 n t₁ in
+      let one : (c : ℕ) → c < n → (pos (up (e c)) ≡ e c) × (1 ≤ up (e c)) = λ c l. at-least 1 (e c) (all-at n _ t₂ c l) in
+      let sum : pos (up (e 0) + up (e 1)) ≡ e 0 +ℤ e 1 = λ i. one 0 (omega arith) .0 i +ℤ one 1 (omega arith) .0 i in
+      record {
+        three = three;
+        drawn = λ c l. one c l .1;
+        natural = λ c l. one c l .0;
+        fits = at-least _ E (subst (λ (z : ℤ). leZ z E ≡ true) (sym sum) t₃) .1;
+        moved = λ c l. above-zero (d c) (all-at n _ t₄ c l);
+        rated = λ c l.
+            let (lo, hi) = both (leb 1 (rateOf e d c)) _ (all-at n _ t₅ c l) in
+            (leb-true 1 (rateOf e d c) lo, leb-true (rateOf e d c) mostRate hi);
+        somewhere = leb-true 1 _ t₆;
+      }
+
+  module _ (k : Closes) where
+    pub some-energy : 1 ≤ up E
+    some-energy = omega (arith, k .fits, k .drawn 0 (omega (arith, k .three)))
+
+    abbrev W : ℕ
+    W = weightedFigure E n e d
+
+    -- W lies between the least and the greatest rate, so it is never 0 and at most 10,000,000
+    pub weighted-between : (a z : ℕ) → ((c : ℕ) → c < n → (a ≤ rateOf e d c) × (rateOf e d c ≤ z)) → (a ≤ W) × (W ≤ z)
+    weighted-between a z h = (
+      least-rate (up E) n (λ c. up (e c)) (rateOf e d) (k .fits) some-energy (k .three) a (λ c l. h c l .0),
+      greatest-rate (up E) n (λ c. up (e c)) (rateOf e d) (k .fits) some-energy (k .three) z (λ c l. h c l .1),
+    )
+
+    pub weighted-within : (1 ≤ W) × (W ≤ mostRate)
+    weighted-within = weighted-between 1 mostRate (k .rated)
+
+    -- "It is never above the same weighting of the unrounded 100 e_c / d_c and less than 2 below it.": with the rates u c over the denominator g
+    pub weighted-close : (g : ℕ) (u : ℕ → ℕ) → 0 < g → Unrounded g n (λ c. up (e c)) (λ c. up (d c)) u
+        → (W * (g * weight (up E) n) ≤ weighing (up E) n (λ c. up (e c)) u)
+        × (weighing (up E) n (λ c. up (e c)) u < (W + 2) * (g * weight (up E) n))
+    weighted-close g u p x = (
+      never-above (up E) n g (λ c. up (e c)) (λ c. up (d c)) u (k .fits) some-energy (k .three) p (k .moved) x,
+      two-below (up E) n g (λ c. up (e c)) (λ c. up (d c)) u (k .fits) some-energy (k .three) p (k .moved) x,
+    )

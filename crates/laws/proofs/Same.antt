@@ -1,0 +1,53 @@
+-- Closing looks at the finished cycles only: energies and distances that agree there close alike.
+-- Assumes nothing.
+use mathlib.Core.Path.{_≡_, ap, ap₂}
+use Prim.Native.Nat.{ℕ, _+_, _-_, _*_, _/_, _≤_, _<_}
+use native.Mathlib.Omega.{arith}
+use lib.Dec.{leb}
+use lib.IntN.{ℤ, pos, _+ℤ_}
+use lib.Signed.{leZ, ltZ}
+use Rattle.rules.specs.Words.{sum, unless, up}
+use Rattle.numbers.proofs.Range.{fold-same}
+use Rattle.numbers.proofs.Tests.{all-same}
+use Rattle.rules.specs.Closing.{recharge, weighing, weight, mostRate, isRate, rateOf, weightedFigure, rangeFigure, closingRefusal, rechargeFigure, rechargeRefusal}
+use Rattle.rules.specs.Bench.{mostCycles}
+
+module _ (E : ℤ) (n : ℕ) (few : n ≤ mostCycles) (e d e′ d′ : ℕ → ℤ) (he : (c : ℕ) → c < mostCycles → e c ≡ e′ c) (hd : (c : ℕ) → c < mostCycles → d c ≡ d′ c) where
+  rate-same : (c : ℕ) → c < mostCycles → rateOf e d c ≡ rateOf e′ d′ c
+  rate-same c h = ap₂ (λ (x y : ℤ). 100 * up x / up y) (he c h) (hd c h)
+
+  pub weighted-same : weightedFigure E n e d ≡ weightedFigure E n e′ d′
+  unfolding weighing
+  weighted-same =
+      let s : sum (λ c. rateOf e d (2 + c)) (n - 2) ≡ sum (λ c. rateOf e′ d′ (2 + c)) (n - 2) =
+      fold-same _+_ 0 _ _ (n - 2) (λ c h. rate-same (2 + c) (omega arith)) in
+      λ i.
+      ((n - 2) * (rate-same 0 (omega arith) i * up (he 0 (omega arith) i) + rate-same 1 (omega arith) i * up (he 1 (omega arith) i))
+      + (up E - up (he 0 (omega arith) i) - up (he 1 (omega arith) i)) * s i)
+      / weight (up E) n
+
+  pub range-same : rangeFigure E n e d ≡ rangeFigure E n e′ d′
+  range-same = ap (λ (w : ℕ). 5 * up E / (36 * w)) weighted-same
+
+  pub refusal-same : closingRefusal E n e d ≡ closingRefusal E n e′ d′
+  unfolding closingRefusal
+  refusal-same =
+      let a = all-same n _ _ (λ c h. ap (leZ (pos 1)) (he c (omega arith))) in
+      let m = all-same n _ _ (λ c h. ap (ltZ (pos 0)) (hd c (omega arith))) in
+      let q = all-same n _ _ (λ c h. ap isRate (rate-same c (omega arith))) in
+      λ i.
+      unless 10 (leb 3 n)
+      (unless 11 (a i)
+      (unless 11 (leZ (he 0 (omega arith) i +ℤ he 1 (omega arith) i) E)
+      (unless 12 (m i)
+      (unless 12 (q i)
+      (unless 13 (leb 1 (range-same i)) 0)))))
+
+  -- with F and A
+  module _ (F : ℤ) (A : ℕ) where
+    pub recharge-same : rechargeFigure E n e d F A ≡ rechargeFigure E n e′ d′ F A
+    recharge-same = ap (recharge (up E) (up (E +ℤ F)) A) range-same
+
+    pub recharge-refusal-same : rechargeRefusal E n e d F A ≡ rechargeRefusal E n e′ d′ F A
+    unfolding rechargeRefusal
+    recharge-refusal-same = ap (λ (f : ℕ). unless 14 (leZ (pos 1) (E +ℤ F)) (unless 12 (leb f mostRate) 0)) recharge-same

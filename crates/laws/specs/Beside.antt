@@ -1,0 +1,76 @@
+-- Tests that the code makes, and figures that laws speak of, in the words of the rules.
+-- Assumes nothing.
+use mathlib.Core.Bool.{Bool, true, false, not, cond, _&&_}
+use mathlib.Core.List.{List}
+use mathlib.Core.Path.{_≡_}
+use Prim.Native.Nat.{ℕ, _+_, _-_, _*_, _<_}
+use lib.Dec.{leb, ltb}
+use lib.IntN.{pos, negℤ}
+use Rattle.rules.specs.Words.{between}
+use Rattle.rules.specs.declared.End.{End}
+use Rattle.rules.specs.declared.End.the-variants.{None as none, Stop as stop, Limit as limit}
+use Rattle.rules.specs.declared.Moment.{Moment}
+use Rattle.rules.specs.declared.Tolerances.{Tolerances}
+use Rattle.rules.specs.Bench.{mostSpeed, mostDrawn, mostCycles, mostPhases}
+use Rattle.rules.specs.Band.{lo, hi, belowOf}
+use Rattle.rules.specs.Tally as tally
+use Rattle.rules.specs.Course.{Course, stopsAt}
+use Rattle.rules.specs.Shown.{mostEnergy}
+use Rattle.rules.specs.Closing.{mostTransfer, rate}
+use Rattle.rules.specs.Table.{Row, among, areWhole, byRow}
+
+-- such as a sample within its limits brings
+unfoldable pub isMoment : Moment → Bool
+isMoment x = leb (x .speed) mostSpeed && between (negℤ (pos mostDrawn)) (pos mostDrawn) (x .energy)
+
+-- ---- the band
+
+-- "inside when lo <= 20v + 20s and 20v <= hi + 20s": where the one or the other fails
+abbrev pub aboveOf : ℕ → ℕ → ℕ → Bool
+aboveOf hi s v = not (leb (20 * v) (hi + 20 * s))
+
+module _ (b : List ℕ) (t : Tolerances) (p v : ℕ) where
+  unfoldable pub below : Bool
+  below = belowOf (lo b (t .time) p) (t .speed) v
+
+  unfoldable pub above : Bool
+  above = aboveOf (hi b (t .time) p) (t .speed) v
+
+-- ---- a run
+
+-- it has not ended
+abbrev pub isOpen : End → Bool
+isOpen none = true
+isOpen stop = false
+isOpen limit = false
+
+-- it stopped, of so many samples offered
+abbrev pub stopped : Course → (ℕ → Moment) → ℕ → Bool
+stopped c s = tally.stopped (stopsAt c s) (c .layout .most)
+
+-- ---- the closing
+
+-- the most that the whole energy can be, either way, of a ledger that is in bounds
+abbrev pub mostWhole : ℕ
+mostWhole = mostTransfer + mostCycles * (mostPhases * mostEnergy)
+
+abbrev pub rates : (ℕ → ℕ) → (ℕ → ℕ) → ℕ → ℕ
+rates e d c = rate (e c) (d c)
+
+-- "Weights by 000, formula 9: e_1/E, e_2/E, and (1 - K_1 - K_2)/(n-2) for the others": the weight of a cycle, over E (n-2)
+abbrev pub weightOf : ℕ → ℕ → (ℕ → ℕ) → ℕ → ℕ
+weightOf E n e c = cond (ltb c 2) (e c * (n - 2)) (E - e 0 - e 1)
+
+-- "the unrounded 100 e_c / d_c" over one denominator: u c / k is 100 e_c / d_c
+unfoldable pub Unrounded : ℕ → ℕ → (ℕ → ℕ) → (ℕ → ℕ) → (ℕ → ℕ) → Type 0
+Unrounded k n e d u = (c : ℕ) → c < n → u c * d c ≡ k * (100 * e c)
+
+-- ---- fields
+
+-- so many bytes are "1 to 200 samples: speed (2), voltage (2), current (2, two's complement)"
+abbrev pub isBlock : ℕ → Bool
+isBlock n = areWhole 6 n
+
+-- "field out of order": it may not stand at the place
+abbrev pub mayStand : {M : Type 0} → List (Row M) → ℕ → ℕ → List ℕ → Bool
+mayStand rows place tag v = byRow rows tag v (λ r. among place (r .stands)) false

@@ -1,0 +1,274 @@
+-- The code's state is led through all bytes as lists are: it holds what they tell, and its run is that of their samples.
+-- Assumes nothing.
+use mathlib.Core.Bool.{true, false, false≢true}
+use mathlib.Core.List.{List, [], _∷_, _++_}
+use mathlib.Core.Path.{_≡_, refl, sym, ap, subst, _∙_}
+use Prim.Native.Nat.{ℕ, _+_, _≤_}
+use native.Mathlib.Omega.{arith}
+use lib.IntN.{ℤ}
+use lib.ListN.{length, length-drop}
+use borrow.Author.Tests.{le-leb}
+use Rattle.rules.specs.Words.{unless}
+use Rattle.numbers.proofs.Tests.{pass}
+use Rattle.rules.specs.declared.Amounts.{Amounts}
+use Rattle.rules.specs.declared.Moment.{Moment}
+use Rattle.rules.specs.declared.Tolerances.{Tolerances}
+use Rattle.rules.specs.Bench.{tolerable}
+use Rattle.rules.specs.Cycle.{valid}
+use Rattle.rules.specs.Regular.{plan, courseOf, momentIn}
+use Rattle.rules.specs.Shown.{ledgerNumbers, mapWords}
+use Rattle.rules.specs.Table.{Row, Matter, number, cycle, tolerances, block, energyBefore, energyAfter, recharge, among, lengthAllowed, tags, behindTolerances}
+use Rattle.rules.specs.Front.{Field, Front, incomplete, impossible, field, bytesOf, frontOf}
+use Rattle.rules.specs.Machine.{Answer, on, moveBy, replyAt, moveAt, run}
+use Rattle.laws.specs.Beside.{isBlock}
+use Rattle.rules.specs.Values.{samplesOf, momentAt, countIn, momentsIn}
+use Rattle.rules.specs.Record.{Told, Bring, nothing, aNumber, aCycle, theTolerances, ownSamples, before, after, charged, wrong, contentOf, fieldContent, contentAt, holding, withBefore, withAfter, withCharge, bringAt, takeField}
+use Rattle.laws.proofs.Carried.{In, here, there, same-rows, Carries, step-alike, carried}
+use Rattle.laws.proofs.Fronts.{front-allowed}
+use Rattle.laws.proofs.Moves.{moveAs}
+use Rattle.laws.proofs.Places.{early-or-late, place-is, block-places, recharge-places}
+use Rattle.laws.proofs.Related.{Alike, both-taken, both-passed, both-refused, AlikeRan}
+use Rattle.laws.proofs.Says.{movesTo, Says, says}
+use Rattle.laws.proofs.Tags.{sizes}
+use Rattle.state.specs.declared.Run.{Run}
+use Rattle.state.specs.State.{lent, ground}
+use Rattle.state.specs.Refusals.{notBegun, startRefusal, started}
+use Rattle.step.specs.Step.{State, samplesTaken, startOf, withProgress}
+use Rattle.blocks.proofs.Accepted.{accepted-by}
+use Rattle.judge.proofs.Runs as runs
+use Rattle.judge.proofs.Runs.{Reached, run-shows, never-refused}
+use Rattle.records.specs.Stage.{Stage, withAmounts, isLong, contentOn, bringOn, passOn, takeOn, runOn}
+use Rattle.records.proofs.Later.{taken-list}
+
+-- ledger and map that are long enough for a start
+pub record Long (l₀ : List ℤ) (m₀ : List ℕ) : Type 0 where
+  pub ledger : ledgerNumbers ≤ length l₀
+  pub map : mapWords ≤ length m₀
+
+pub long-is : {l₀ : List ℤ} {m₀ : List ℕ} → Long l₀ m₀ → isLong (lent l₀ m₀) ≡ true
+long-is h = rw (le-leb _ _ (h .ledger), le-leb _ _ (h .map))
+
+-- the run of a state that has started
+abbrev pub runAt : Stage → Run
+runAt x = withProgress (started (x .cycle) (x .tolerances)) (x .run .progress)
+
+module _ (l₀ : List ℤ) (m₀ : List ℕ) (long : Long l₀ m₀) where
+  -- ---- what the state x holds of what is told by s
+  pub record Holds (s : Told) (x : Stage) : Type 0 where
+    pub place : s .place ≡ x .place
+    pub passed : s .passed ≡ x .passed
+    pub vehicle : s .holding .vehicle ≡ x .vehicle
+    pub cycle : s .holding .cycle ≡ x .cycle
+    pub tolerances : s .holding .tolerances ≡ x .tolerances
+    pub amounts : s .holding .amounts ≡ x .amounts
+    -- until the start nothing is offered, and the memory is as it was lent
+    pub empty : x .place ≤ 3 → s .holding .samples ≡ []
+    pub waits : x .place ≤ 3 → x .run ≡ record { progress = notBegun; memory = lent l₀ m₀ }
+    -- after it the run is that of the samples
+    pub reached : behindTolerances ≤ x .place
+        → Reached (plan (x .cycle) (x .tolerances)) l₀ m₀ (s .holding .samples) (runAt x) (x .run .memory .ledger) (x .run .memory .map)
+
+  -- as many samples are offered as the record has
+  pub offered-is : (s : Told) (x : Stage) → Holds s x → length (s .holding .samples) ≡ x .run .progress .offered
+  offered-is s x h =
+      early-or-late (x .place)
+      (λ e. ap length (h .empty e) ∙ sym (ap (λ (a : State). a .progress .offered) (h .waits e)))
+      (λ e. sym (run-shows (plan (x .cycle) (x .tolerances)) l₀ m₀ (h .reached e) .offered))
+
+  -- ---- a field brings the same to both
+
+  contents-same : (s : Told) (x : Stage) → Holds s x → (m : Matter) (v : List ℕ)
+      → contentAt s m v ≡ contentOf (x .passed) (x .vehicle) (x .cycle) (x .run .progress .offered) m v
+  contents-same s x h m v = λ k. contentOf (h .passed k) (h .vehicle k) (h .cycle k) (offered-is s x h k) m v
+
+  same-content : (s : Told) (x : Stage) → Holds s x → (f : Field) → fieldContent (s .place) (contentAt s) f ≡ fieldContent (s .place) (contentOn x) f
+  unfolding unless
+  same-content s x h f = same-rows (s .place) (contentAt s) (contentOn x) f (λ q i _ a. go q i a)
+    where
+      same : (m : Matter) → contentAt s m (f .value) ≡ contentOf (x .passed) (x .vehicle) (x .cycle) (x .run .progress .offered) m (f .value)
+      same m = contents-same s x h m (f .value)
+
+      long-enough : among (s .place) (3 ∷ []) ≡ true → true ≡ isLong (x .run .memory)
+      long-enough a =
+          let e = place-is (s .place) 3 a in
+          sym (ap (λ (y : State). isLong (y .memory)) (h .waits (omega (arith, h .place))) ∙ long-is long)
+
+      go : (q : Row Matter) → In q tags → among (s .place) (q .stands) ≡ true → contentAt s (q .holds) (f .value) ≡ contentOn x (q .holds) (f .value)
+      go q here a = refl
+      go q (there here) a = same number
+      go q (there (there here)) a = same cycle
+      go q (there (there (there here))) a = same tolerances ∙ (λ k. unless (wrong 1) (long-enough a k) (contentOf (x .passed) (x .vehicle) (x .cycle) (x .run .progress .offered) tolerances (f .value)))
+      go q (there (there (there (there here)))) a = same block
+      go q (there (there (there (there (there here))))) a = same energyBefore
+      go q (there (there (there (there (there (there here)))))) a = same energyAfter
+      go q (there (there (there (there (there (there (there here))))))) a = same recharge
+
+  -- ---- and both hold it
+
+  module _ (s : Told) (x : Stage) (h : Holds s x) (f : Field) (a : lengthAllowed tags (f .tag) (length (f .value)) ≡ true) where
+    abbrev Here : Bring → Type 0
+    Here = Says (s .passed) (s .holding .vehicle) (s .holding .cycle) (length (s .holding .samples)) (f .tag) (f .value) (s .place)
+
+    granted : (t : Tolerances) → valid (x .cycle) ≡ true → tolerable t ≡ true → startRefusal (x .cycle) t l₀ m₀ ≡ 0
+    unfolding startRefusal
+    granted t v g = sym (pass 1 (le-leb _ _ (long .ledger)) (pass 1 (le-leb _ _ (long .map)) (pass 2 v (pass 3 g refl))))
+
+    -- an amount, at the place n
+    abbrev withTold : Amounts → ℕ → Told
+    withTold b n = record { place = n; passed = s .passed; holding = holding (s .holding .vehicle) (s .holding .cycle) (s .holding .tolerances) (s .holding .samples) b }
+
+    with-amounts : (b c : Amounts) (n : ℕ) → behindTolerances ≤ n → behindTolerances ≤ x .place → b ≡ c → Holds (withTold b n) (withAmounts x n c)
+    with-amounts b c n low late e = record {
+      place = refl;
+      passed = h .passed;
+      vehicle = h .vehicle;
+      cycle = h .cycle;
+      tolerances = h .tolerances;
+      amounts = e;
+      empty = λ l. absurd (omega arith);
+      waits = λ l. absurd (omega arith);
+      reached = λ _. h .reached late;
+    }
+
+    held : (b : Bring) → Here b → Holds (bringAt s (movesTo b) b) (bringOn x (movesTo b) b)
+    held nothing z =
+        let p = place-is (s .place) 0 (z .1) in
+        let l : x .place ≤ 3 = omega (arith, h .place) in
+        record {
+          place = refl;
+          passed = h .passed;
+          vehicle = h .vehicle;
+          cycle = h .cycle;
+          tolerances = h .tolerances;
+          amounts = h .amounts;
+          empty = λ _. h .empty l;
+          waits = λ _. h .waits l;
+          reached = λ e. absurd (omega arith);
+        }
+    held (aNumber v) z =
+        let p = place-is (s .place) 1 (z .1) in
+        let l : x .place ≤ 3 = omega (arith, h .place) in
+        record {
+          place = refl;
+          passed = h .passed;
+          vehicle = refl;
+          cycle = h .cycle;
+          tolerances = h .tolerances;
+          amounts = h .amounts;
+          empty = λ _. h .empty l;
+          waits = λ _. h .waits l;
+          reached = λ e. absurd (omega arith);
+        }
+    held (aCycle v) z =
+        let p = place-is (s .place) 2 (z .1) in
+        let l : x .place ≤ 3 = omega (arith, h .place) in
+        record {
+          place = refl;
+          passed = h .passed;
+          vehicle = h .vehicle;
+          cycle = refl;
+          tolerances = h .tolerances;
+          amounts = h .amounts;
+          empty = λ _. h .empty l;
+          waits = λ _. h .waits l;
+          reached = λ e. absurd (omega arith);
+        }
+    held (theTolerances t) z =
+        let p = place-is (s .place) 3 (z .1) in
+        let l : x .place ≤ 3 = omega (arith, h .place) in
+        let good : valid (x .cycle) ≡ true = ap valid (sym (h .cycle)) ∙ z .3 in
+        record {
+          place = refl;
+          passed = h .passed;
+          vehicle = h .vehicle;
+          cycle = h .cycle;
+          tolerances = refl;
+          amounts = h .amounts;
+          empty = λ e. absurd (omega arith);
+          waits = λ e. absurd (omega arith);
+          reached = λ _.
+              subst (λ (y : State). Reached (plan (x .cycle) t) l₀ m₀ (s .holding .samples) (started (x .cycle) t) (startOf (y .memory .ledger) (y .memory .map) .memory .ledger) (startOf (y .memory .ledger) (y .memory .map) .memory .map)) (sym (h .waits l))
+              (subst (λ (xs : List Moment). Reached (plan (x .cycle) t) l₀ m₀ xs (started (x .cycle) t) (startOf l₀ m₀ .memory .ledger) (startOf l₀ m₀ .memory .map)) (sym (h .empty l))
+              (Reached.start (granted t good (z .4))));
+        }
+    held (ownSamples xs) z =
+        let q = samplesOf (f .value) in
+        let late : behindTolerances ≤ x .place = omega (arith, h .place, block-places (s .place) (z .1) .0) in
+        let g = h .reached late in
+        let o = offered-is s x h in
+        let p = plan (x .cycle) (x .tolerances) in
+        let k = sizes (f .tag) (length (f .value)) a .block (z .0) in
+        let size : isBlock (length q) ≡ true = ap isBlock (length-drop 21 (f .value)) ∙ k .1 in
+        let r : Reached p l₀ m₀ (s .holding .samples ++ momentsIn q) _ _ _ =
+        Reached.block g (x .run .progress .offered) q
+        (accepted-by (runAt x) (x .cycle) (x .run .memory .ledger) (x .run .memory .map) (x .run .progress .offered) q
+        (record { ground = never-refused p l₀ m₀ g 0; block = size; first = refl; room = omega (arith, o, z .3 .room); samples = z .3 .samples })) in
+        record {
+          place = refl;
+          passed = h .passed;
+          vehicle = h .vehicle;
+          cycle = h .cycle;
+          tolerances = h .tolerances;
+          amounts = h .amounts;
+          empty = λ e. absurd (omega arith);
+          waits = λ e. absurd (omega arith);
+          reached = λ _.
+              subst (λ (ys : List Moment). Reached p l₀ m₀ (s .holding .samples ++ ys) (withProgress (started (x .cycle) (x .tolerances)) (samplesTaken (courseOf p) (x .run) (momentIn ys) (length ys) .progress))
+              (samplesTaken (courseOf p) (x .run) (momentIn ys) (length ys) .memory .ledger) (samplesTaken (courseOf p) (x .run) (momentIn ys) (length ys) .memory .map)) (sym (z .2))
+              (subst (λ (y : State). Reached p l₀ m₀ (s .holding .samples ++ momentsIn q) (withProgress (started (x .cycle) (x .tolerances)) (y .progress)) (y .memory .ledger) (y .memory .map))
+              (taken-list (courseOf p) (x .run) (momentAt q) (countIn q)) r);
+        }
+    held (before e) z =
+        let p = place-is (s .place) behindTolerances (z .1) in
+        with-amounts (withBefore (s .holding .amounts) e) (withBefore (x .amounts) e) 5 (omega arith) (omega (arith, h .place)) (ap (λ (y : Amounts). withBefore y e) (h .amounts))
+    held (after e) z =
+        let late = block-places (s .place) (z .1) .0 in
+        with-amounts (withAfter (s .holding .amounts) e) (withAfter (x .amounts) e) 7 (omega arith) (omega (arith, h .place)) (ap (λ (y : Amounts). withAfter y e) (h .amounts))
+    held (charged w) z =
+        let late = recharge-places (s .place) (z .1) .0 in
+        with-amounts (withCharge (s .holding .amounts) w) (withCharge (x .amounts) w) 8 (omega arith) (omega (arith, h .place)) (ap (λ (y : Amounts). withCharge y w) (h .amounts))
+
+  carries : Carries (λ x. x .place) contentOn bringOn passOn Holds
+  carries = record {
+    same-place = λ s x h. h .place;
+    same-content = λ s x h f a. same-content s x h f;
+    kept-brought = λ s x h f a b w.
+        let z = says (s .passed) (s .holding .vehicle) (s .holding .cycle) (length (s .holding .samples)) (f .tag) (f .value) (s .place) (w .row) (w .one) (w .is) (w .stands) b (w .brings) in
+        subst (λ (n : ℕ). Holds (bringAt s n b) (bringOn x n b)) (sym (z .1)) (held s x h f a b (z .0));
+    kept-passed = λ s x h. record {
+      place = h .place;
+      passed = ap (λ (n : ℕ). n + 1) (h .passed);
+      vehicle = h .vehicle;
+      cycle = h .cycle;
+      tolerances = h .tolerances;
+      amounts = h .amounts;
+      empty = h .empty;
+      waits = h .waits;
+      reached = h .reached;
+    };
+  }
+
+  -- all bytes lead it where they lead the lists
+  pub joined : (s : Told) (x : Stage) (i : List ℕ) → Holds s x → AlikeRan Holds (run tags takeField s i) (runOn x i)
+  joined s x i h = carried (λ y. y .place) contentOn bringOn passOn Holds carries s x i h
+
+  -- a state that holds what some lists tell: each accepted field keeps it so
+  pub record Tells (x : Stage) : Type 0 where
+    pub told : Told
+    pub holds : Holds told x
+
+  pub tells-move : (x : Stage) (i : List ℕ) (y : Stage) (m : ℕ) → moveAt tags takeOn x i ≡ on y m → Tells x → Tells y
+  unfolding replyAt
+  tells-move x i y m e h = go (frontOf tags i) refl e
+    where
+      by-answer : (a : Answer Told) (c : Answer Stage) (n : ℕ) → Alike Holds a c → moveBy c n ≡ on y m → Tells y
+      by-answer a c n (both-taken {s = s} {r = r} p) q = let d : r ≡ y = cc q in record { told = s; holds = subst (Holds s) d p }
+      by-answer a c n (both-passed {s = s} {r = r} p) q = let d : r ≡ y = cc q in record { told = s; holds = subst (Holds s) d p }
+      by-answer a c n (both-refused k) q = absurd (false≢true cc)
+
+      go : (w : Front) → frontOf tags i ≡ w → moveAs tags takeOn x w ≡ on y m → Tells y
+      go incomplete q g = absurd (false≢true cc)
+      go impossible q g = absurd (false≢true cc)
+      go (field f) q g =
+          by-answer (takeField (h .told) f) (takeOn x f) (bytesOf f)
+          (step-alike (λ y. y .place) contentOn bringOn passOn Holds carries (h .told) x (h .holds) f (front-allowed tags i f q)) g

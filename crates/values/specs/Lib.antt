@@ -1,0 +1,2 @@
+-- The limits of amounts.
+pub mod Limits

@@ -1,0 +1,9 @@
+-- Amounts within their limits, as the operations that are lent them test.
+-- Assumes nothing.
+use mathlib.Core.Bool.{Bool, _&&_}
+use Rattle.rules.specs.declared.Amounts.{Amounts}
+use Rattle.rules.specs.Closing.{isTransfer, isCharge}
+
+-- "within 10^13 either way", "1..2,000,000"
+unfoldable pub areAmounts : Amounts → Bool
+areAmounts a = isTransfer (a .before) && isTransfer (a .after) && isCharge (a .charge)
