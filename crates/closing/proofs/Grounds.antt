@@ -14,13 +14,14 @@ use mir.Syntax.{w64}
 use mir.Val.{SFits, toZ, ofZ}
 use Rattle.rules.specs.Words.{unless, settled, up}
 use Rattle.numbers.specs.Whole.{Sized}
-use Rattle.numbers.proofs.Tests.{not-refused, both, pass, settled-taken, settled-refused}
+use Rattle.numbers.proofs.Tests.{not-refused, both, pass, settled-taken, settled-refused, settled-answer}
 use Rattle.numbers.proofs.Whole.{abs-is, sized-add, sized-between, weaken}
 use Rattle.numbers.proofs.Signed.{sum-fits, sum-read}
 use Rattle.rules.specs.declared.Charge.the-variants.{Wh as wh}
 use Rattle.rules.specs.declared.Amounts.{Amounts}
 use Rattle.rules.specs.Closing.{mostRate, isCharge, weightedFigure, rangeFigure, closingRefusal, rechargeFigure, rechargeRefusal, mostTransfer, mostCharge, chargedBy}
 use Rattle.values.specs.Limits.{areAmounts}
+use Rattle.laws.specs.Answers.{Said, gives, refuses, orRefused, Measure, is, figureSaid}
 use Rattle.laws.specs.Beside.{mostWhole}
 use Rattle.laws.proofs.Closes.{closes, some-energy}
 use Rattle.ledger.specs.Row.{energyIn, distanceIn, energyAll}
@@ -29,18 +30,17 @@ use Rattle.state.specs.declared.Run.{Run}
 use Rattle.state.specs.State.{ground}
 use Rattle.state.specs.Refusals.{cyclesBy}
 use Rattle.state.proofs.Checked.{Ground, ground-passed, ground-zero, ground-on, ground-off}
-use Rattle.rules.specs.declared.Figure.{Figure}
 use Rattle.rules.specs.declared.Figure.the-variants.{Is, Refused}
 use Rattle.consumption.specs.Figures.{closingIn, rechargedBy}
 use Rattle.closing.specs.Answers.{grounds, whole, closingBy, refusalOf, closingOf}
 
 -- ---- an answer by the number of its refusal
 
-pub figure-refused : {n k : ℕ} (f : Figure) → k ≡ n → (k ≡ 0 → ⊥) → Refused k ≡ settled n f (Refused n)
-figure-refused f e h = ap Refused e ∙ sym (settled-refused f (λ z. h (e ∙ z)))
+pub figure-refused : {n k : ℕ} (f : Said Measure) → k ≡ n → (k ≡ 0 → ⊥) → refuses k ≡ orRefused n f
+figure-refused f e h = settled-answer refuses f e h
 
-pub figure-taken : {n y : ℕ} (x : ℕ) → n ≡ 0 → y ≡ settled n x 0 → Is y ≡ settled n (Is x) (Refused n)
-figure-taken {n} x z e = ap Is (e ∙ settled-taken 0 z) ∙ sym (settled-taken (Refused n) z)
+pub figure-taken : {n y : ℕ} (x : ℕ) → n ≡ 0 → y ≡ settled n x 0 → gives (is y) ≡ orRefused n (gives (is x))
+figure-taken {n} x z e = ap (λ (k : ℕ). gives (is k)) (e ∙ settled-taken 0 z) ∙ sym (settled-taken (refuses n) z)
 
 settled-again : (n x : ℕ) → settled n (settled n x 0) 0 ≡ settled n x 0
 settled-again n x = go (eqb n 0)
@@ -167,14 +167,14 @@ pub charge-most : (A : ℕ) → isCharge (wh A) ≡ true → A ≤ mostCharge
 charge-most A e = leb-true A mostCharge (both (leb 1 A) (leb A mostCharge) e .1)
 
 -- 14 and 12 as answers, or as numbers
-pub recharged-is : (E : ℤ) (n : ℕ) (e d : ℕ → ℤ) (F : ℤ) (A : ℕ) → rechargedBy (rangeFigure E n e d) E F A ≡ chargedBy E n e d F (wh A)
+pub recharged-is : (E : ℤ) (n : ℕ) (e d : ℕ → ℤ) (F : ℤ) (A : ℕ) → rechargedBy (rangeFigure E n e d) E F A ≡ figureSaid (chargedBy E n e d F (wh A))
 unfolding rechargedBy rechargeRefusal unless
 recharged-is E n e d F A =
     let x = rechargeFigure E n e d F A in
     go (leZ (pos 1) (E +ℤ F)) (leb x mostRate) x
   where
     go : (s t : Bool) (x : ℕ) →
-        unless (Refused 14) s (unless (Refused 12) t (Is x)) ≡ settled (unless 14 s (unless 12 t 0)) (Is x) (Refused (unless 14 s (unless 12 t 0)))
+        unless (refuses 14) s (unless (refuses 12) t (gives (is x))) ≡ figureSaid (settled (unless 14 s (unless 12 t 0)) (Is x) (Refused (unless 14 s (unless 12 t 0))))
     go true true x = refl
     go true false x = refl
     go false t x = refl

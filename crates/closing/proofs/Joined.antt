@@ -12,7 +12,9 @@ use Rattle.rules.specs.declared.Moment.{Moment}
 use Rattle.rules.specs.declared.Amounts.{Amounts}
 use Rattle.rules.specs.declared.Charge.{Charge}
 use Rattle.rules.specs.declared.Charge.the-variants.{Absent as absent, Wh as wh}
+use Rattle.laws.specs.Answers.{gives, refuses, orRefused, is, figureSaid}
 use Rattle.laws.specs.Beside.{isOpen}
+use Rattle.laws.proofs.Answers.{figure-or}
 use Rattle.rules.specs.Bench.{mostCycles}
 use Rattle.rules.specs.Course.{closed}
 use Rattle.rules.specs.Parts.{rowPart, cycles, partEnergy, partDistance}
@@ -52,10 +54,10 @@ module _ (E E′ : ℤ) (n n′ : ℕ) (few : n′ ≤ mostCycles) (e d e′ d�
       λ i. settled (k i) (Is (f i)) (Refused (k i))
 
 -- a figure that is 0 where it is refused
-settled-twice : (k x : ℕ) → settled k (Is (settled k x 0)) (Refused k) ≡ settled k (Is x) (Refused k)
+settled-twice : (k x : ℕ) → orRefused k (gives (is (settled k x 0))) ≡ figureSaid (settled k (Is x) (Refused k))
 settled-twice k x = go (eqb k 0)
   where
-    go : (y : Bool) → cond y (Is (cond y x 0)) (Refused k) ≡ cond y (Is x) (Refused k)
+    go : (y : Bool) → cond y (gives (is (cond y x 0))) (refuses k) ≡ figureSaid (cond y (Is x) (Refused k))
     go true = refl
     go false = refl
 
@@ -110,23 +112,23 @@ module _ (p : Plan) (l₀ : List ℤ) (m₀ : List ℕ) {xs : List Moment} {r : 
   unfolding refusalOf closingIn
   refusal-is = sym (pass 1 ok refl) ∙ never-refused p l₀ m₀ h _ ∙ refused-is
 
-  pub weighted-of-run : weightedAnswer r a (p .cycle) l m ≡ weightedBy E n e d
+  pub weighted-of-run : weightedAnswer r a (p .cycle) l m ≡ figureSaid (weightedBy E n e d)
   unfolding closingIn
   weighted-of-run =
-      (λ i. settled (refusal-is i) (Is (settled (refused-is i) (weighted-is i) 0)) (Refused (refusal-is i)))
+      (λ i. orRefused (refusal-is i) (gives (is (settled (refused-is i) (weighted-is i) 0))))
       ∙ settled-twice (closingRefusal E n e d) (weightedFigure E n e d)
 
-  pub range-of-run : rangeAnswer r a (p .cycle) l m ≡ rangeBy E n e d
+  pub range-of-run : rangeAnswer r a (p .cycle) l m ≡ figureSaid (rangeBy E n e d)
   unfolding closingIn
   range-of-run =
-      (λ i. settled (refusal-is i) (Is (settled (refused-is i) (range-is i) 0)) (Refused (refusal-is i)))
+      (λ i. orRefused (refusal-is i) (gives (is (settled (refused-is i) (range-is i) 0))))
       ∙ settled-twice (closingRefusal E n e d) (rangeFigure E n e d)
 
   charged-is : (F : ℤ) (charge : Charge) → chargedBy E′ n′ (energyIn l) (distanceIn l) F charge ≡ chargedBy E n e d F charge
   charged-is = charged-alike E′ E n′ n few (energyIn l) (distanceIn l) e d E-is n-is energies distances
 
-  pub recharge-of-run : rechargeAnswer r a (p .cycle) l m ≡ rechargeBy E n e d (a .after) (a .charge)
-  recharge-of-run = λ i. settled (refusal-is i) (charged-is (a .after) (a .charge) i) (Refused (refusal-is i))
+  pub recharge-of-run : rechargeAnswer r a (p .cycle) l m ≡ figureSaid (rechargeBy E n e d (a .after) (a .charge))
+  recharge-of-run = (λ i. orRefused (refusal-is i) (figureSaid (charged-is (a .after) (a .charge) i))) ∙ sym (figure-or (closingRefusal E n e d) (chargedBy E n e d (a .after) (a .charge)))
 
 -- a run that has ended, and the same run with more samples: every figure is as it was
 module _ (p : Plan) (l₀ : List ℤ) (m₀ : List ℕ) (xs ys : List Moment) {r r′ : Run} {l l′ : List ℤ} {m m′ : List ℕ}
@@ -169,14 +171,14 @@ module _ (p : Plan) (l₀ : List ℤ) (m₀ : List ℕ) (xs ys : List Moment) {r
   pub weighted-stays : weightedAnswer r′ a (p .cycle) l′ m′ ≡ weightedAnswer r a (p .cycle) l m
   weighted-stays =
       let w = weighted-alike _ _ _ _ (few p l₀ m₀ h a ok) _ _ e₁ d₁ same-E same-n same-e same-d in
-      weighted-of-run p l₀ m₀ h′ a ok ∙ (λ i. settled (same-refusal i) (Is (w i)) (Refused (same-refusal i))) ∙ sym (weighted-of-run p l₀ m₀ h a ok)
+      weighted-of-run p l₀ m₀ h′ a ok ∙ (λ i. figureSaid (settled (same-refusal i) (Is (w i)) (Refused (same-refusal i)))) ∙ sym (weighted-of-run p l₀ m₀ h a ok)
 
   pub range-stays : rangeAnswer r′ a (p .cycle) l′ m′ ≡ rangeAnswer r a (p .cycle) l m
   range-stays =
       let w = range-alike _ _ _ _ (few p l₀ m₀ h a ok) _ _ e₁ d₁ same-E same-n same-e same-d in
-      range-of-run p l₀ m₀ h′ a ok ∙ (λ i. settled (same-refusal i) (Is (w i)) (Refused (same-refusal i))) ∙ sym (range-of-run p l₀ m₀ h a ok)
+      range-of-run p l₀ m₀ h′ a ok ∙ (λ i. figureSaid (settled (same-refusal i) (Is (w i)) (Refused (same-refusal i)))) ∙ sym (range-of-run p l₀ m₀ h a ok)
 
   pub recharge-stays : rechargeAnswer r′ a (p .cycle) l′ m′ ≡ rechargeAnswer r a (p .cycle) l m
   recharge-stays =
       let w = charged-alike _ _ _ _ (few p l₀ m₀ h a ok) _ _ e₁ d₁ same-E same-n same-e same-d (a .after) (a .charge) in
-      recharge-of-run p l₀ m₀ h′ a ok ∙ (λ i. settled (same-refusal i) (w i) (Refused (same-refusal i))) ∙ sym (recharge-of-run p l₀ m₀ h a ok)
+      recharge-of-run p l₀ m₀ h′ a ok ∙ (λ i. figureSaid (settled (same-refusal i) (w i) (Refused (same-refusal i)))) ∙ sym (recharge-of-run p l₀ m₀ h a ok)

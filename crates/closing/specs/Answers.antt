@@ -6,14 +6,13 @@ use lib.IntN.{ℤ, _+ℤ_}
 use Rattle.rules.specs.Words.{unless, settled}
 use Rattle.rules.specs.declared.Amounts.{Amounts}
 use Rattle.values.specs.Limits.{areAmounts}
-use Rattle.rules.specs.Closing.{figureOr, chargedBy}
+use Rattle.rules.specs.Closing.{chargedBy}
+use Rattle.laws.specs.Answers.{Said, gives, orRefused, Measure, is, figureSaid}
 use Rattle.ledger.specs.Row.{energyIn, distanceIn, energyAll}
 use Rattle.state.specs.declared.Run.{Run}
 use Rattle.state.specs.State.{ground}
 use Rattle.state.specs.Refusals.{cyclesBy}
 use Rattle.consumption.specs.declared.Closed.{Closed}
-use Rattle.rules.specs.declared.Figure.{Figure}
-use Rattle.rules.specs.declared.Figure.the-variants.{Is}
 use Rattle.consumption.specs.Figures.{closingIn}
 
 module _ (r : Run) (a : Amounts) (b : List ℕ) (l : List ℤ) (m : List ℕ) where
@@ -32,14 +31,14 @@ module _ (r : Run) (a : Amounts) (b : List ℕ) (l : List ℤ) (m : List ℕ) wh
   unfoldable pub refusalOf : ℕ
   refusalOf = grounds (closingBy .refusal)
 
-  abbrev pub weightedAnswer : Figure
-  weightedAnswer = figureOr refusalOf (Is (closingBy .weighted))
+  abbrev pub weightedAnswer : Said Measure
+  weightedAnswer = orRefused refusalOf (gives (is (closingBy .weighted)))
 
-  abbrev pub rangeAnswer : Figure
-  rangeAnswer = figureOr refusalOf (Is (closingBy .range))
+  abbrev pub rangeAnswer : Said Measure
+  rangeAnswer = orRefused refusalOf (gives (is (closingBy .range)))
 
-  abbrev pub rechargeAnswer : Figure
-  rechargeAnswer = figureOr refusalOf (chargedBy whole (cyclesBy r) (energyIn l) (distanceIn l) (a .after) (a .charge))
+  abbrev pub rechargeAnswer : Said Measure
+  rechargeAnswer = orRefused refusalOf (figureSaid (chargedBy whole (cyclesBy r) (energyIn l) (distanceIn l) (a .after) (a .charge)))
 
   -- the closing with the refusals before it
   abbrev pub closingOf : Closed

@@ -4,13 +4,14 @@ use rules::Charge;
 use rules::Figure;
 use state::Run;
 ghost use mathlib.Core.Path.{_≡_};
+ghost use Rattle.laws.specs.Answers.{figureSaid};
 ghost use Rattle.closing.specs.Answers.{weightedAnswer, rangeAnswer, rechargeAnswer};
 
 pub mod checks;
 
 // Weighted consumption, in mWh/km.
 pub fn weighted(run: Run, amounts: Amounts, cycle: &[u8], ledger: &[i64], map: &[u64]) -> Figure
-    ensures { λ r. ⌜ r ≡ weightedAnswer run amounts (now (cycle .entry)) (now (ledger .entry)) (now (map .entry)) ⌝ }
+    ensures { λ r. ⌜ figureSaid r ≡ weightedAnswer run amounts (now (cycle .entry)) (now (ledger .entry)) (now (map .entry)) ⌝ }
 {
     let c = checks::closing_of(run, amounts, cycle, ledger, map);
     if c.refusal != 0 {
@@ -21,7 +22,7 @@ pub fn weighted(run: Run, amounts: Amounts, cycle: &[u8], ledger: &[i64], map: &
 
 // Range, in metres.
 pub fn range(run: Run, amounts: Amounts, cycle: &[u8], ledger: &[i64], map: &[u64]) -> Figure
-    ensures { λ r. ⌜ r ≡ rangeAnswer run amounts (now (cycle .entry)) (now (ledger .entry)) (now (map .entry)) ⌝ }
+    ensures { λ r. ⌜ figureSaid r ≡ rangeAnswer run amounts (now (cycle .entry)) (now (ledger .entry)) (now (map .entry)) ⌝ }
 {
     let c = checks::closing_of(run, amounts, cycle, ledger, map);
     if c.refusal != 0 {
@@ -32,7 +33,7 @@ pub fn range(run: Run, amounts: Amounts, cycle: &[u8], ledger: &[i64], map: &[u6
 
 // Recharge figure, in mWh/km.
 pub fn recharge(run: Run, amounts: Amounts, cycle: &[u8], ledger: &[i64], map: &[u64]) -> Figure
-    ensures { λ r. ⌜ r ≡ rechargeAnswer run amounts (now (cycle .entry)) (now (ledger .entry)) (now (map .entry)) ⌝ }
+    ensures { λ r. ⌜ figureSaid r ≡ rechargeAnswer run amounts (now (cycle .entry)) (now (ledger .entry)) (now (map .entry)) ⌝ }
 {
     let closing = checks::closing_of(run, amounts, cycle, ledger, map);
     if closing.refusal != 0 {

@@ -10,10 +10,9 @@ use lib.Signed.{leZ, ltZ}
 use Rattle.rules.specs.Words.{allBelow, unless, settled, up}
 use Rattle.rules.specs.Closing.{mostRate, isRate, rateOf, recharge, weightedFigure, rangeFigure, closingRefusal}
 use Rattle.rules.specs.Bench.{mostCycles}
+use Rattle.laws.specs.Answers.{Said, gives, refuses, Measure, is}
 use Rattle.ledger.specs.Row.{bounded, energyIn, distanceIn}
 use Rattle.consumption.specs.declared.Closed.{Closed}
-use Rattle.rules.specs.declared.Figure.{Figure}
-use Rattle.rules.specs.declared.Figure.the-variants.{Is, Refused}
 
 -- the two figures of n finished cycles with the whole energy E, or the number of the refusal
 unfoldable pub closingIn : List ℤ → ℕ → ℤ → Closed
@@ -35,8 +34,8 @@ pub record Closable (l : List ℤ) (n : ℕ) : Type 0 where
   pub rated : allBelow n (λ c. isRate (rateOf (energyIn l) (distanceIn l) c)) ≡ true
 
 -- 14, 12, or the recharge figure, of the range, the whole energy E, F and A
-unfoldable pub rechargedBy : ℕ → ℤ → ℤ → ℕ → Figure
+unfoldable pub rechargedBy : ℕ → ℤ → ℤ → ℕ → Said Measure
 rechargedBy range E F A =
-    unless (Refused 14) (leZ (pos 1) (E +ℤ F))
-    (unless (Refused 12) (leb (recharge (up E) (up (E +ℤ F)) A range) mostRate)
-    (Is (recharge (up E) (up (E +ℤ F)) A range)))
+    unless (refuses 14) (leZ (pos 1) (E +ℤ F))
+    (unless (refuses 12) (leb (recharge (up E) (up (E +ℤ F)) A range) mostRate)
+    (gives (is (recharge (up E) (up (E +ℤ F)) A range))))

@@ -11,11 +11,12 @@ ghost use lib.IntN.{pos, _+ℤ_};
 ghost use lib.Signed.{leZ, ltZ};
 ghost use Rattle.rules.specs.Words.{sum, allBelow};
 ghost use Rattle.numbers.specs.Whole.{Sized};
-ghost use Rattle.rules.specs.Closing.{isRate, rateOf, weightedFigure, recharge, mostRate, mostCharge, mostTransfer};
+ghost use Rattle.rules.specs.Closing.{isRate, rateOf, weightedFigure, mostRate, mostCharge, mostTransfer};
 ghost use Rattle.laws.specs.Beside.{mostWhole};
 ghost use Rattle.rules.specs.Bench.{mostCycles};
 ghost use Rattle.ledger.specs.Row.{bounded, energyIn, distanceIn};
 ghost use Rattle.wide.specs.Ratio.{ratio};
+ghost use Rattle.laws.specs.Answers.{figureSaid};
 ghost use Rattle.consumption.specs.Figures.{closingIn, Closable, rechargedBy};
 
 // The closing of a run: W and the range, or the number of a refusal.
@@ -196,7 +197,7 @@ fn divided(total: u64, both: u64, wh: u64, range: u64) -> Ratio
 pub fn recharged(range: u64, total: i64, after: i64, wh: u32) -> Figure
     requires { ⌜ (1 ≤ range) × (range < 2 ^ 51) × (leZ (pos 1) total ≡ true) × Sized mostWhole total ⌝ }
     requires { ⌜ Sized mostTransfer after × (wh ≤ mostCharge) ⌝ }
-    ensures { λ r. ⌜ r ≡ rechargedBy range total after wh ⌝ }
+    ensures { λ r. ⌜ figureSaid r ≡ rechargedBy range total after wh ⌝ }
 {
     let both = total + after;
     if both < 1 {

@@ -5,10 +5,10 @@ use mathlib.Core.Path.{_≡_, refl, sym, ap, ap₂, subst, _∙_}
 use Prim.Native.Nat.{ℕ, suc}
 use lib.ListN.{length, drop}
 use Rattle.rules.specs.Record.{refusedAt}
-use Rattle.desk.specs.Feeding.{Lent, Laid, Consumed, laidOf, stops, feedOf, deskGround}
+use Rattle.laws.specs.Answers.{Said, refuses, numberOf}
+use Rattle.desk.specs.Feeding.{outcomeSaid, Lent, Laid, Consumed, laidOf, stops, feedOf, deskGround}
 use Rattle.desk.proofs.Arriving.{Arrived, arrived-none, arrived-more}
 use Rattle.rules.specs.Text.{refusalText}
-use Rattle.desk.specs.declared.Outcome.{Outcome}
 use Rattle.desk.specs.declared.Outcome.the-variants.{Refused}
 use Rattle.desk.proofs.Grounds.{feed-refuses}
 use Rattle.desk.proofs.feed
@@ -18,12 +18,11 @@ use Rattle.prints.proofs.Printing as printing
 use Rattle.prints.proofs.refuse
 use Rattle.prints.proofs.close
 use Rattle.demands.specs.Calls.{FeedCall}
-use Rattle.demands.specs.Cases.{outcomeNumber}
 use Rattle.demands.specs.Demand2.{Prints, BeforeAll}
 use Rattle.demands.specs.Runs.{FeedOn, laidBy, FedIn, empty, more}
 
 -- as the contract has them
-fed-by : {x : Laid} {i : List ℕ} (c : FeedCall) → FeedOn x i c → record { laid = laidBy c; used = c .answer .used; outcome = c .answer .outcome } ≡ feedOf x i
+fed-by : {x : Laid} {i : List ℕ} (c : FeedCall) → FeedOn x i c → record { laid = laidBy c; used = c .answer .used; outcome = outcomeSaid (c .answer .outcome) } ≡ feedOf x i
 fed-by c on = c .kept ∙ (λ j. feedOf (laidOf (on .desk j) (on .room j) (on .ledger j) (on .map j)) (on .input j))
 
 module _ (lent : Lent) where
@@ -32,7 +31,7 @@ module _ (lent : Lent) where
   fed-arrived (more {w} {rest} {x} h new c on e) =
       let f = fed-by c on in
       subst (λ (y : Consumed). Arrived (lent .room₀) (lent .l₀) (lent .m₀) (lent .long-room) (w ++ new) (y .laid) (drop (y .used) (rest ++ new))) (sym f)
-      (arrived-more (lent .room₀) (lent .l₀) (lent .m₀) (lent .long-room) (fed-arrived h) new (sym (ap (λ (y : Consumed). y .outcome) f) ∙ e))
+      (arrived-more (lent .room₀) (lent .l₀) (lent .m₀) (lent .long-room) (fed-arrived h) new (sym (ap (λ (y : Consumed). y .outcome) f) ∙ ap outcomeSaid e))
 
 -- ---- what is printed
 
@@ -53,7 +52,7 @@ prints lent {w} {rest} {x} h = record {
       ∙ printing.report-prints lent (fed-arrived lent h);
   feed-number = λ new f fed k stops q.
       printing.refused-number lent (fed-arrived lent h) new k (outcome-is new f fed k stops) q
-      ∙ ap₂ (λ (y : Consumed) (o : Outcome). refusedAt (outcomeNumber o) (suc (y .laid .desk .fields))) (sym (fed-by f fed)) (sym stops);
+      ∙ ap₂ (λ (y : Consumed) (o : Said (Unit {0})). refusedAt (numberOf o) (suc (y .laid .desk .fields))) (sym (fed-by f fed)) (sym (ap outcomeSaid stops));
   refusal-prints = λ new f fed k stops c on q.
       text-is _ _ (c .kept .0) (c .kept .1) (on .long)
       ∙ (λ j. refusalText (on .number j) (nextField (on .desk j .fields)))
@@ -61,5 +60,5 @@ prints lent {w} {rest} {x} h = record {
       ∙ printing.refusal-prints lent (fed-arrived lent h) new k (outcome-is new f fed k stops) q;
 }
   where
-    outcome-is : (new : List ℕ) (f : FeedCall) → FeedOn x (rest ++ new) f → (k : ℕ) → f .answer .outcome ≡ Refused k → feedOf x (rest ++ new) .outcome ≡ Refused k
-    outcome-is new f fed k stops = sym (ap (λ (y : Consumed). y .outcome) (fed-by f fed)) ∙ stops
+    outcome-is : (new : List ℕ) (f : FeedCall) → FeedOn x (rest ++ new) f → (k : ℕ) → f .answer .outcome ≡ Refused k → feedOf x (rest ++ new) .outcome ≡ refuses k
+    outcome-is new f fed k stops = sym (ap (λ (y : Consumed). y .outcome) (fed-by f fed)) ∙ ap outcomeSaid stops

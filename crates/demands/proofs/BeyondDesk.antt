@@ -11,8 +11,8 @@ use Rattle.numbers.proofs.Tests.{not-refused}
 use Rattle.state.specs.State.{lent, Left}
 use Rattle.opening.specs.Answers.{OpenLeft, stageOf, openGround}
 use Rattle.reading.specs.Answers.{stageAt}
-use Rattle.reader.specs.declared.AllAnswer.{AllAnswer}
-use Rattle.reader.specs.declared.ReadAnswer.{ReadAnswer}
+use Rattle.reading.specs.declared.Reading.{Reading}
+use Rattle.reading.specs.Answers.{ReadSaid, AllSaid}
 use Rattle.desk.specs.Feeding.{Laid, Consumed, laidOf, lentCycle, stageOn, startedGround, mostFields, deskGround, feedOf}
 use Rattle.desk.proofs.LeftOver.{by-feed}
 use Rattle.demands.specs.Demand1.{BeyondStays}
@@ -45,10 +45,10 @@ beyond-stays = record {
       subst⁻¹ (Beyond (lent (now l) (now m))) (ap (λ (y : OpenLeft). y .memory) (c .kept)) (open-of-beyond o (now room) (now l) (now m) (now i));
   read-beyond = λ c.
       let (r, (i, (b, (l, (m, _))))) = c .args in
-      subst⁻¹ (Beyond (lent (now l) (now m))) (ap (λ (y : Left ReadAnswer). y .memory) (c .kept)) (read-of-beyond r (now b) (now l) (now m) (now i));
+      subst⁻¹ (Beyond (lent (now l) (now m))) (ap (λ (y : Left (ReadSaid Reading)). y .memory) (c .kept)) (read-of-beyond r (now b) (now l) (now m) (now i));
   read-all-beyond = λ c.
       let (r, (i, (b, (l, (m, _))))) = c .args in
-      subst⁻¹ (Beyond (lent (now l) (now m))) (ap (λ (y : Left AllAnswer). y .memory) (c .kept)) (read-all-of-beyond r (now b) (now l) (now m) (now i));
+      subst⁻¹ (Beyond (lent (now l) (now m))) (ap (λ (y : Left (AllSaid Reading)). y .memory) (c .kept)) (read-all-of-beyond r (now b) (now l) (now m) (now i));
   feed-beyond = λ c.
       let (d, (i, (room, (l, (m, _))))) = c .args in
       subst⁻¹ (Beyond (lent (now l) (now m))) (ap (λ (y : Consumed). y .laid .memory) (c .kept)) (fed-beyond (laidOf d (now room) (now l) (now m)) (now i));

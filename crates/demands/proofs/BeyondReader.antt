@@ -20,6 +20,7 @@ use Rattle.rules.specs.Table.{behindTolerances, tags}
 use Rattle.rules.specs.Machine.{Reply, toField, notYet, noField, taken, passed, refused, on, moveOf, moveAt}
 use Rattle.rules.specs.Values.{momentAt, countIn, samplesOf}
 use Rattle.rules.specs.Record.{Bring, nothing, aNumber, aCycle, theTolerances, ownSamples, before, after, charged}
+use Rattle.laws.specs.Answers.{refuses}
 use Rattle.laws.proofs.Prefixes.{kept as keeps-all}
 use Rattle.laws.proofs.Says.{movesTo, Says}
 use Rattle.laws.proofs.Samples.{moments-at}
@@ -35,14 +36,10 @@ use Rattle.records.proofs.Came.{Enough, Moved, took, went, moved}
 use Rattle.records.proofs.Later.{taken-list}
 use Rattle.laws.proofs.Places.{place-is, block-places, recharge-places}
 use Rattle.opening.specs.declared.Opening.{Opening}
-use Rattle.opening.specs.declared.OpenStep.the-variants as opening
 use Rattle.opening.specs.Answers.{stageOf, openGround, notOpened, openedBy, frontOpened}
 use Rattle.opening.proofs.Starting.{ground-ready}
 use Rattle.reading.specs.declared.Reading.{Reading}
-use Rattle.reading.specs.declared.Step.the-variants as step
-use Rattle.reading.specs.Answers.{stageAt, readGround}
-use Rattle.reader.specs.declared.AllAnswer.{AllAnswer}
-use Rattle.reader.specs.declared.ReadAnswer.{ReadAnswer}
+use Rattle.reading.specs.Answers.{ReadSaid, AllSaid, stageAt, readGround}
 use Rattle.reader.specs.Answers.{readBy, allBy, readLeft, allLeft}
 use Rattle.demands.specs.Runs.{Beyond}
 use Rattle.demands.proofs.Beyond.{untouched, beyond-then, all-beyond}
@@ -132,7 +129,7 @@ module _ (o : Opening) (room : List ℕ) (l : List ℤ) (m : List ℕ) where
       x = stageOf o room l m
 
       go : (t : Bool) → eqb (openGround o room) 0 ≡ t
-          → Beyond (lent l m) (cond t (openedBy o room x (replyOn x i)) (notOpened o room x (opening.Refused (openGround o room))) .memory)
+          → Beyond (lent l m) (cond t (openedBy o room x (replyOn x i)) (notOpened o room x (refuses (openGround o room))) .memory)
       go true e = subst (Beyond (lent l m)) (opened-memory x (replyOn x i)) (keeps-reply (lent l m) x i (opening-keeps (eqb-true _ 0 e)) .beyond)
       go false e = untouched
 
@@ -152,8 +149,8 @@ module _ (r : Reading) (b : List ℕ) (l : List ℤ) (m : List ℕ) where
     unfolding readLeft
     read-of-beyond = go (eqb (readGround r b l m) 0) refl
       where
-        call : Bool → Left ReadAnswer
-        call t = cond t (readBy r x (replyOn x i)) (left (record { step = step.Refused (readGround r b l m); reading = r }) l m)
+        call : Bool → Left (ReadSaid Reading)
+        call t = cond t (readBy r x (replyOn x i)) (left (record { says = refuses (readGround r b l m); state = r }) l m)
 
         go : (t : Bool) → eqb (readGround r b l m) 0 ≡ t → Beyond (lent l m) (call t .memory)
         go true e = keeps-reply (lent l m) x i (reading-keeps (eqb-true _ 0 e)) .beyond
@@ -163,8 +160,8 @@ module _ (r : Reading) (b : List ℕ) (l : List ℤ) (m : List ℕ) where
     unfolding allLeft
     read-all-of-beyond = go (eqb (readGround r b l m) 0) refl
       where
-        call : Bool → Left AllAnswer
-        call t = cond t (allBy r (runOn x i)) (left (record { reading = r; fields = 0; used = 0; last = step.Refused (readGround r b l m) }) l m)
+        call : Bool → Left (AllSaid Reading)
+        call t = cond t (allBy r (runOn x i)) (left (record { state = r; fields = 0; used = 0; last = refuses (readGround r b l m) }) l m)
 
         go : (t : Bool) → eqb (readGround r b l m) 0 ≡ t → Beyond (lent l m) (call t .memory)
         go true e = keeps-run (lent l m) x i (reading-keeps (eqb-true _ 0 e)) .beyond

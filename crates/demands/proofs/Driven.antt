@@ -1,7 +1,7 @@
 -- Whole runs, by calls that keep the contracts; each is a run that the judge's own definitions reach.
 -- Assumes nothing.
 use mathlib.Core.List.{List}
-use mathlib.Core.Path.{_≡_, sym, subst⁻¹, subst₂, transport, _∙_}
+use mathlib.Core.Path.{_≡_, sym, ap, subst⁻¹, subst₂, transport, _∙_}
 use Prim.Native.Nat.{ℕ}
 use lib.IntN.{ℤ}
 use denote.Ref.{now}
@@ -9,11 +9,14 @@ use Rattle.numbers.proofs.Tests.{settled-taken}
 use Rattle.rules.specs.declared.Moment.{Moment}
 use Rattle.rules.specs.declared.Tolerances.{Tolerances}
 use Rattle.rules.specs.Regular.{Plan}
+use Rattle.laws.specs.Answers.{gives}
+use Rattle.laws.proofs.Answers.{was-given, given-is}
 use Rattle.state.specs.declared.Run.{Run}
 use Rattle.state.specs.State.{Memory, lent}
 use Rattle.judge.specs.declared.Answer.{Answer}
 use Rattle.judge.specs.declared.Answer.the-variants.{Taken, Refused}
-use Rattle.judge.proofs.Promises.{Promised, promised, StartPromise, SamplePromise, BlockPromise, answer-taken, refused-changes-nothing}
+use Rattle.judge.specs.Answers.{answerSaid}
+use Rattle.judge.proofs.Promises.{Promised, promised, StartPromise, SamplePromise, BlockPromise, refused-changes-nothing}
 use Rattle.judge.proofs.Runs.{Reached}
 use Rattle.judge.proofs.start
 use Rattle.judge.proofs.sample
@@ -55,7 +58,8 @@ module _ (p : Plan) (l₀ : List ℤ) (m₀ : List ℕ) where
   by-promise : {n : ℕ} {r r′ : Run} {a c : Memory} {l : List ℤ} {m : List ℕ} {xs : List Moment} {x : Answer} → Promised n r a l m x c → x ≡ Taken r′
       → (n ≡ 0 → Reached p l₀ m₀ xs r (a .ledger) (a .map)) → Reached p l₀ m₀ xs r′ (c .ledger) (c .map)
   by-promise {n} {r} {r′} {l = l} {m = m} {xs = xs} k e reach =
-      let (zero, same) = answer-taken n r r′ (sym (k .answer) ∙ e) in
+      let (zero, given) = was-given n (gives r) r′ (sym (k .answer) ∙ ap answerSaid e) in
+      let same = given-is given in
       subst₂ (λ (y : Run) (z : Memory). Reached p l₀ m₀ xs y (z .ledger) (z .map)) same (sym (k .in-memory ∙ settled-taken (lent l m) zero)) (reach zero)
 
   by-refusal : {n : ℕ} {r s : Run} {a c : Memory} {l : List ℤ} {m : List ℕ} {xs : List Moment} {x : Answer} → Promised n s a l m x c → (k : ℕ) → x ≡ Refused k

@@ -14,6 +14,7 @@ use Rattle.rules.specs.Machine.{Reply, toField, notYet, noField, taken, passed,
 use Rattle.rules.specs.Record.{Told, takeField, untold, told, sheetOf}
 use Rattle.rules.specs.Text.{printed}
 use Rattle.rules.specs.Figures.{figuresTold}
+use Rattle.laws.specs.Answers.{gives, refuses}
 use Rattle.laws.proofs.Sheets.{told-leads}
 use Rattle.laws.specs.Claims.{ForeignBlock, oneMore}
 use Rattle.laws.proofs.ForeignBlocks as laws
@@ -21,10 +22,8 @@ use Rattle.state.specs.State.{Left, left as memory-left}
 use Rattle.records.specs.Stage.{Stage, passOn, takeOn, replyOn}
 use Rattle.records.proofs.Came.{gone}
 use Rattle.reading.specs.declared.Reading.{Reading}
-use Rattle.reading.specs.declared.Step.the-variants as step
-use Rattle.reading.specs.Answers.{stageAt, stepOf, readGround}
+use Rattle.reading.specs.Answers.{passes, stepSaid, replySaid, ReadSaid, stageAt, readGround}
 use Rattle.reading.proofs.Taking.{from-start}
-use Rattle.reader.specs.declared.ReadAnswer.{ReadAnswer}
 use Rattle.reader.specs.Answers.{readBy, readLeft}
 use Rattle.demands.specs.Demand2.{ForeignChangesNothing, ReadPassesOver}
 use Rattle.demands.specs.Compared.{onePassed}
@@ -65,28 +64,28 @@ module _ (r : Reading) (b : List ℕ) (l : List ℤ) (m i : List ℕ) (n : ℕ) 
   abbrev x : Stage
   x = stageAt r b l m
 
-  abbrev over : Left ReadAnswer
-  over = memory-left (record { step = step.Passed n; reading = onePassed r }) l m
+  abbrev over : Left (ReadSaid Reading)
+  over = memory-left (record { says = gives (passes n); state = onePassed r }) l m
 
-  reply-passes : (y : Reply Stage) → replyOn x i ≡ y → stepOf y ≡ step.Passed n → readBy r x y ≡ over
+  reply-passes : (y : Reply Stage) → replyOn x i ≡ y → replySaid y ≡ gives (passes n) → readBy r x y ≡ over
   reply-passes (toField (taken z) k) d e = absurd (false≢true cc)
   reply-passes (toField (passed z) k) d e =
       let z-is : passOn x ≡ z = reply-gone x i z k d in
       let same : k ≡ n = cc e in
       (λ j. readBy r x (toField (passed (sym z-is j)) (same j)))
-      ∙ (λ j. memory-left (record { step = step.Passed n; reading = record { vehicle = r .vehicle; place = sym (from-start (r .place)) j; passed = r .passed + 1; amounts = r .amounts; run = r .run } }) l m)
+      ∙ (λ j. memory-left (record { says = gives (passes n); state = record { vehicle = r .vehicle; place = sym (from-start (r .place)) j; passed = r .passed + 1; amounts = r .amounts; run = r .run } }) l m)
   reply-passes (toField (refused k) j) d e = absurd (false≢true cc)
   reply-passes notYet d e = absurd (false≢true cc)
   reply-passes noField d e = absurd (false≢true cc)
 
-  passed-read : readLeft r b l m i .answer .step ≡ step.Passed n → readLeft r b l m i ≡ over
+  passed-read : readLeft r b l m i .answer .says ≡ gives (passes n) → readLeft r b l m i ≡ over
   unfolding readLeft
   passed-read = go (eqb (readGround r b l m) 0)
     where
-      call : Bool → Left ReadAnswer
-      call t = cond t (readBy r x (replyOn x i)) (memory-left (record { step = step.Refused (readGround r b l m); reading = r }) l m)
+      call : Bool → Left (ReadSaid Reading)
+      call t = cond t (readBy r x (replyOn x i)) (memory-left (record { says = refuses (readGround r b l m); state = r }) l m)
 
-      go : (t : Bool) → call t .answer .step ≡ step.Passed n → call t ≡ over
+      go : (t : Bool) → call t .answer .says ≡ gives (passes n) → call t ≡ over
       go true = reply-passes (replyOn x i) refl
       go false = λ e. absurd (false≢true cc)
 
@@ -94,5 +93,5 @@ pub read-passes-over : ReadPassesOver
 read-passes-over c n e =
     let (r, (i, (b, (l, (m, _))))) = c .args in
     let k = c .kept in
-    let f = k ∙ passed-read r (now b) (now l) (now m) (now i) n (sym (ap (λ (y : Left ReadAnswer). y .answer .step) k) ∙ e) in
-    (ap (λ (y : Left ReadAnswer). y .answer .reading) f, left-by c (λ j. (tt, (tt, (tt, (f j .memory .ledger, (f j .memory .map, tt)))))))
+    let f = k ∙ passed-read r (now b) (now l) (now m) (now i) n (sym (ap (λ (y : Left (ReadSaid Reading)). y .answer .says) k) ∙ ap stepSaid e) in
+    (ap (λ (y : Left (ReadSaid Reading)). y .answer .state) f, left-by c (λ j. (tt, (tt, (tt, (f j .memory .ledger, (f j .memory .map, tt)))))))

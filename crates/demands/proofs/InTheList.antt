@@ -10,18 +10,20 @@ use lib.Dec.{leb, eqb}
 use lib.IntN.{ℤ, _+ℤ_}
 use lib.ListN.{length, drop}
 use denote.Ref.{now}
-use Rattle.rules.specs.Words.{unless, settled}
+use Rattle.rules.specs.Words.{unless}
 use Rattle.rules.specs.declared.Amounts.{Amounts}
 use Rattle.rules.specs.declared.Charge.{Charge}
 use Rattle.rules.specs.declared.Charge.the-variants.{Absent as absent, Wh as wh}
-use Rattle.rules.specs.declared.Figure.the-variants as figure
+use Rattle.rules.specs.declared.Figure.the-variants.{Is}
 use Rattle.rules.specs.Bench.{mostPassed}
-use Rattle.rules.specs.Closing.{closingRefusal, rechargeRefusal, chargedBy}
+use Rattle.rules.specs.Closing.{closingRefusal, rechargeFigure, rechargeRefusal, chargedBy}
 use Rattle.rules.specs.Table.{Matter, mark, number, cycle, tolerances, block, energyBefore, energyAfter, recharge, behindTolerances, tags}
 use Rattle.rules.specs.Front.{Field, Front, incomplete, impossible, field, frontOf}
 use Rattle.rules.specs.Machine.{Reply, toField, notYet, noField, taken, passed, refused, End, waiting, broken, stopped, Ran, off, Answer, moveOf, replyAs, replyAt, run}
 use Rattle.rules.specs.Values.{sameNumber, firstIn, samplesOf, momentsIn, blockOr}
 use Rattle.rules.specs.Record.{Bring, ownSamples, Content, brought, foreign, wrong, blockContent, contentOf, fieldContent, answerBy, fieldAnswer, Told, contentAt, bringAt, morePassed, takeField, untold, told, refusedAt, sheetBy, sheetOf}
+use Rattle.laws.specs.Answers.{Said, gives, refuses, orRefused, is, figureSaid, endSaid}
+use Rattle.laws.proofs.Answers.{given-refused, figure-or}
 use Rattle.laws.proofs.Carried.{by-field}
 use Rattle.laws.proofs.Prefixes.{run-stops}
 use Rattle.state.specs.State.{Left, left, ground}
@@ -29,24 +31,16 @@ use Rattle.ledger.specs.Row.{energyIn, distanceIn, energyAll}
 use Rattle.state.specs.declared.Run.{Run}
 use Rattle.state.specs.Refusals.{startRefusal, sampleRefusal, cyclesBy}
 use Rattle.blocks.specs.Blocks.{blockRefusal}
-use Rattle.judge.specs.declared.Answer.the-variants as answer
-use Rattle.judge.specs.declared.ShownAnswer.the-variants as counts
-use Rattle.judge.specs.declared.TotalsAnswer.the-variants as sums
+use Rattle.judge.specs.Answers.{answerSaid, shownSaid, totalsSaid}
 use Rattle.consumption.specs.Figures.{closingIn}
 use Rattle.closing.specs.Answers.{refusalOf}
 use Rattle.records.specs.Stage.{Stage, contentOn, bringOn, passOn, replyOn, runOn}
 use Rattle.opening.specs.declared.Opening.{Opening}
-use Rattle.opening.specs.declared.OpenStep.the-variants as opening
-use Rattle.opening.specs.Answers.{OpenLeft, stageOf, runOf, openGround, notOpened, openedBy, frontOpened}
+use Rattle.opening.specs.Answers.{opens, starts, openStepSaid, OpenLeft, stageOf, runOf, openGround, notOpened, openedBy, frontOpened}
 use Rattle.reading.specs.declared.Reading.{Reading}
-use Rattle.reading.specs.declared.Step.the-variants as step
-use Rattle.reading.specs.Answers.{stageAt, stepOf, lastOf, readGround}
-use Rattle.reader.specs.declared.AllAnswer.{AllAnswer}
-use Rattle.reader.specs.declared.Ending.the-variants as ending
-use Rattle.reader.specs.declared.ReadAnswer.{ReadAnswer}
-use Rattle.reader.specs.Answers.{readBy, allBy, readLeft, allLeft, endingOf}
-use Rattle.desk.specs.declared.Outcome.the-variants as outcome
-use Rattle.desk.specs.Feeding.{Laid, Consumed, laidOf, stageOn, outcomeOf, deskGround, feedOf}
+use Rattle.reading.specs.Answers.{unfinished, stepSaid, replySaid, ReadSaid, AllSaid, stageAt, readGround}
+use Rattle.reader.specs.Answers.{mayEnd, endingSaid, readBy, allBy, readLeft, allLeft, endingOf}
+use Rattle.desk.specs.Feeding.{outcomeSaid, Laid, Consumed, laidOf, stageOn, deskGround, feedOf}
 use Rattle.desk.proofs.LeftOver.{by-feed}
 use Rattle.demands.specs.Cases.{Listed}
 use Rattle.demands.specs.Demand1.{InTheList}
@@ -94,14 +88,16 @@ listed k h some = record { from-1 = go k some; to-15 = h }
     go : (k : ℕ) → (k ≡ 0 → ⊥) → 1 ≤ k
     go k n = omega arith
 
--- an answer by the number of its refusal
-settled-listed : {A : Type 0} (refusal : ℕ → A) (new : A) (k n : ℕ) → Few k → (new ≡ refusal n → Listed n) → (refusal k ≡ refusal n → k ≡ n)
-    → settled k new (refusal k) ≡ refusal n → Listed n
-settled-listed refusal new k n few ok same = go (eqb k 0) refl
+-- what is said by the number of a refusal
+said-listed : {A : Type 0} (k : ℕ) (x : Said A) (n : ℕ) → Few k → (x ≡ refuses n → Listed n) → orRefused k x ≡ refuses n → Listed n
+said-listed k x n few ok = go (eqb k 0) refl
   where
-    go : (t : Bool) → eqb k 0 ≡ t → cond t new (refusal k) ≡ refusal n → Listed n
+    go : (t : Bool) → eqb k 0 ≡ t → cond t x (refuses k) ≡ refuses n → Listed n
     go true z e = ok e
-    go false z e = subst Listed (same e) (listed k few (eqb-false k 0 z))
+    go false z e = let d : k ≡ n = cc in subst Listed d (listed k few (eqb-false k 0 z))
+
+given-listed : {A : Type 0} (k : ℕ) (x : A) (n : ℕ) → Few k → orRefused k (gives x) ≡ refuses n → Listed n
+given-listed k x n few = said-listed k (gives x) n few (λ z. absurd (given-refused z))
 
 -- ---- what a field brings
 
@@ -196,18 +192,18 @@ run-listed x i = end-proper (λ s. s .place) contentOn bringOn passOn on-proper 
 eight : Listed 8
 eight = at 8 (omega arith) (omega arith)
 
-open-listed : (o : Opening) (room : List ℕ) (l : List ℤ) (m i : List ℕ) (n : ℕ) → frontOpened o room l m i .answer .step ≡ opening.Refused n → Listed n
+open-listed : (o : Opening) (room : List ℕ) (l : List ℤ) (m i : List ℕ) (n : ℕ) → frontOpened o room l m i .answer .says ≡ refuses n → Listed n
 unfolding frontOpened
 open-listed o room l m i n = go (eqb (openGround o room) 0) refl
   where
     x : Stage
     x = stageOf o room l m
 
-    started : (b : Bool) (z : Stage) (k : ℕ) → cond b (opening.Started k (runOf z)) (opening.Taken k) ≡ opening.Refused n → Listed n
+    started : (b : Bool) (z : Stage) (k : ℕ) → gives (cond b (starts k (runOf z)) (opens k)) ≡ refuses n → Listed n
     started true z k e = absurd (false≢true cc)
     started false z k e = absurd (false≢true cc)
 
-    by : (y : Reply Stage) → replyOn x i ≡ y → openedBy o room x y .answer .step ≡ opening.Refused n → Listed n
+    by : (y : Reply Stage) → replyOn x i ≡ y → openedBy o room x y .answer .says ≡ refuses n → Listed n
     by (toField (taken z) k) q e = started (eqb (z .place) behindTolerances) z k e
     by (toField (passed z) k) q e = absurd (false≢true cc)
     by (toField (refused x) k) q e = let d : x ≡ n = cc e in subst Listed d (reply-listed _ i x k q)
@@ -215,7 +211,7 @@ open-listed o room l m i n = go (eqb (openGround o room) 0) refl
     by noField q e = let d : 8 ≡ n = cc e in subst Listed d eight
 
     go : (b : Bool) → eqb (openGround o room) 0 ≡ b
-        → cond b (openedBy o room x (replyOn x i)) (notOpened o room x (opening.Refused (openGround o room))) .answer .step ≡ opening.Refused n → Listed n
+        → cond b (openedBy o room x (replyOn x i)) (notOpened o room x (refuses (openGround o room))) .answer .says ≡ refuses n → Listed n
     go true z e = by (replyOn x i) refl e
     go false z e = let d : openGround o room ≡ n = cc e in subst Listed d (listed (openGround o room) (few-opening o room) (eqb-false _ 0 z))
 
@@ -226,11 +222,11 @@ module _ (r : Reading) (b : List ℕ) (l : List ℤ) (m i : List ℕ) (n : ℕ) 
   refused-listed : eqb (readGround r b l m) 0 ≡ false → readGround r b l m ≡ n → Listed n
   refused-listed z d = subst Listed d (listed (readGround r b l m) (few-reading r b l m) (eqb-false _ 0 z))
 
-  read-listed : readLeft r b l m i .answer .step ≡ step.Refused n → Listed n
+  read-listed : readLeft r b l m i .answer .says ≡ refuses n → Listed n
   unfolding readLeft
   read-listed = go (eqb (readGround r b l m) 0) refl
     where
-      by : (y : Reply Stage) → replyOn x i ≡ y → stepOf y ≡ step.Refused n → Listed n
+      by : (y : Reply Stage) → replyOn x i ≡ y → replySaid y ≡ refuses n → Listed n
       by (toField (taken z) k) q e = absurd (false≢true cc)
       by (toField (passed z) k) q e = absurd (false≢true cc)
       by (toField (refused j) k) q e = let d : j ≡ n = cc e in subst Listed d (reply-listed x i j k q)
@@ -238,39 +234,39 @@ module _ (r : Reading) (b : List ℕ) (l : List ℤ) (m i : List ℕ) (n : ℕ) 
       by noField q e = let d : 8 ≡ n = cc e in subst Listed d eight
 
       go : (t : Bool) → eqb (readGround r b l m) 0 ≡ t
-          → cond t (readBy r x (replyOn x i)) (left {A = ReadAnswer} (record { step = step.Refused (readGround r b l m); reading = r }) l m) .answer .step ≡ step.Refused n → Listed n
+          → cond t (readBy r x (replyOn x i)) (left {A = ReadSaid Reading} (record { says = refuses (readGround r b l m); state = r }) l m) .answer .says ≡ refuses n → Listed n
       go true z e = by (replyOn x i) refl e
       go false z e = refused-listed z cc
 
-  read-all-listed : allLeft r b l m i .answer .last ≡ step.Refused n → Listed n
+  read-all-listed : allLeft r b l m i .answer .last ≡ refuses n → Listed n
   unfolding allLeft
   read-all-listed = go (eqb (readGround r b l m) 0) refl
     where
-      by : (e : End) → runOn x i .end ≡ e → lastOf e ≡ step.Refused n → Listed n
+      by : (e : End) → runOn x i .end ≡ e → endSaid unfinished e ≡ refuses n → Listed n
       by waiting q e = absurd (false≢true cc)
       by broken q e = let d : 8 ≡ n = cc e in subst Listed d eight
       by (stopped j) q e = let d : j ≡ n = cc e in subst Listed d (run-listed x i j q)
 
       go : (t : Bool) → eqb (readGround r b l m) 0 ≡ t
-          → cond t (allBy r (runOn x i)) (left {A = AllAnswer} (record { reading = r; fields = 0; used = 0; last = step.Refused (readGround r b l m) }) l m) .answer .last ≡ step.Refused n → Listed n
+          → cond t (allBy r (runOn x i)) (left {A = AllSaid Reading} (record { state = r; fields = 0; used = 0; last = refuses (readGround r b l m) }) l m) .answer .last ≡ refuses n → Listed n
       go true z e = by (runOn x i .end) refl e
       go false z e = refused-listed z cc
 
-ended-listed : (started : Bool) (left n : ℕ) → endingOf started left ≡ ending.Refused n → Listed n
+ended-listed : (started : Bool) (left n : ℕ) → endingOf started left ≡ refuses n → Listed n
 unfolding endingOf unless
 ended-listed started left n = go started (eqb left 0)
   where
-    go : (s t : Bool) → unless (ending.Refused 15) s (unless (ending.Refused 15) t ending.Whole) ≡ ending.Refused n → Listed n
+    go : (s t : Bool) → unless (refuses 15) s (unless (refuses 15) t mayEnd) ≡ refuses n → Listed n
     go true true e = absurd (false≢true cc)
     go true false e = let d : 15 ≡ n = cc e in subst Listed d (at 15 (omega arith) (omega arith))
     go false t e = let d : 15 ≡ n = cc e in subst Listed d (at 15 (omega arith) (omega arith))
 
-feed-listed : (x : Laid) (i : List ℕ) (n : ℕ) → feedOf x i .outcome ≡ outcome.Refused n → Listed n
+feed-listed : (x : Laid) (i : List ℕ) (n : ℕ) → feedOf x i .outcome ≡ refuses n → Listed n
 feed-listed x i n =
-    by-feed x i (λ (y : Consumed). y .outcome ≡ outcome.Refused n → Listed n) (λ _ e. by (runOn (stageOn x) i .end) refl e)
+    by-feed x i (λ (y : Consumed). y .outcome ≡ refuses n → Listed n) (λ _ e. by (runOn (stageOn x) i .end) refl e)
     (λ z e. let d : deskGround x ≡ n = cc e in subst Listed d (listed (deskGround x) (few-desk x) z))
   where
-    by : (e : End) → runOn (stageOn x) i .end ≡ e → outcomeOf e ≡ outcome.Refused n → Listed n
+    by : (e : End) → runOn (stageOn x) i .end ≡ e → endSaid {A = Unit {0}} tt e ≡ refuses n → Listed n
     by waiting q e = absurd (false≢true cc)
     by broken q e = let d : 8 ≡ n = cc e in subst Listed d eight
     by (stopped j) q e = let d : j ≡ n = cc e in subst Listed d (run-listed (stageOn x) i j q)
@@ -298,11 +294,12 @@ sheet-listed i n k = by (run tags takeField untold i .end) refl
         subst Listed d (end-proper (λ s. s .place) contentAt bringAt morePassed at-proper untold i j q)
 
 -- a figure
-charge-listed : (E : ℤ) (N : ℕ) (e d : ℕ → ℤ) (F : ℤ) (y : Charge) (n : ℕ) → chargedBy E N e d F y ≡ figure.Refused n → Listed n
+charge-listed : (E : ℤ) (N : ℕ) (e d : ℕ → ℤ) (F : ℤ) (y : Charge) (n : ℕ) → figureSaid (chargedBy E N e d F y) ≡ refuses n → Listed n
 unfolding rechargeRefusal
-charge-listed E N e d F absent n q = absurd (false≢true cc)
+charge-listed E N e d F absent n q = absurd (given-refused q)
 charge-listed E N e d F (wh A) n q =
-    settled-listed figure.Refused _ (rechargeRefusal E N e d F A) n (few-unless _ (omega arith) (few-unless _ (omega arith) zero-le)) (λ z. absurd (false≢true cc)) (λ z. cc z) q
+    given-listed (rechargeRefusal E N e d F A) (is (rechargeFigure E N e d F A)) n (few-unless _ (omega arith) (few-unless _ (omega arith) zero-le))
+    (sym (figure-or (rechargeRefusal E N e d F A) (Is (rechargeFigure E N e d F A))) ∙ q)
 
 few-figure : (r : Run) (a : Amounts) (b : List ℕ) (l : List ℤ) (m : List ℕ) → Few (refusalOf r a b l m)
 unfolding refusalOf closingIn
@@ -312,41 +309,41 @@ pub in-the-list : InTheList
 unfolding startRefusal sampleRefusal blockRefusal
 in-the-list = record {
   start-listed = λ c n e.
-      settled-listed answer.Refused _ _ n (few-unless _ (omega arith) (few-unless _ (omega arith) (few-unless _ (omega arith) (few-unless _ (omega arith) zero-le))))
-      (λ z. absurd (false≢true cc)) (λ z. cc z) (sym (ap (λ y. y .answer) (c .kept)) ∙ e);
+      given-listed _ _ n (few-unless _ (omega arith) (few-unless _ (omega arith) (few-unless _ (omega arith) (few-unless _ (omega arith) zero-le))))
+      (sym (ap (λ (y : Left (Said Run)). y .answer) (c .kept)) ∙ ap answerSaid e);
   sample-listed = λ c n e.
       let (r, (b, (l, (m, _)))) = c .args in
-      settled-listed answer.Refused _ _ n (few-ground r (now b) (now l) (now m) _ (few-unless _ (omega arith) (few-unless _ (omega arith) zero-le)))
-      (λ z. absurd (false≢true cc)) (λ z. cc z) (sym (ap (λ y. y .answer) (c .kept)) ∙ e);
+      given-listed _ _ n (few-ground r (now b) (now l) (now m) _ (few-unless _ (omega arith) (few-unless _ (omega arith) zero-le)))
+      (sym (ap (λ (y : Left (Said Run)). y .answer) (c .kept)) ∙ ap answerSaid e);
   block-listed = λ c n e.
       let (r, (b, (l, (m, _)))) = c .args in
-      settled-listed answer.Refused _ _ n
+      given-listed _ _ n
       (few-ground r (now b) (now l) (now m) _ (few-unless _ (omega arith) (few-unless _ (omega arith) (few-unless _ (omega arith) (few-unless _ (omega arith) zero-le)))))
-      (λ z. absurd (false≢true cc)) (λ z. cc z) (sym (ap (λ y. y .answer) (c .kept)) ∙ e);
+      (sym (ap (λ (y : Left (Said Run)). y .answer) (c .kept)) ∙ ap answerSaid e);
   shown-listed = λ c n e.
       let (r, (b, (l, (m, _)))) = c .args in
-      settled-listed counts.Refused _ _ n (few-ground r (now b) (now l) (now m) 0 zero-le) (λ z. absurd (false≢true cc)) (λ z. cc z) (sym (c .kept) ∙ e);
+      given-listed _ _ n (few-ground r (now b) (now l) (now m) 0 zero-le) (sym (c .kept) ∙ ap shownSaid e);
   totals-listed = λ c n e.
       let (r, (b, (l, (m, _)))) = c .args in
-      settled-listed sums.Refused _ _ n (few-ground r (now b) (now l) (now m) 0 zero-le) (λ z. absurd (false≢true cc)) (λ z. cc z) (sym (c .kept) ∙ e);
-  weighted-listed = λ c n e. settled-listed figure.Refused _ _ n (few-figure _ _ _ _ _) (λ z. absurd (false≢true cc)) (λ z. cc z) (sym (c .kept) ∙ e);
-  range-listed = λ c n e. settled-listed figure.Refused _ _ n (few-figure _ _ _ _ _) (λ z. absurd (false≢true cc)) (λ z. cc z) (sym (c .kept) ∙ e);
+      given-listed _ _ n (few-ground r (now b) (now l) (now m) 0 zero-le) (sym (c .kept) ∙ ap totalsSaid e);
+  weighted-listed = λ c n e. given-listed _ _ n (few-figure _ _ _ _ _) (sym (c .kept) ∙ ap figureSaid e);
+  range-listed = λ c n e. given-listed _ _ n (few-figure _ _ _ _ _) (sym (c .kept) ∙ ap figureSaid e);
   recharge-listed = λ c n e.
       let (r, (a, (b, (l, (m, _))))) = c .args in
-      settled-listed figure.Refused _ _ n (few-figure _ _ _ _ _)
-      (charge-listed (a .before +ℤ energyAll (now l)) (cyclesBy r) (energyIn (now l)) (distanceIn (now l)) (a .after) (a .charge) n) (λ z. cc z) (sym (c .kept) ∙ e);
+      said-listed _ _ n (few-figure _ _ _ _ _)
+      (charge-listed (a .before +ℤ energyAll (now l)) (cyclesBy r) (energyIn (now l)) (distanceIn (now l)) (a .after) (a .charge) n) (sym (c .kept) ∙ ap figureSaid e);
   open-listed = λ c n e.
       let (o, (i, (room, (l, (m, _))))) = c .args in
-      open-listed o (now room) (now l) (now m) (now i) n (sym (ap (λ (y : OpenLeft). y .answer .step) (c .kept)) ∙ e);
+      open-listed o (now room) (now l) (now m) (now i) n (sym (ap (λ (y : OpenLeft). y .answer .says) (c .kept)) ∙ ap openStepSaid e);
   read-listed = λ c n e.
       let (r, (i, (b, (l, (m, _))))) = c .args in
-      read-listed r (now b) (now l) (now m) (now i) n (sym (ap (λ (y : Left ReadAnswer). y .answer .step) (c .kept)) ∙ e);
+      read-listed r (now b) (now l) (now m) (now i) n (sym (ap (λ (y : Left (ReadSaid Reading)). y .answer .says) (c .kept)) ∙ ap stepSaid e);
   read-all-listed = λ c n e.
       let (r, (i, (b, (l, (m, _))))) = c .args in
-      read-all-listed r (now b) (now l) (now m) (now i) n (sym (ap (λ (y : Left AllAnswer). y .answer .last) (c .kept)) ∙ e);
-  ended-listed = λ c n e. ended-listed (c .args .0) (c .args .1 .0) n (sym (c .kept) ∙ e);
+      read-all-listed r (now b) (now l) (now m) (now i) n (sym (ap (λ (y : Left (AllSaid Reading)). y .answer .last) (c .kept)) ∙ ap stepSaid e);
+  ended-listed = λ c n e. ended-listed (c .args .0) (c .args .1 .0) n (sym (c .kept) ∙ ap endingSaid e);
   feed-listed = λ c n e.
       let (d, (i, (room, (l, (m, _))))) = c .args in
-      feed-listed (laidOf d (now room) (now l) (now m)) (now i) n (sym (ap (λ (y : Consumed). y .outcome) (c .kept)) ∙ e);
+      feed-listed (laidOf d (now room) (now l) (now m)) (now i) n (sym (ap (λ (y : Consumed). y .outcome) (c .kept)) ∙ ap outcomeSaid e);
   sheet-listed = sheet-listed;
 }

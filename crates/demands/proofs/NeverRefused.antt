@@ -15,25 +15,32 @@ use Rattle.rules.specs.declared.Charge.{Charge}
 use Rattle.rules.specs.declared.Moment.{Moment}
 use Rattle.rules.specs.Regular.{Plan}
 use Rattle.rules.specs.Closing.{closingRefusal, chargedBy, rechargeBy}
+use Rattle.laws.specs.Answers.{gives, numberOf, is, figureSaid}
+use Rattle.laws.proofs.Answers.{number-said, figure-or}
 use Rattle.state.specs.declared.Run.{Run}
 use Rattle.state.specs.State.{ground}
 use Rattle.state.specs.Refusals.{sampleRefusal}
 use Rattle.blocks.specs.Blocks.{blockRefusal}
+use Rattle.judge.specs.declared.Answer.{Answer}
 use Rattle.judge.specs.declared.Answer.the-variants as answer
+use Rattle.judge.specs.declared.ShownAnswer.{ShownAnswer}
 use Rattle.judge.specs.declared.ShownAnswer.the-variants as counts
+use Rattle.judge.specs.declared.TotalsAnswer.{TotalsAnswer}
 use Rattle.judge.specs.declared.TotalsAnswer.the-variants as sums
+use Rattle.judge.specs.Answers.{answerSaid, shownSaid, totalsSaid}
 use Rattle.judge.proofs.Runs as runs
 use Rattle.rules.specs.declared.Figure.{Figure}
 use Rattle.rules.specs.declared.Figure.the-variants as fig
 use Rattle.reading.specs.declared.Reading.{Reading}
+use Rattle.reading.specs.declared.Step.{Step}
 use Rattle.reading.specs.declared.Step.the-variants as step
-use Rattle.reading.specs.Answers.{isReading, readGround}
+use Rattle.reading.specs.Answers.{stepSaid, isReading, readGround}
 use Rattle.figures.specs.declared.Found.{Found}
 use Rattle.demands.specs.Calls.{SampleCall, BlockCall}
-use Rattle.demands.specs.Cases.{answerNumber, shownNumber, totalsNumber, figureNumber, stepNumber, Neither1Nor2, orElse}
+use Rattle.demands.specs.Cases.{Neither1Nor2, orElse}
 use Rattle.demands.specs.Demand2.{NeverRefused}
 use Rattle.demands.specs.Runs.{On, SampleOn, BlockOn, Driven, rechargeAmounts}
-use Rattle.demands.proofs.Numbers.{settled-number, or-else-number}
+use Rattle.demands.proofs.Numbers.{or-else-number}
 use Rattle.demands.proofs.HasItsNumber.{has-its-number}
 use Rattle.demands.proofs.Driven.{driven-reached}
 use Rattle.demands.proofs.Neither.{Neither, unless-neither, cond-neither, zero-neither, by-number, closing-neither, charge-neither, next-neither}
@@ -44,13 +51,14 @@ use Rattle.demands.proofs.OfRun.{run-answers}
 module _ (E : ℤ) (n : ℕ) (e d : ℕ → ℤ) where
   figure-neither : {x : Figure} (y : ℕ) → x ≡ settled (closingRefusal E n e d) (fig.Is y) (fig.Refused (closingRefusal E n e d)) → Neither1Nor2 fig.Refused x
   figure-neither y f =
-      by-number figureNumber fig.Refused (λ k. refl) (ap figureNumber f ∙ settled-number figureNumber fig.Refused (closingRefusal E n e d) _ refl (λ k. refl))
+      by-number (λ (z : Figure). numberOf (figureSaid z)) fig.Refused (λ k. refl)
+      (ap (λ (z : Figure). numberOf (figureSaid z)) f ∙ ap numberOf (figure-or (closingRefusal E n e d) (fig.Is y)) ∙ number-said (closingRefusal E n e d) (gives (is y)) refl)
       (closing-neither E n e d)
 
   recharge-neither : {x : Figure} (F : ℤ) (y : Charge) → x ≡ rechargeBy E n e d F y → Neither1Nor2 fig.Refused x
   recharge-neither F y f =
-      by-number figureNumber fig.Refused (λ k. refl)
-      (ap figureNumber f ∙ or-else-number (closingRefusal E n e d) (chargedBy E n e d F y))
+      by-number (λ (z : Figure). numberOf (figureSaid z)) fig.Refused (λ k. refl)
+      (ap (λ (z : Figure). numberOf (figureSaid z)) f ∙ ap numberOf (figure-or (closingRefusal E n e d) (chargedBy E n e d F y)) ∙ or-else-number (closingRefusal E n e d) (figureSaid (chargedBy E n e d F y)))
       (cond-neither (eqb (closingRefusal E n e d) 0) _ _ (charge-neither E n e d F y) (closing-neither E n e d))
 
 -- ---- the calls
@@ -65,13 +73,13 @@ module _ {p : Plan} {l₀ : List ℤ} {m₀ : List ℕ} {xs : List Moment} {r : 
   sample-neither : (c : SampleCall) → SampleOn r (p .cycle) l m c → Neither1Nor2 answer.Refused (c .answer)
   unfolding sampleRefusal
   sample-neither c on =
-      by-number answerNumber answer.Refused (λ k. refl) (has-its-number .sample-number c ∙ grounded on _)
+      by-number (λ (z : Answer). numberOf (answerSaid z)) answer.Refused (λ k. refl) (has-its-number .sample-number c ∙ grounded on _)
       (unless-neither _ (omega arith) (unless-neither _ (omega arith) zero-neither))
 
   block-neither : (c : BlockCall) → BlockOn r (p .cycle) l m c → Neither1Nor2 answer.Refused (c .answer)
   unfolding blockRefusal
   block-neither c on =
-      by-number answerNumber answer.Refused (λ k. refl) (has-its-number .block-number c ∙ grounded on _)
+      by-number (λ (z : Answer). numberOf (answerSaid z)) answer.Refused (λ k. refl) (has-its-number .block-number c ∙ grounded on _)
       (unless-neither _ (omega arith) (unless-neither _ (omega arith) (unless-neither _ (omega arith) (unless-neither _ (omega arith) zero-neither))))
 
   reading-neither : (reading : Reading) (cycle : RefT (List ℕ)) (ledger : RefT (List ℤ)) (map : RefT (List ℕ)) → On r (p .cycle) l m (reading .run) cycle ledger map
@@ -85,17 +93,17 @@ module _ {p : Plan} {l₀ : List ℤ} {m₀ : List ℕ} {xs : List Moment} {r : 
   never-refused = record {
     sample = sample-neither;
     block = block-neither;
-    shown = λ c on. by-number shownNumber counts.Refused (λ k. refl) (has-its-number .shown-number c ∙ grounded on 0) zero-neither;
-    totals = λ c on. by-number totalsNumber sums.Refused (λ k. refl) (has-its-number .totals-number c ∙ grounded on 0) zero-neither;
+    shown = λ c on. by-number (λ (z : ShownAnswer). numberOf (shownSaid z)) counts.Refused (λ k. refl) (has-its-number .shown-number c ∙ grounded on 0) zero-neither;
+    totals = λ c on. by-number (λ (z : TotalsAnswer). numberOf (totalsSaid z)) sums.Refused (λ k. refl) (has-its-number .totals-number c ∙ grounded on 0) zero-neither;
     weighted = λ c on ok. figure-neither _ _ _ _ _ (run-answers h .weighted-of-run c on ok);
     range = λ c on ok. figure-neither _ _ _ _ _ (run-answers h .range-of-run c on ok);
     recharge = λ c on ok. recharge-neither _ _ _ _ (rechargeAmounts c .after) (rechargeAmounts c .charge) (run-answers h .recharge-of-run c on ok);
     figures = λ c on ok. ap (λ (x : Found). x .refusal) (run-answers h .figures-of-run c on ok);
     read = λ c on ok.
         let (reading, (i, (cycle, (ledger, (map, _))))) = c .args in
-        by-number stepNumber step.Refused (λ k. refl) (has-its-number .read-number c) (reading-neither reading cycle ledger map on ok _ (next-neither reading (now cycle) (now ledger) (now map) (now i)));
+        by-number (λ (z : Step). numberOf (stepSaid z)) step.Refused (λ k. refl) (has-its-number .read-number c) (reading-neither reading cycle ledger map on ok _ (next-neither reading (now cycle) (now ledger) (now map) (now i)));
     read-all = λ c on ok.
         let (reading, (i, (cycle, (ledger, (map, _))))) = c .args in
-        by-number stepNumber step.Refused (λ k. refl) (has-its-number .read-all-number c)
+        by-number (λ (z : Step). numberOf (stepSaid z)) step.Refused (λ k. refl) (has-its-number .read-all-number c)
         (reading-neither reading cycle ledger map on ok _ (next-neither (c .answer .reading) (now cycle) (c .lasts .1 .1 .1 .0) (c .lasts .1 .1 .1 .1 .0) (drop (c .answer .used) (now i))));
   }

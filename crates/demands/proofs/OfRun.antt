@@ -23,10 +23,12 @@ use Rattle.laws.proofs.Total.{energy-none, distance-none}
 use Rattle.laws.proofs.Closes.{closes}
 use Rattle.laws.proofs.Closes as rule
 use Rattle.ledger.specs.Row.{at, outsideIn}
+use Rattle.laws.specs.Answers.{gives}
+use Rattle.laws.proofs.Answers.{same-figure}
 use Rattle.state.specs.declared.Run.{Run}
 use Rattle.state.specs.Refusals.{lastCycle}
 use Rattle.judge.specs.declared.ShownAnswer.the-variants as counts
-use Rattle.judge.specs.declared.TotalsAnswer.the-variants as sums
+use Rattle.judge.proofs.Promises.{same-shown, same-totals}
 use Rattle.judge.proofs.Runs as runs
 use Rattle.judge.proofs.Runs.{Reached, Shown}
 use Rattle.rules.specs.declared.Figure.the-variants as fig
@@ -101,26 +103,28 @@ module _ {p : Plan} {l₀ : List ℤ} {m₀ : List ℕ} {xs : List Moment} {r : 
       let last = last-cycle-is p l₀ m₀ reached in
       let in-ledger : outsideIn l (lastCycle r (p .cycle)) ≡ pos o =
       outsides-are p l₀ m₀ reached (lastCycle r (p .cycle)) (last-cycle-most p l₀ m₀ reached) ∙ ap (λ (c : ℕ). pos (outside y s c (judged y s n))) last in
-      shown-kept c on ∙ settled-taken _ (runs.never-refused p l₀ m₀ reached 0)
-      ∙ (λ i. counts.Counted (record { ones = shows .ones-are-outside i; outside = in-ledger i; agree = eqZ (pos (shows .ones-are-outside i)) (in-ledger i) }))
-      ∙ ap (λ (y : Bool). counts.Counted (record { ones = o; outside = pos o; agree = y })) (eq-eqb o o refl)
+      same-shown _ _
+      (shown-kept c on ∙ settled-taken _ (runs.never-refused p l₀ m₀ reached 0)
+      ∙ (λ i. gives (record { ones = shows .ones-are-outside i; outside = in-ledger i; agree = eqZ (pos (shows .ones-are-outside i)) (in-ledger i) }))
+      ∙ ap (λ (y : Bool). gives (record { ones = o; outside = pos o; agree = y })) (eq-eqb o o refl))
 
   pub run-answers : RunAnswers p l₀ m₀ xs r l m
   unfolding isReading
   run-answers = record {
     shown-agrees = shown-is;
     totals-of-run = λ c on.
-        totals-kept c on ∙ settled-taken _ (runs.never-refused p l₀ m₀ reached 0)
-        ∙ (λ i. sums.Summed (record {
+        same-totals _ _
+        (totals-kept c on ∙ settled-taken _ (runs.never-refused p l₀ m₀ reached 0)
+        ∙ (λ i. gives (record {
           end = shows .end-is i;
           counted = shows .counted-is i;
           cycles = shows .cycles-are i;
           outside = figures.outsides-add-up p l₀ m₀ reached i;
           drawn = shows .energies-add-up i;
-        }));
-    weighted-of-run = λ c on ok. weighted-kept c on ∙ closing.weighted-of-run p l₀ m₀ reached (weightedAmounts c) ok;
-    range-of-run = λ c on ok. range-kept c on ∙ closing.range-of-run p l₀ m₀ reached (rangeAmounts c) ok;
-    recharge-of-run = λ c on ok. recharge-kept c on ∙ closing.recharge-of-run p l₀ m₀ reached (rechargeAmounts c) ok;
+        })));
+    weighted-of-run = λ c on ok. same-figure _ _ (weighted-kept c on ∙ closing.weighted-of-run p l₀ m₀ reached (weightedAmounts c) ok);
+    range-of-run = λ c on ok. same-figure _ _ (range-kept c on ∙ closing.range-of-run p l₀ m₀ reached (rangeAmounts c) ok);
+    recharge-of-run = λ c on ok. same-figure _ _ (recharge-kept c on ∙ closing.recharge-of-run p l₀ m₀ reached (rechargeAmounts c) ok);
     figures-of-run = λ c on ok. figures-kept c on ∙ figures.figures-of-run p l₀ m₀ (figuresReading c r) reached ok;
   }
 

@@ -10,21 +10,18 @@ use lib.IntN.{ℤ}
 use lib.ListN.{length, drop}
 use Rattle.rules.specs.Table.{behindTolerances, tags}
 use Rattle.rules.specs.Machine.{Reply, toField, notYet, noField, taken, passed, refused, End, waiting, broken, stopped, off, moveOf}
+use Rattle.laws.specs.Answers.{gives, refuses, numberOf, endSaid}
 use Rattle.laws.proofs.Prefixes.{run-stops}
 use Rattle.state.specs.State.{Left, left}
 use Rattle.state.specs.Refusals.{started}
 use Rattle.records.specs.Stage.{Stage, takeOn, replyOn, runOn}
 use Rattle.records.proofs.After.{After, after-upto}
 use Rattle.opening.specs.declared.Opening.{Opening}
-use Rattle.opening.specs.declared.OpenStep.the-variants as opening
-use Rattle.opening.specs.Answers.{stageOf, openGround, notOpened, openedBy, frontOpened}
+use Rattle.opening.specs.Answers.{opens, starts, stageOf, openGround, notOpened, openedBy, frontOpened}
 use Rattle.reading.specs.declared.Reading.{Reading}
-use Rattle.reading.specs.declared.Step.the-variants as step
-use Rattle.reading.specs.Answers.{stageAt, readingOf, stepOf, lastOf, readGround}
-use Rattle.reader.specs.declared.AllAnswer.{AllAnswer}
-use Rattle.reader.specs.declared.ReadAnswer.{ReadAnswer}
+use Rattle.reading.specs.Answers.{unfinished, replySaid, ReadSaid, AllSaid, stageAt, readingOf, readGround}
 use Rattle.reader.specs.Answers.{readBy, allBy, readLeft, allLeft}
-use Rattle.demands.specs.Cases.{openNumber, stepNumber, orElse, replyNumber, openingNumber, nextNumber, readingNumber}
+use Rattle.demands.specs.Cases.{orElse, replyNumber, openingNumber, nextNumber, readingNumber}
 
 -- ---- until the start
 
@@ -32,10 +29,10 @@ module _ (o : Opening) (room : List ℕ) (l : List ℤ) (m i : List ℕ) where
   abbrev begun : Stage
   begun = stageOf o room l m
 
-  opened-number : (y : Reply Stage) → openNumber (openedBy o room begun y .answer .step) ≡ replyNumber y
+  opened-number : (y : Reply Stage) → numberOf (openedBy o room begun y .answer .says) ≡ replyNumber y
   opened-number (toField (taken z) n) = go (eqb (z .place) behindTolerances)
     where
-      go : (t : Bool) → openNumber (cond t (opening.Started n (started (z .cycle) (z .tolerances))) (opening.Taken n)) ≡ 0
+      go : (t : Bool) → numberOf (gives (cond t (starts n (started (z .cycle) (z .tolerances))) (opens n))) ≡ 0
       go true = refl
       go false = refl
   opened-number (toField (passed z) n) = refl
@@ -43,18 +40,18 @@ module _ (o : Opening) (room : List ℕ) (l : List ℤ) (m i : List ℕ) where
   opened-number notYet = refl
   opened-number noField = refl
 
-  pub open-of-number : openNumber (frontOpened o room l m i .answer .step) ≡ openingNumber o room l m i
+  pub open-of-number : numberOf (frontOpened o room l m i .answer .says) ≡ openingNumber o room l m i
   unfolding frontOpened
   open-of-number = go (eqb (openGround o room) 0)
     where
-      go : (t : Bool) → openNumber (cond t (openedBy o room begun (replyOn begun i)) (notOpened o room begun (opening.Refused (openGround o room))) .answer .step)
+      go : (t : Bool) → numberOf (cond t (openedBy o room begun (replyOn begun i)) (notOpened o room begun (refuses (openGround o room))) .answer .says)
           ≡ cond t (replyNumber (replyOn begun i)) (openGround o room)
       go true = opened-number (replyOn begun i)
       go false = refl
 
 -- ---- after it
 
-step-number : (y : Reply Stage) → stepNumber (stepOf y) ≡ replyNumber y
+step-number : (y : Reply Stage) → numberOf (replySaid y) ≡ replyNumber y
 step-number (toField (taken z) n) = refl
 step-number (toField (passed z) n) = refl
 step-number (toField (refused k) n) = refl
@@ -62,7 +59,7 @@ step-number notYet = refl
 step-number noField = refl
 
 -- what ended the fields is the answer to the bytes that they leave
-last-number : (y : Reply Stage) (e : End) → moveOf y ≡ off e → stepNumber (lastOf e) ≡ replyNumber y
+last-number : (y : Reply Stage) (e : End) → moveOf y ≡ off e → numberOf (endSaid unfinished e) ≡ replyNumber y
 last-number (toField (taken z) n) e q = absurd (false≢true cc)
 last-number (toField (passed z) n) e q = absurd (false≢true cc)
 last-number (toField (refused k) n) waiting q = absurd (false≢true cc)
@@ -80,11 +77,11 @@ module _ (r : Reading) (b : List ℕ) (l : List ℤ) (m i : List ℕ) where
   abbrev x : Stage
   x = stageAt r b l m
 
-  pub read-of-number : stepNumber (readLeft r b l m i .answer .step) ≡ readingNumber r b l m i
+  pub read-of-number : numberOf (readLeft r b l m i .answer .says) ≡ readingNumber r b l m i
   unfolding readLeft
   read-of-number = go (eqb (readGround r b l m) 0)
     where
-      go : (t : Bool) → stepNumber (cond t (readBy r x (replyOn x i)) (left {A = ReadAnswer} (record { step = step.Refused (readGround r b l m); reading = r }) l m) .answer .step)
+      go : (t : Bool) → numberOf (cond t (readBy r x (replyOn x i)) (left {A = ReadSaid Reading} (record { says = refuses (readGround r b l m); state = r }) l m) .answer .says)
           ≡ cond t (replyNumber (replyOn x i)) (readGround r b l m)
       go true = step-number (replyOn x i)
       go false = refl
@@ -105,15 +102,15 @@ module _ (r : Reading) (b : List ℕ) (l : List ℤ) (m i : List ℕ) where
       }
 
   pub read-all-of-number : (let y = allLeft r b l m i in
-      stepNumber (y .answer .last) ≡ orElse (readGround r b l m) (nextNumber (y .answer .reading) b (y .memory .ledger) (y .memory .map) (drop (y .answer .used) i)))
+      numberOf (y .answer .last) ≡ orElse (readGround r b l m) (nextNumber (y .answer .state) b (y .memory .ledger) (y .memory .map) (drop (y .answer .used) i)))
   unfolding allLeft
   read-all-of-number = go (eqb (readGround r b l m) 0)
     where
-      call : Bool → Left AllAnswer
-      call t = cond t (allBy r (runOn x i)) (left (record { reading = r; fields = 0; used = 0; last = step.Refused (readGround r b l m) }) l m)
+      call : Bool → Left (AllSaid Reading)
+      call t = cond t (allBy r (runOn x i)) (left (record { state = r; fields = 0; used = 0; last = refuses (readGround r b l m) }) l m)
 
-      go : (t : Bool) → stepNumber (call t .answer .last)
-          ≡ cond t (nextNumber (call t .answer .reading) b (call t .memory .ledger) (call t .memory .map) (drop (call t .answer .used) i)) (readGround r b l m)
+      go : (t : Bool) → numberOf (call t .answer .last)
+          ≡ cond t (nextNumber (call t .answer .state) b (call t .memory .ledger) (call t .memory .map) (drop (call t .answer .used) i)) (readGround r b l m)
       go true =
           let y = runOn x i in
           last-number (replyOn (y .state) (drop (y .used) i)) (y .end) (run-stops tags takeOn x i)

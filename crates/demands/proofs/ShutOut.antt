@@ -22,6 +22,7 @@ use Rattle.rules.specs.Cycle.{valid}
 use Rattle.rules.specs.Band.{grid20, inside, side, verdict}
 use Rattle.rules.specs.Tally as tally
 use Rattle.rules.specs.Course.{outside, judged, closed}
+use Rattle.laws.specs.Answers.{gives, refuses}
 use Rattle.laws.specs.Beside.{stopped, isBlock}
 use Rattle.rules.specs.Regular.{Plan, plan, courseOf, momentIn}
 use Rattle.rules.specs.Shown.{ledgerNumbers, mapWords, figure, shownRow, marked}
@@ -35,12 +36,13 @@ use Rattle.step.proofs.Steps.{taken-offered}
 use Rattle.step.proofs.Keeping.{all-offered}
 use Rattle.rules.specs.Values.{momentAt, countIn, areSamples}
 use Rattle.blocks.specs.Blocks.{blockRefusal}
+use Rattle.laws.proofs.Answers.{was-given, given-refused, given-is}
 use Rattle.laws.proofs.Samples.{block-of}
 use Rattle.blocks.proofs.Accepted.{block-accepted}
 use Rattle.judge.specs.declared.Answer.{Answer}
 use Rattle.judge.specs.declared.Answer.the-variants.{Taken, Refused}
-use Rattle.judge.specs.Answers.{planOf, afterSample, afterBlock}
-use Rattle.judge.proofs.Promises.{Promised, answer-taken}
+use Rattle.judge.specs.Answers.{answerSaid, planOf, afterSample, afterBlock}
+use Rattle.judge.proofs.Promises.{Promised}
 use Rattle.judge.proofs.Runs as runs
 use Rattle.rules.specs.Question.{question}
 use Rattle.demands.specs.Calls.{StartCall, SampleCall, BlockCall, VerdictCall}
@@ -56,8 +58,7 @@ use Rattle.demands.proofs.SomeRun.{some-run}
 
 not-refused : {n : ℕ} {r : Run} {a c : Memory} {l : List ℤ} {m : List ℕ} {x : Answer} → Promised n r a l m x c → n ≡ 0 → (k : ℕ) → x ≡ Refused k → ⊥
 not-refused {n} {r} p z k e =
-    let f : Taken r ≡ Refused k = sym (settled-taken (Refused n) z) ∙ sym (p .answer) ∙ e in
-    false≢true cc
+    given-refused (sym (settled-taken (refuses n) z) ∙ sym (p .answer) ∙ ap answerSaid e)
 
 -- a start on memory that is long enough, with a cycle and tolerances that break no rule
 pub start-not-refused : {b : List ℕ} {t : Tolerances} {l : List ℤ} {m : List ℕ} (c : StartCall) → StartOn b t l m c → ledgerNumbers ≤ length l → mapWords ≤ length m
@@ -153,7 +154,7 @@ module _ (c : SampleCall) {r′ : Run} (e : c .answer ≡ Taken r′) where
   sample-is-offered =
       let (r, (b, (l, (m, (x, _))))) = c .args in
       let a = afterSample r (now b) (now l) (now m) x in
-      let same = answer-taken (sampleRefusal r (now b) (now l) (now m) x) (withProgress r (a .progress)) r′ (sym (sample-promised c .answer) ∙ e) .1 in
+      let same = given-is (was-given (sampleRefusal r (now b) (now l) (now m) x) (gives (withProgress r (a .progress))) r′ (sym (sample-promised c .answer) ∙ ap answerSaid e) .1) in
       ap (λ (y : Run). y .progress .offered) (sym same) ∙ taken-offered (courseOf (planOf r (now b))) (stateOf r (now l) (now m)) (momentOf x) ∙ add-one (r .progress .offered)
 
   pub sample-does-something : r′ ≡ c .args .0 → ⊥
@@ -167,7 +168,8 @@ every-block-is-worked-through {r} {b} {l} {m} c on {r′} e =
     let k = block-kept c on in
     let q = bytesIn c in
     let a = afterBlock r b l m q in
-    let (z, same) = answer-taken _ (withProgress r (a .progress)) r′ (sym (k .answer) ∙ e) in
+    let (z, given) = was-given _ (gives (withProgress r (a .progress))) r′ (sym (k .answer) ∙ ap answerSaid e) in
+    let same = given-is given in
     let w = block-accepted r b l m (c .args .1 .1 .1 .1 .0) q z in
     let size = block-of (length q) (w .block) in
     record {

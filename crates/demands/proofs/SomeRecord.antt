@@ -1,12 +1,12 @@
 -- What is said of records speaks of something: by calls that keep the contracts every record whose fields are none refused is fed, in any parts, and closed.
 -- Assumes nothing.
 use mathlib.Core.List.{List, [], _++_}
-use mathlib.Core.Path.{_≡_, refl}
+use mathlib.Core.Path.{_≡_, refl, sym}
 use Prim.Native.Nat.{ℕ, _≤_}
 use lib.Dec.{leb}
 use lib.ListN.{length, drop}
 use Rattle.rules.specs.Words.{unless}
-use Rattle.desk.specs.Feeding.{Lent, Laid, feedOf}
+use Rattle.desk.specs.Feeding.{wanted, Lent, Laid, feedOf}
 use Rattle.sheet.specs.Overlaid.{overlaid, mostSheet}
 use Rattle.desk.specs.declared.Outcome.the-variants.{More}
 use Rattle.prints.specs.Printed.{closeText}
@@ -15,16 +15,16 @@ use Rattle.demands.specs.Demand2.{Speaks}
 use Rattle.demands.specs.Runs.{FedIn, SomeClose, more}
 use Rattle.demands.proofs.SomeRun.{to, some-run}
 
--- calls with the answers that the contracts ask for
-abbrev feedCall : Laid → List ℕ → FeedCall
-feedCall x i =
+-- calls with the answers that the contracts ask for: of bytes of which no field is refused, and where the input ends
+abbrev feedCall : (x : Laid) (i : List ℕ) → feedOf x i .outcome ≡ wanted → FeedCall
+feedCall x i e =
     let y = feedOf x i in
     record {
       κs = ([], ([], ([], ([], tt))));
       args = (x .desk, (to i, (to (x .room), (to (x .memory .ledger), (to (x .memory .map), tt)))));
-      answer = record { outcome = y .outcome; used = y .used; desk = y .laid .desk };
+      answer = record { outcome = More; used = y .used; desk = y .laid .desk };
       lasts = (tt, (tt, (y .laid .room, (y .laid .memory .ledger, (y .laid .memory .map, tt)))));
-      kept = refl;
+      kept = λ j. record { laid = y .laid; used = y .used; outcome = sym e j };
     }
 
 abbrev closeCall : Laid → ℕ → List ℕ → CloseCall
@@ -40,9 +40,9 @@ closeCall x left out =
 
 module _ (lent : Lent) where
   -- one part more, of which no field is refused
-  pub some-part : {w rest : List ℕ} {x : Laid} → FedIn lent w x rest → (new : List ℕ) → feedOf x (rest ++ new) .outcome ≡ More
+  pub some-part : {w rest : List ℕ} {x : Laid} → FedIn lent w x rest → (new : List ℕ) → feedOf x (rest ++ new) .outcome ≡ wanted
       → FedIn lent (w ++ new) (feedOf x (rest ++ new) .laid) (drop (feedOf x (rest ++ new) .used) (rest ++ new))
-  some-part {rest = rest} {x = x} h new e = more h new (feedCall x (rest ++ new)) (record { desk = refl; input = refl; room = refl; ledger = refl; map = refl }) e
+  some-part {rest = rest} {x = x} h new e = more h new (feedCall x (rest ++ new) e) (record { desk = refl; input = refl; room = refl; ledger = refl; map = refl }) refl
 
 -- where the input ends
 pub some-close : (x : Laid) (rest out : List ℕ) → mostSheet ≤ length out → SomeClose x rest

@@ -10,7 +10,7 @@ use lib.IntN.{ℤ}
 use lib.ListN.{length, length-append}
 use denote.Ref.{RefT}
 use Rattle.rules.specs.Words.{every}
-use Rattle.numbers.proofs.Tests.{both, pass, settled-taken}
+use Rattle.numbers.proofs.Tests.{both, pass}
 use Rattle.rules.specs.declared.Sample.{Sample}
 use Rattle.rules.specs.declared.Moment.{Moment}
 use Rattle.rules.specs.declared.Tolerances.{Tolerances}
@@ -19,8 +19,11 @@ use Rattle.rules.specs.Cycle.{valid}
 use Rattle.rules.specs.Regular.{Plan}
 use Rattle.rules.specs.Shown.{ledgerNumbers, mapWords}
 use Rattle.state.specs.declared.Run.{Run}
-use Rattle.state.specs.Refusals.{startRefusal, sampleRefusal}
-use Rattle.judge.specs.Answers.{startLeft, sampleLeft}
+use Rattle.state.specs.Refusals.{startRefusal, started, sampleRefusal}
+use Rattle.step.specs.Step.{startOf, withProgress}
+use Rattle.judge.specs.declared.Answer.the-variants.{Taken}
+use Rattle.judge.specs.Answers.{afterSample}
+use Rattle.judge.proofs.Calls.{taken}
 use Rattle.judge.proofs.Runs as runs
 use Rattle.demands.specs.Calls.{StartCall, SampleCall}
 use Rattle.demands.specs.Rows.{momentsOf}
@@ -32,27 +35,27 @@ use Rattle.demands.proofs.OfRun.{run-shows}
 abbrev pub to : {A : Type 0} → A → RefT A
 to x = record { ptr = (0, 0); name = 0; now = x }
 
--- a call with the answer that the contract asks for
-abbrev startCall : List ℕ → Tolerances → List ℤ → List ℕ → StartCall
-startCall b t l m =
-    let y = startLeft b t l m in
+-- calls that are not refused, with the answers that the contracts ask for
+abbrev startCall : (b : List ℕ) (t : Tolerances) (l : List ℤ) (m : List ℕ) → startRefusal b t l m ≡ 0 → StartCall
+startCall b t l m z =
+    let y = startOf l m .memory in
     record {
       κs = ([], ([], ([], tt)));
       args = (to b, (t, (to l, (to m, tt))));
-      answer = y .answer;
-      lasts = (tt, (tt, (y .memory .ledger, (y .memory .map, tt))));
-      kept = refl;
+      answer = Taken (started b t);
+      lasts = (tt, (tt, (y .ledger, (y .map, tt))));
+      kept = taken (startRefusal b t l m) (started b t) y l m z refl refl;
     }
 
-abbrev sampleCall : Run → List ℕ → List ℤ → List ℕ → Sample → SampleCall
-sampleCall r b l m x =
-    let y = sampleLeft r b l m x in
+abbrev sampleCall : (r : Run) (b : List ℕ) (l : List ℤ) (m : List ℕ) (x : Sample) → sampleRefusal r b l m x ≡ 0 → SampleCall
+sampleCall r b l m x z =
+    let y = afterSample r b l m x in
     record {
       κs = ([], ([], ([], tt)));
       args = (r, (to b, (to l, (to m, (x, tt)))));
-      answer = y .answer;
+      answer = Taken (withProgress r (y .progress));
       lasts = (tt, (tt, (y .memory .ledger, (y .memory .map, (tt, tt)))));
-      kept = refl;
+      kept = taken (sampleRefusal r b l m x) (withProgress r (y .progress)) (y .memory) l m z refl refl;
     }
 
 module _ (p : Plan) (l₀ : List ℤ) (m₀ : List ℕ) where
@@ -66,7 +69,7 @@ module _ (p : Plan) (l₀ : List ℤ) (m₀ : List ℕ) where
         run = _;
         ledger = _;
         map = _;
-        driven = takes (s .driven) (sampleCall (s .run) (p .cycle) (s .ledger) (s .map) x) (record { run-is = refl; cycle-is = refl; ledger-is = refl; map-is = refl }) (settled-taken _ z);
+        driven = takes (s .driven) (sampleCall (s .run) (p .cycle) (s .ledger) (s .map) x z) (record { run-is = refl; cycle-is = refl; ledger-is = refl; map-is = refl }) refl;
       }
 
   all-more : {ys : List Moment} (s : SomeRun p l₀ m₀ ys) (xs : List Sample) → every isSample xs ≡ true → length ys + length xs ≤ mostOffered → SomeRun p l₀ m₀ (ys ++ momentsOf xs)
@@ -87,5 +90,5 @@ module _ (p : Plan) (l₀ : List ℤ) (m₀ : List ℕ) where
         run = _;
         ledger = _;
         map = _;
-        driven = begins (startCall (p .cycle) (p .tolerances) l₀ m₀) (record { cycle = refl; tolerances = refl; ledger = refl; map = refl }) (settled-taken _ z);
+        driven = begins (startCall (p .cycle) (p .tolerances) l₀ m₀ z) (record { cycle = refl; tolerances = refl; ledger = refl; map = refl }) refl;
       }) xs ok (omega arith)

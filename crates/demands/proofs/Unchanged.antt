@@ -14,13 +14,13 @@ use Rattle.judge.specs.declared.Answer.the-variants.{Refused}
 use Rattle.state.specs.State.{Left}
 use Rattle.numbers.proofs.Tests.{settled-refused}
 use Rattle.judge.proofs.Promises as judge
-use Rattle.reader.specs.declared.AllAnswer.{AllAnswer}
 use Rattle.opening.specs.declared.OpenStep.the-variants as opening
 use Rattle.reading.specs.declared.Step.the-variants as step
 use Rattle.opening.specs.declared.OpenStep.{OpenStep}
-use Rattle.opening.specs.Answers.{OpenLeft}
+use Rattle.opening.specs.Answers.{openStepSaid, OpenLeft}
+use Rattle.reading.specs.declared.Reading.{Reading}
 use Rattle.reading.specs.declared.Step.{Step}
-use Rattle.reader.specs.declared.ReadAnswer.{ReadAnswer}
+use Rattle.reading.specs.Answers.{stepSaid, ReadSaid, AllSaid}
 use Rattle.reader.specs.Answers.{allLeft}
 use Rattle.reader.proofs.Unchanged.{OpenStays, open-stays, ReadStays, read-stays, none-read, read-alone}
 use Rattle.sheet.specs.Overlaid.{overlaid, mostSheet}
@@ -33,19 +33,19 @@ use Rattle.demands.specs.Demand1.{RefusedChangesNothing, LinesStay}
 use Rattle.demands.proofs.NoDoubt.{left-by}
 use Rattle.demands.proofs.Driven.{start-promised, sample-promised, block-promised}
 
-open-unchanged : (c : OpenCall) (s : OpenStep) → c .answer .step ≡ s → OpenStays s → (c .answer .opening ≡ c .args .0) × (left c ≡ c .args)
+open-unchanged : (c : OpenCall) (s : OpenStep) → c .answer .step ≡ s → OpenStays (openStepSaid s) → (c .answer .opening ≡ c .args .0) × (left c ≡ c .args)
 open-unchanged c s e h =
     let (o, (i, (room, (l, (m, _))))) = c .args in
     let k = c .kept in
-    let f = k ∙ open-stays o (now room) (now l) (now m) (now i) (subst OpenStays (sym e ∙ ap (λ (y : OpenLeft). y .answer .step) k) h) in
+    let f = k ∙ open-stays o (now room) (now l) (now m) (now i) (subst OpenStays (ap openStepSaid (sym e) ∙ ap (λ (y : OpenLeft). y .answer .says) k) h) in
     (ap (λ (y : OpenLeft). y .answer .opening) f, left-by c (λ j. (tt, (tt, (f j .room, (f j .memory .ledger, (f j .memory .map, tt)))))))
 
-read-unchanged : (c : ReadCall) (s : Step) → c .answer .step ≡ s → ReadStays s → (c .answer .reading ≡ c .args .0) × (left c ≡ c .args)
+read-unchanged : (c : ReadCall) (s : Step) → c .answer .step ≡ s → ReadStays (stepSaid s) → (c .answer .reading ≡ c .args .0) × (left c ≡ c .args)
 read-unchanged c s e h =
     let (r, (i, (b, (l, (m, _))))) = c .args in
     let k = c .kept in
-    let f = k ∙ read-stays r (now b) (now l) (now m) (now i) (subst ReadStays (sym e ∙ ap (λ (y : Left ReadAnswer). y .answer .step) k) h) in
-    (ap (λ (y : Left ReadAnswer). y .answer .reading) f, left-by c (λ j. (tt, (tt, (tt, (f j .memory .ledger, (f j .memory .map, tt)))))))
+    let f = k ∙ read-stays r (now b) (now l) (now m) (now i) (subst ReadStays (ap stepSaid (sym e) ∙ ap (λ (y : Left (ReadSaid Reading)). y .answer .says) k) h) in
+    (ap (λ (y : Left (ReadSaid Reading)). y .answer .state) f, left-by c (λ j. (tt, (tt, (tt, (f j .memory .ledger, (f j .memory .map, tt)))))))
 
 pub refused-changes-nothing : RefusedChangesNothing
 refused-changes-nothing = record {
@@ -65,17 +65,17 @@ refused-changes-nothing = record {
   read-all-none-accepted-changes-nothing = λ c e.
       let (r, (i, (b, (l, (m, _))))) = c .args in
       let k = c .kept in
-      let s = none-read r (now b) (now l) (now m) (now i) (sym (ap (λ (y : Left AllAnswer). y .answer .fields) k) ∙ e) in
-      let memory = ap (λ (y : Left AllAnswer). y .memory) k ∙ s .1 in
-      (ap (λ (y : Left AllAnswer). y .answer .reading) k ∙ s .0, left-by c (λ j. (tt, (tt, (tt, (memory j .ledger, (memory j .map, tt)))))));
+      let s = none-read r (now b) (now l) (now m) (now i) (sym (ap (λ (y : Left (AllSaid Reading)). y .answer .fields) k) ∙ e) in
+      let memory = ap (λ (y : Left (AllSaid Reading)). y .memory) k ∙ s .1 in
+      (ap (λ (y : Left (AllSaid Reading)). y .answer .state) k ∙ s .0, left-by c (λ j. (tt, (tt, (tt, (memory j .ledger, (memory j .map, tt)))))));
   read-all-refused-leaves-no-trace = λ c d s.
       let (r, (i, (b, (l, (m, _))))) = c .args in
       let k = c .kept in
-      let input = s .input ∙ ap (λ (y : Left AllAnswer). take (y .answer .used) (now i)) k in
+      let input = s .input ∙ ap (λ (y : Left (AllSaid Reading)). take (y .answer .used) (now i)) k in
       let alone = read-alone r (now b) (now l) (now m) (now i) in
       let f = d .kept ∙ (λ j. allLeft (s .state j) (s .bytes j) (s .ledger j) (s .map j) (input j)) in
-      let memory = ap (λ (y : Left AllAnswer). y .memory) f ∙ alone .1 ∙ sym (ap (λ (y : Left AllAnswer). y .memory) k) in (
-        ap (λ (y : Left AllAnswer). y .answer .reading) f ∙ alone .0 ∙ sym (ap (λ (y : Left AllAnswer). y .answer .reading) k),
+      let memory = ap (λ (y : Left (AllSaid Reading)). y .memory) f ∙ alone .1 ∙ sym (ap (λ (y : Left (AllSaid Reading)). y .memory) k) in (
+        ap (λ (y : Left (AllSaid Reading)). y .answer .state) f ∙ alone .0 ∙ sym (ap (λ (y : Left (AllSaid Reading)). y .answer .state) k),
         λ j. (tt, (tt, (tt, (memory j .ledger, (memory j .map, tt))))),
       );
   feed-none-accepted-changes-nothing = λ c e.

@@ -24,6 +24,7 @@ use Rattle.rules.specs.Regular.{cycleOf, positionOf, Plan, courseOf, momentIn}
 use Rattle.rules.specs.Shown.{marked}
 use Rattle.rules.specs.Question.{question}
 use Rattle.laws.specs.Beside.{isMoment, isOpen, below, above}
+use Rattle.laws.proofs.Answers.{was-given}
 use Rattle.laws.proofs.Band.{verdict-inside, verdict-below, verdict-above, verdict-zero}
 use Rattle.laws.proofs.Bounds.{sample-moment}
 use Rattle.laws.proofs.Longer.{same-samples, counted-longer}
@@ -35,7 +36,7 @@ use Rattle.laws.proofs.Tally.{counted-le, next-judged}
 use Rattle.state.specs.declared.Run.{Run}
 use Rattle.state.proofs.Checked.{Startable, start-passed}
 use Rattle.blocks.proofs.Accepted.{one-accepted}
-use Rattle.judge.proofs.Promises.{answer-taken}
+use Rattle.judge.specs.Answers.{answerSaid}
 use Rattle.judge.proofs.Runs.{in-order}
 use Rattle.demands.specs.Demand2.{VerdictIsTheJudges}
 use Rattle.demands.specs.Runs.{Driven, takes, sampleIn}
@@ -123,7 +124,7 @@ module _ {p : Plan} {l₀ : List ℤ} {m₀ : List ℕ} {xs : List Moment} {r : 
   unfolding isMoment
   verdict-is-the-judges c on r′ e goes-on q asked =
       let x = sampleIn c in
-      let z = answer-taken _ _ r′ (sym (sample-kept c on .answer) ∙ e) .0 in
+      let z = was-given _ _ r′ (sym (sample-kept c on .answer) ∙ ap answerSaid e) .0 in
       let ok = one-accepted r b l m x z .sample in
       let low : x .speed ≤ mostSpeed = leb-true (x .speed) mostSpeed (moment-low (momentOf x) (sample-moment x ok)) in
       let after = run-shows (takes h c on e) in

@@ -6,12 +6,15 @@ use mathlib.Core.Path.{_≡_, sym, ap, _∙_}
 use Prim.Native.Nat.{ℕ, suc}
 use native.Mathlib.Omega.{arith}
 use lib.ListN.{getD, replicate}
+use Rattle.laws.specs.Answers.{refuses}
+use Rattle.laws.proofs.Answers.{given-refused}
 use Rattle.opening.specs.declared.Opening.{Opening}
-use Rattle.opening.specs.declared.OpenAnswer.{OpenAnswer}
 use Rattle.opening.specs.declared.OpenStep.the-variants as step
+use Rattle.opening.specs.Answers.{openStepSaid, OpenSaid}
 use Rattle.opening.proofs.refused_at
 use Rattle.reading.specs.declared.Reading.{Reading}
-use Rattle.reader.specs.declared.Ending.the-variants.{Whole, Refused}
+use Rattle.reader.specs.declared.Ending.the-variants.{Whole}
+use Rattle.reader.specs.Answers.{endingSaid}
 use Rattle.reader.proofs.Endings.{only-whole}
 use Rattle.reader.proofs.blank
 use Rattle.reader.proofs.reading_of
@@ -21,10 +24,10 @@ use Rattle.demands.specs.Calls.{Call}
 -- a refusal that is another's number, or no refusal at all
 module _ (c : Call refused_at.ended refused_at.Reads.Learnt) where
   pub refused-another-number-breaks : (n : ℕ) → (n ≡ c .args .1 .0 → ⊥) → c .answer .step ≡ step.Refused n → ⊥
-  refused-another-number-breaks n h e = let z : step.Refused n ≡ step.Refused (c .args .1 .0) = sym e ∙ ap (λ (x : OpenAnswer). x .step) (c .kept) in h cc
+  refused-another-number-breaks n h e = let z : refuses n ≡ refuses (c .args .1 .0) = sym (ap openStepSaid e) ∙ ap (λ (x : OpenSaid). x .says) (c .kept) in h cc
 
   pub refused-as-incomplete-breaks : c .answer .step ≡ step.Incomplete → ⊥
-  refused-as-incomplete-breaks e = let z : step.Incomplete ≡ step.Refused (c .args .1 .0) = sym e ∙ ap (λ (x : OpenAnswer). x .step) (c .kept) in false≢true cc
+  refused-as-incomplete-breaks e = given-refused (sym (ap openStepSaid e) ∙ ap (λ (x : OpenSaid). x .says) (c .kept))
 
 -- an opening whose vehicle is seventeen bytes of 0, or that has a cycle already
 module _ (c : Call blank.ended blank.Reads.Learnt) where
@@ -47,7 +50,7 @@ module _ (c : Call reading_of.ended reading_of.Reads.Learnt) where
 -- an end that is let by before the start, or inside a field
 module _ (c : Call ended.ended ended.Reads.Learnt) where
   pub ended-before-the-start-breaks : c .args .0 ≡ false → c .answer ≡ Whole → ⊥
-  ended-before-the-start-breaks s e = false≢true (sym s ∙ only-whole (c .args .0) (c .args .1 .0) (sym (c .kept) ∙ e) .0)
+  ended-before-the-start-breaks s e = false≢true (sym s ∙ only-whole (c .args .0) (c .args .1 .0) (sym (c .kept) ∙ ap endingSaid e) .0)
 
   pub ended-with-bytes-left-breaks : (n : ℕ) → c .args .1 .0 ≡ suc n → c .answer ≡ Whole → ⊥
-  ended-with-bytes-left-breaks n s e = let z = only-whole (c .args .0) (c .args .1 .0) (sym (c .kept) ∙ e) .1 in omega arith
+  ended-with-bytes-left-breaks n s e = let z = only-whole (c .args .0) (c .args .1 .0) (sym (c .kept) ∙ ap endingSaid e) .1 in omega arith

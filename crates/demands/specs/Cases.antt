@@ -1,4 +1,4 @@
--- The answers' cases as document 01's numbers, 0 where nothing is refused, and its orders of refusals as these numbers.
+-- Document 01's orders of refusals, as numbers, 0 where nothing is refused; its list of them.
 -- Assumes nothing.
 use mathlib.Core.List.{List}
 use mathlib.Core.Path.{_≡_}
@@ -6,89 +6,20 @@ use Prim.Native.Nat.{ℕ, _≤_}
 use lib.IntN.{ℤ}
 use Rattle.rules.specs.Words.{settled}
 use Rattle.rules.specs.declared.Amounts.{Amounts}
+use Rattle.laws.specs.Answers.{numberOf, figureSaid}
 use Rattle.ledger.specs.Row.{energyIn, distanceIn}
 use Rattle.state.specs.declared.Run.{Run}
 use Rattle.state.specs.Refusals.{cyclesBy}
-use Rattle.judge.specs.declared.Answer.{Answer}
-use Rattle.judge.specs.declared.Answer.the-variants as answer
-use Rattle.judge.specs.declared.ShownAnswer.{ShownAnswer}
-use Rattle.judge.specs.declared.ShownAnswer.the-variants as shown
-use Rattle.judge.specs.declared.TotalsAnswer.{TotalsAnswer}
-use Rattle.judge.specs.declared.TotalsAnswer.the-variants as totals
-use Rattle.rules.specs.declared.Figure.{Figure}
-use Rattle.rules.specs.declared.Figure.the-variants as figure
 use Rattle.rules.specs.Closing.{chargedBy}
 use Rattle.closing.specs.Answers.{whole, refusalOf}
 use Rattle.rules.specs.Machine.{Reply, toField, notYet, noField}
 use Rattle.rules.specs.Machine as machine
-use Rattle.rules.specs.Record.{Content as Comes, brought, foreign, wrong}
+use Rattle.rules.specs.Record.{Content, brought, foreign, wrong}
 use Rattle.records.specs.Stage.{replyOn}
-use Rattle.fields.specs.declared.Front.{Front}
-use Rattle.fields.specs.declared.Front.the-variants as front
-use Rattle.contents.specs.declared.Content.{Content}
-use Rattle.contents.specs.declared.Content.the-variants as content
 use Rattle.opening.specs.declared.Opening.{Opening}
-use Rattle.opening.specs.declared.OpenStep.{OpenStep}
-use Rattle.opening.specs.declared.OpenStep.the-variants as opening
 use Rattle.opening.specs.Answers.{stageOf, openGround}
 use Rattle.reading.specs.declared.Reading.{Reading}
-use Rattle.reading.specs.declared.Step.{Step}
-use Rattle.reading.specs.declared.Step.the-variants as step
 use Rattle.reading.specs.Answers.{stageAt, readGround}
-use Rattle.reader.specs.declared.Ending.{Ending}
-use Rattle.reader.specs.declared.Ending.the-variants as ending
-use Rattle.desk.specs.declared.Outcome.{Outcome}
-use Rattle.desk.specs.declared.Outcome.the-variants as outcome
-
--- ---- "If an answer is an enum, a definition gives this paper's number and values for each of the enum's cases.": the values are what a case carries
-
-abbrev pub answerNumber : Answer → ℕ
-answerNumber (answer.Taken r) = 0
-answerNumber (answer.Refused n) = n
-
-abbrev pub shownNumber : ShownAnswer → ℕ
-shownNumber (shown.Counted x) = 0
-shownNumber (shown.Refused n) = n
-
-abbrev pub totalsNumber : TotalsAnswer → ℕ
-totalsNumber (totals.Summed x) = 0
-totalsNumber (totals.Refused n) = n
-
-abbrev pub figureNumber : Figure → ℕ
-figureNumber (figure.Is x) = 0
-figureNumber figure.Absent = 0
-figureNumber (figure.Refused n) = n
-
-abbrev pub openNumber : OpenStep → ℕ
-openNumber (opening.Taken bytes) = 0
-openNumber (opening.Started bytes r) = 0
-openNumber opening.Incomplete = 0
-openNumber (opening.Refused n) = n
-
-abbrev pub stepNumber : Step → ℕ
-stepNumber (step.Taken bytes) = 0
-stepNumber (step.Passed bytes) = 0
-stepNumber step.Incomplete = 0
-stepNumber (step.Refused n) = n
-
-abbrev pub endingNumber : Ending → ℕ
-endingNumber ending.Whole = 0
-endingNumber (ending.Refused n) = n
-
--- 8: "unknown tag, impossible length, wrong mark, tag 6 kind above 1"
-abbrev pub frontNumber : Front → ℕ
-frontNumber front.Incomplete = 0
-frontNumber front.Impossible = 8
-frontNumber (front.Field tag n) = 0
-
-abbrev pub contentNumber : Content → ℕ
-contentNumber (content.Brought b) = 0
-contentNumber content.Foreign = 0
-contentNumber (content.Refused n) = n
-
-abbrev pub outcomeNumber : Outcome → ℕ
-outcomeNumber outcome.More = 0
-outcomeNumber (outcome.Refused n) = n
 
 -- an answer that is neither the refusal 1 nor the refusal 2
 abbrev pub Neither1Nor2 : {A : Type 0} → (ℕ → A) → A → Type 0
@@ -109,10 +40,10 @@ orElse n next = settled n next n
 abbrev pub rechargeNumber : Run → Amounts → List ℕ → List ℤ → List ℕ → ℕ
 rechargeNumber r a b l m =
     orElse (refusalOf r a b l m)
-    (figureNumber (chargedBy (whole r a b l m) (cyclesBy r) (energyIn l) (distanceIn l) (a .after) (a .charge)))
+    (numberOf (figureSaid (chargedBy (whole r a b l m) (cyclesBy r) (energyIn l) (distanceIn l) (a .after) (a .charge))))
 
 -- of what a field brings
-abbrev pub wrongNumber : Comes → ℕ
+abbrev pub wrongNumber : Content → ℕ
 wrongNumber (brought b) = 0
 wrongNumber foreign = 0
 wrongNumber (wrong n) = n

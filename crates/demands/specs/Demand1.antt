@@ -15,19 +15,23 @@ use Rattle.rules.specs.declared.Figure.the-variants as figure
 use Rattle.rules.specs.Record.{refusedAt, sheetOf}
 use Rattle.rules.specs.Table.{tags}
 use Rattle.rules.specs.Front.{frontOf}
+use Rattle.laws.specs.Answers.{numberOf, figureSaid}
 use Rattle.state.specs.State.{lent, ground}
 use Rattle.state.specs.Refusals.{startRefusal, sampleRefusal}
 use Rattle.blocks.specs.Blocks.{blockRefusal}
 use Rattle.judge.specs.declared.Answer.the-variants as answer
 use Rattle.judge.specs.declared.ShownAnswer.the-variants as counts
 use Rattle.judge.specs.declared.TotalsAnswer.the-variants as sums
+use Rattle.judge.specs.Answers.{answerSaid, shownSaid, totalsSaid}
 use Rattle.closing.specs.Answers.{refusalOf}
-use Rattle.fields.specs.Fields.{frontSaid}
-use Rattle.contents.specs.Content.{laterContent}
+use Rattle.fields.specs.Fields.{frontSaid, standsSaid}
+use Rattle.contents.specs.Content.{contentSaid, laterContent}
 use Rattle.opening.specs.declared.OpenStep.the-variants as opening
+use Rattle.opening.specs.Answers.{openStepSaid}
 use Rattle.reading.specs.declared.Step.the-variants as step
-use Rattle.reading.specs.Answers.{readGround}
+use Rattle.reading.specs.Answers.{stepSaid, readGround}
 use Rattle.reader.specs.declared.Ending.the-variants as ending
+use Rattle.reader.specs.Answers.{endingSaid}
 use Rattle.desk.specs.declared.Outcome.the-variants as outcome
 use Rattle.figures.specs.Figured.{blank as noFigures}
 use Rattle.sheet.specs.Overlaid.{mostSheet}
@@ -56,7 +60,7 @@ use Rattle.prints.proofs.close
 use Rattle.bench.proofs.paperwhelk_verdict
 use Rattle.demands.specs.Calls.{AsksNothing, left, StartCall, SampleCall, BlockCall, ShownCall, TotalsCall, WeightedCall, RangeCall, RechargeCall, RechargedCall, FrontCall, ContentCall, OpenCall, ReadCall, AllCall, EndedCall, FiguresCall, SheetCall, RefusalCall, FeedCall, CloseCall, RefuseCall}
 use Rattle.demands.specs.Runs.{startLeaves, sampleLeaves, blockLeaves, Beyond, Shorter}
-use Rattle.demands.specs.Cases.{answerNumber, shownNumber, totalsNumber, figureNumber, openNumber, stepNumber, endingNumber, frontNumber, contentNumber, wrongNumber, orElse, rechargeNumber, openingNumber, nextNumber, readingNumber, Listed}
+use Rattle.demands.specs.Cases.{wrongNumber, orElse, rechargeNumber, openingNumber, nextNumber, readingNumber, Listed}
 
 -- ---- "Reader and judge take every input, broken ones included, and end."
 
@@ -92,49 +96,49 @@ pub record TakesEveryInput (M : Type 1) : Type 2 where
 pub record HasItsNumber : Type 0 where
   -- "For starting a run, as field 4 does: 1, 2, 3."
   pub start-number : (c : StartCall) → (let (b, (t, (l, (m, _)))) = c .args in
-      answerNumber (c .answer) ≡ startRefusal (now b) t (now l) (now m))
+      numberOf (answerSaid (c .answer)) ≡ startRefusal (now b) t (now l) (now m))
   -- "A single sample: 7, 5."
   pub sample-number : (c : SampleCall) → (let (r, (b, (l, (m, (x, _))))) = c .args in
-      answerNumber (c .answer) ≡ sampleRefusal r (now b) (now l) (now m) x)
+      numberOf (answerSaid (c .answer)) ≡ sampleRefusal r (now b) (now l) (now m) x)
   -- "for field 5: .. 6, 7, 5"
   pub block-number : (c : BlockCall) → (let (r, (b, (l, (m, (first, (q, _)))))) = c .args in
-      answerNumber (c .answer) ≡ blockRefusal r (now b) (now l) (now m) first (now q))
+      numberOf (answerSaid (c .answer)) ≡ blockRefusal r (now b) (now l) (now m) first (now q))
   -- "In a started run 1 and 2 come before all others"
   pub shown-number : (c : ShownCall) → (let (r, (b, (l, (m, _)))) = c .args in
-      shownNumber (c .answer) ≡ ground r (now b) (now l) (now m) 0)
+      numberOf (shownSaid (c .answer)) ≡ ground r (now b) (now l) (now m) 0)
   pub totals-number : (c : TotalsCall) → (let (r, (b, (l, (m, _)))) = c .args in
-      totalsNumber (c .answer) ≡ ground r (now b) (now l) (now m) 0)
+      numberOf (totalsSaid (c .answer)) ≡ ground r (now b) (now l) (now m) 0)
   -- "Closing: 10, 11, 12, 13.", after 1 and 2
   pub weighted-number : (c : WeightedCall) → (let (r, (a, (b, (l, (m, _))))) = c .args in
-      figureNumber (c .answer) ≡ refusalOf r a (now b) (now l) (now m))
+      numberOf (figureSaid (c .answer)) ≡ refusalOf r a (now b) (now l) (now m))
   pub range-number : (c : RangeCall) → (let (r, (a, (b, (l, (m, _))))) = c .args in
-      figureNumber (c .answer) ≡ refusalOf r a (now b) (now l) (now m))
+      numberOf (figureSaid (c .answer)) ≡ refusalOf r a (now b) (now l) (now m))
   -- "Recharge: whatever closing refuses, then absent, 14, 12."
   pub recharge-number : (c : RechargeCall) → (let (r, (a, (b, (l, (m, _))))) = c .args in
-      figureNumber (c .answer) ≡ rechargeNumber r a (now b) (now l) (now m))
+      numberOf (figureSaid (c .answer)) ≡ rechargeNumber r a (now b) (now l) (now m))
   pub recharged-number : (c : RechargedCall) → (let (range, (E, (F, (A, _)))) = c .args in
-      figureNumber (c .answer) ≡ unless 14 (leZ (pos 1) (E +ℤ F)) (unless 12 (leb (rechargeBy (up E) (up (E +ℤ F)) A range) mostRate) 0))
+      numberOf (figureSaid (c .answer)) ≡ unless 14 (leZ (pos 1) (E +ℤ F)) (unless 12 (leb (rechargeBy (up E) (up (E +ℤ F)) A range) mostRate) 0))
   -- the figures of the report: 1 and 2, as of `read`
   pub figures-of-number : (c : FiguresCall) → (let (r, (b, (l, (m, _)))) = c .args in
       c .answer .refusal ≡ readGround r (now b) (now l) (now m))
   -- 8, of what can be no field
-  pub front-of-number : (c : FrontCall) → frontNumber (c .answer) ≡ frontNumber (frontSaid (frontOf tags (now (c .args .0))))
+  pub front-of-number : (c : FrontCall) → numberOf (frontSaid (c .answer)) ≡ numberOf (standsSaid (frontOf tags (now (c .args .0))))
   -- of a whole field after the start: 8, 9, then its content
   pub content-of-number : (c : ContentCall) → (let (me, (place, (passed, (offered, (tag, (v, _)))))) = c .args in
-      contentNumber (c .answer) ≡ wrongNumber (laterContent (now me) place passed offered (record { tag = tag; value = now v })))
+      wrongNumber (contentSaid (now v) (c .answer)) ≡ wrongNumber (laterContent (now me) place passed offered (record { tag = tag; value = now v })))
   -- 1 "before all else", then the field at the front: "8, 9, then its content"
   pub open-number : (c : OpenCall) → (let (o, (i, (room, (l, (m, _))))) = c .args in
-      openNumber (c .answer .step) ≡ openingNumber o (now room) (now l) (now m) (now i))
+      numberOf (openStepSaid (c .answer .step)) ≡ openingNumber o (now room) (now l) (now m) (now i))
   pub read-number : (c : ReadCall) → (let (r, (i, (b, (l, (m, _))))) = c .args in
-      stepNumber (c .answer .step) ≡ readingNumber r (now b) (now l) (now m) (now i))
+      numberOf (stepSaid (c .answer .step)) ≡ readingNumber r (now b) (now l) (now m) (now i))
   -- of `read_all`: 1 and 2 of the whole call, then the number of the field at the front of what the accepted fields leave
   pub read-all-number : (c : AllCall) → (let (r, (i, (b, (l, (m, _))))) = c .args in
-      stepNumber (c .answer .last)
+      numberOf (stepSaid (c .answer .last))
       ≡ orElse (readGround r (now b) (now l) (now m))
       (nextNumber (c .answer .reading) (now b) (c .lasts .1 .1 .1 .0) (c .lasts .1 .1 .1 .1 .0) (drop (c .answer .used) (now i))))
   -- 15: "input ends inside a field, or before field 4 was accepted"
   pub ended-number : (c : EndedCall) → (let (started, (left, _)) = c .args in
-      endingNumber (c .answer) ≡ unless 15 started (unless 15 (eqb left 0) 0))
+      numberOf (endingSaid (c .answer)) ≡ unless 15 started (unless 15 (eqb left 0) 0))
 
 -- a refusal's number is one of the list, of every operation and of a record
 pub record InTheList : Type 0 where

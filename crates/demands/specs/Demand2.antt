@@ -30,6 +30,7 @@ use Rattle.rules.specs.Values.{countIn, areSamples, momentsIn}
 use Rattle.rules.specs.Record.{Told, morePassed, takeField, untold, told, refusedAt, sheetOf}
 use Rattle.rules.specs.Figures.{energies, distances, cyclesIn, outsideTotal, figuresBy, figuresTold}
 use Rattle.rules.specs.Text.{refusalText, printed}
+use Rattle.laws.specs.Answers.{refuses, numberOf}
 use Rattle.laws.specs.Beside.{isBlock, stopped, Unrounded}
 use Rattle.laws.specs.Claims.{ForeignBlock, oneMore}
 use Rattle.values.specs.Limits.{areAmounts}
@@ -45,15 +46,14 @@ use Rattle.judge.specs.Answers.{afterBlock}
 use Rattle.reading.specs.declared.Step.the-variants as step
 use Rattle.reading.specs.Answers.{isReading}
 use Rattle.sheet.specs.Overlaid.{mostSheet}
-use Rattle.desk.specs.declared.Outcome.the-variants.{More}
 use Rattle.desk.specs.declared.Outcome.the-variants as outcome
-use Rattle.desk.specs.Feeding.{Laid, Lent, laidOf, emptyDesk, stops, deskGround, feedOf}
+use Rattle.desk.specs.Feeding.{wanted, outcomeSaid, Laid, Lent, laidOf, emptyDesk, stops, deskGround, feedOf}
 use Rattle.prints.specs.Printed.{nextField}
 use Rattle.intake.specs.declared.Intake.{Intake}
 use Rattle.intake.specs.Turns.{Recorded, Unread}
 use Rattle.demands.specs.Calls.{left, StartCall, SampleCall, BlockCall, ShownCall, TotalsCall, WeightedCall, RangeCall, RechargeCall, FiguresCall, ReadCall, AllCall, FeedCall, CloseCall, RefuseCall, VerdictCall}
 use Rattle.demands.specs.Runs.{StartOn, SampleOn, BlockOn, ShownOn, TotalsOn, WeightedOn, RangeOn, RechargeOn, FiguresOn, ReadOn, AllOn, sampleIn, bytesIn, weightedAmounts, rangeAmounts, rechargeAmounts, Driven, FeedOn, laidBy, FedIn, CloseOn, RefuseOn, closedTo, refusedTo, AskedOn, SomeRun, SomeClose}
-use Rattle.demands.specs.Cases.{outcomeNumber, Neither1Nor2}
+use Rattle.demands.specs.Cases.{Neither1Nor2}
 use Rattle.demands.specs.Compared.{OneMorePassed, withPassed, onePassed}
 use Rattle.demands.specs.Rows.{risen, noTime, eleven, level, allowsThree, fourFast, momentsOf}
 
@@ -215,7 +215,7 @@ pub record Speaks : Type 0 where
       → (xs : List Sample) → every isSample xs ≡ true → length xs ≤ mostOffered → SomeRun p l₀ m₀ (momentsOf xs)
   -- every record of which no field is refused is fed, in any parts, and closed
   pub some-part : (lent : Lent) {w rest : List ℕ} {x : Laid} → FedIn lent w x rest → (new : List ℕ) → (let y = feedOf x (rest ++ new) in
-      y .outcome ≡ More → FedIn lent (w ++ new) (y .laid) (drop (y .used) (rest ++ new)))
+      y .outcome ≡ wanted → FedIn lent (w ++ new) (y .laid) (drop (y .used) (rest ++ new)))
   pub some-close : (x : Laid) (rest out : List ℕ) → mostSheet ≤ length out → SomeClose x rest
 
 -- ---- "Blocks of another vehicle change nothing but the passed-over count (and the field number of a later refusal)."
@@ -245,7 +245,7 @@ pub record Prints (w rest : List ℕ) (x : Laid) : Type 0 where
   pub report-prints : (c : CloseCall) → CloseOn x rest c → closedTo c ≡ printed (sheetOf w)
   -- new bytes, of which a field is refused: its number is the record's, with the number of its field, whatever would follow
   pub feed-number : (new : List ℕ) (f : FeedCall) → FeedOn x (rest ++ new) f → (k : ℕ) → f .answer .outcome ≡ outcome.Refused k → (q : List ℕ)
-      → sheetOf ((w ++ new) ++ q) ≡ refusedAt (outcomeNumber (f .answer .outcome)) (suc (f .answer .desk .fields))
+      → sheetOf ((w ++ new) ++ q) ≡ refusedAt (numberOf (outcomeSaid (f .answer .outcome))) (suc (f .answer .desk .fields))
   -- "A refused field gives only `refused N field K`, K from 1"
   pub refusal-prints : (new : List ℕ) (f : FeedCall) → FeedOn x (rest ++ new) f → (k : ℕ) → f .answer .outcome ≡ outcome.Refused k
       → (c : RefuseCall) → RefuseOn (laidBy f) k c → (q : List ℕ) → refusedTo c ≡ printed (sheetOf ((w ++ new) ++ q))
@@ -253,7 +253,7 @@ pub record Prints (w rest : List ℕ) (x : Laid) : Type 0 where
 -- "Before all else it refuses 1 .. Then it refuses 2", and changes nothing: of any desk, whether a record's bytes brought it or not
 pub record BeforeAll (x : Laid) : Type 0 where
   pub feed-before-all : (i : List ℕ) (c : FeedCall) → FeedOn x i c
-      → record { laid = laidBy c; used = c .answer .used; outcome = c .answer .outcome } ≡ stops x (outcome.Refused (deskGround x))
+      → record { laid = laidBy c; used = c .answer .used; outcome = outcomeSaid (c .answer .outcome) } ≡ stops x (refuses (deskGround x))
   pub close-before-all : (rest : List ℕ) (c : CloseCall) → CloseOn x rest c → closedTo c ≡ refusalText (deskGround x) (nextField (x .desk .fields))
 
 -- the program: on memory that is long enough, the lines written are what the rules give for the bytes that came; where the buffer is too short for a field,

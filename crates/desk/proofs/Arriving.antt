@@ -16,6 +16,7 @@ use Rattle.rules.specs.Table.{behindTolerances, tags}
 use Rattle.rules.specs.Machine.{End, waiting, broken, stopped, Ran, run}
 use Rattle.rules.specs.Values.{isCharacter, isNumber}
 use Rattle.rules.specs.Record.{takeField, untold}
+use Rattle.laws.specs.Answers.{endSaid}
 use Rattle.laws.proofs.Cuts.{joined, cut, used-most, resumed}
 use Rattle.laws.proofs.Places.{early-or-late}
 use Rattle.laws.proofs.Prefixes.{no-bytes}
@@ -26,11 +27,10 @@ use Rattle.records.proofs.After.{after-upto}
 use Rattle.records.proofs.Joined.{Long, Holds}
 use Rattle.records.proofs.Joined as lists
 use Rattle.records.proofs.Weighs.{fields-weigh}
-use Rattle.judge.proofs.Runs as runs
 use Rattle.opening.specs.Answers.{nothing, stageOf, openingOf, runOf, openGround}
 use Rattle.opening.proofs.Starting.{Ready}
 use Rattle.reading.specs.Answers.{startedReading, readingOf}
-use Rattle.desk.specs.Feeding.{Desk, Laid, laidOf, emptyDesk, More, Consumed, stageOn, startedOpening, laidAfter, outcomeOf, fedBy, feedOf, startedGround, deskGround, mostFields}
+use Rattle.desk.specs.Feeding.{Desk, Laid, laidOf, wanted, emptyDesk, Consumed, stageOn, startedOpening, laidAfter, fedBy, feedOf, startedGround, deskGround, mostFields}
 use Rattle.desk.proofs.Good.{Good, good-upto, opens-on, begun-ground, few-offered}
 use Rattle.desk.proofs.Grounds.{of-opening, of-started, feeds}
 use Rattle.desk.proofs.Staged.{none-opened, laid-joined}
@@ -149,7 +149,7 @@ module _ (room : List ℕ) (l : List ℤ) (m : List ℕ) (long : mostBytes ≤ l
           ∙ ap (λ (r : List ℕ). joined (worked w) (runOn (worked w .state) (r ++ new))) (h .bytes)
 
       -- a call takes what follows
-      pub fed-is : feedOf x (rest ++ new) ≡ record { laid = after (w ++ new); used = more .used; outcome = outcomeOf (worked (w ++ new) .end) }
+      pub fed-is : feedOf x (rest ++ new) ≡ record { laid = after (w ++ new); used = more .used; outcome = endSaid tt (worked (w ++ new) .end) }
       fed-is =
           feeds x (rest ++ new) arrived-ground
           ∙ (λ j. fedBy (sym (h .laid) j) (runOn (stageOn (sym (h .laid) j)) (rest ++ new)))
@@ -157,11 +157,11 @@ module _ (room : List ℕ) (l : List ℤ) (m : List ℕ) (long : mostBytes ≤ l
           ∙ (λ j. record {
             laid = laid-joined begin (worked w) more (after-upto (length w) first w) (after-upto (length (rest ++ new)) (worked w .state) (rest ++ new)) j;
             used = more .used;
-            outcome = outcomeOf (more .end);
+            outcome = endSaid tt (more .end);
           })
-          ∙ (λ j. record { laid = laidAfter begin (sym all-is j); used = more .used; outcome = outcomeOf (sym all-is j .end) })
+          ∙ (λ j. record { laid = laidAfter begin (sym all-is j); used = more .used; outcome = endSaid tt (sym all-is j .end) })
 
-      pub arrived-more : feedOf x (rest ++ new) .outcome ≡ More → Arrived (w ++ new) (feedOf x (rest ++ new) .laid) (drop (feedOf x (rest ++ new) .used) (rest ++ new))
+      pub arrived-more : feedOf x (rest ++ new) .outcome ≡ wanted → Arrived (w ++ new) (feedOf x (rest ++ new) .laid) (drop (feedOf x (rest ++ new) .used) (rest ++ new))
       arrived-more e =
           let used-is = ap (λ (y : Consumed). y .used) fed-is in
           record {
@@ -174,7 +174,7 @@ module _ (room : List ℕ) (l : List ℤ) (m : List ℕ) (long : mostBytes ≤ l
             waits = only-waiting (worked (w ++ new) .end) (ap (λ (y : Consumed). y .outcome) (sym fed-is) ∙ e);
           }
         where
-          only-waiting : (e : End) → outcomeOf e ≡ More → e ≡ waiting
+          only-waiting : (e : End) → endSaid tt e ≡ wanted → e ≡ waiting
           only-waiting waiting q = refl
           only-waiting broken q = absurd (false≢true cc)
           only-waiting (stopped n) q = absurd (false≢true cc)

@@ -15,6 +15,7 @@ use Rattle.numbers.proofs.Lists.{part-rest}
 use Rattle.numbers.proofs.Tests.{settled-taken, settled-refused}
 use Rattle.rules.specs.Table.{behindTolerances, tags}
 use Rattle.rules.specs.Machine.{End, waiting, broken, stopped, Ran, off, ends, moveAt, upto}
+use Rattle.laws.specs.Answers.{Said, refuses, endSaid}
 use Rattle.laws.proofs.Cuts.{joined, resumed, first-ends, used-upto, used-most, upto-then}
 use Rattle.laws.proofs.Prefixes.{fields-most, few-upto, upto-stops, upto-full}
 use Rattle.state.specs.State.{lent, Left}
@@ -25,10 +26,9 @@ use Rattle.opening.specs.declared.Opening.{Opening}
 use Rattle.opening.specs.Answers.{stageOf, openingOf, runOf, openGround}
 use Rattle.opening.proofs.Starting.{Ready, ground-ready}
 use Rattle.reading.specs.declared.Reading.{Reading}
-use Rattle.reading.specs.Answers.{startedReading, stageAt, readingOf, lastOf, readGround}
-use Rattle.reader.specs.declared.AllAnswer.{AllAnswer}
+use Rattle.reading.specs.Answers.{unfinished, AllSaid, startedReading, stageAt, readingOf, readGround}
 use Rattle.reader.specs.Answers.{allBy, allLeft}
-use Rattle.desk.specs.Feeding.{Desk, Laid, Outcome, Refused, Consumed, lentCycle, stageOn, startedOpening, laidAfter, stops, behind, outcomeOf, fedBy, feedOf, openAll, outcomeBy, mostFields, startedGround}
+use Rattle.desk.specs.Feeding.{Desk, Laid, Consumed, lentCycle, stageOn, startedOpening, laidAfter, stops, behind, fedBy, feedOf, openAll, outcomeBy, mostFields, startedGround}
 use Rattle.desk.proofs.Grounds.{of-opening, of-started, feed-refuses, feeds}
 use Rattle.desk.proofs.Good.{Good, good-upto, begun-ground}
 use Rattle.desk.proofs.Staged.{fed-joined}
@@ -48,7 +48,7 @@ by-started P x t f = go (x .desk .started) refl
 
 -- ---- after the start: the reader reads all
 
-outcome-by : (e : End) → outcomeBy (lastOf e) ≡ outcomeOf e
+outcome-by : (e : End) → outcomeBy (endSaid unfinished e) ≡ endSaid tt e
 outcome-by waiting = refl
 outcome-by broken = refl
 outcome-by (stopped n) = refl
@@ -62,25 +62,25 @@ module _ (x : Laid) (i : List ℕ) (g : readGround (x .desk .reading) (lentCycle
   read-is = settled-taken _ g
 
   -- as the code forms it
-  abbrev asFed : Bool → Left AllAnswer → Outcome → Consumed
+  abbrev asFed : Bool → Left (AllSaid Reading) → Said (Unit {0}) → Consumed
   asFed b y o = record {
-    laid = record { desk = record { started = b; opening = x .desk .opening; reading = y .answer .reading; fields = x .desk .fields + y .answer .fields }; room = x .room; memory = y .memory };
+    laid = record { desk = record { started = b; opening = x .desk .opening; reading = y .answer .state; fields = x .desk .fields + y .answer .fields }; room = x .room; memory = y .memory };
     used = y .answer .used;
     outcome = o;
   }
 
-  pub all-size : {y : Left AllAnswer} → y ≡ allLeft (x .desk .reading) (lentCycle x) (x .memory .ledger) (x .memory .map) i → y .answer .fields ≤ length i
+  pub all-size : {y : Left (AllSaid Reading)} → y ≡ allLeft (x .desk .reading) (lentCycle x) (x .memory .ledger) (x .memory .map) i → y .answer .fields ≤ length i
   all-size e =
-      let z = ap (λ (w : Left AllAnswer). w .answer .fields) (e ∙ read-is) in
+      let z = ap (λ (w : Left (AllSaid Reading)). w .answer .fields) (e ∙ read-is) in
       let l = fields-most tags takeOn (stageAt (x .desk .reading) (lentCycle x) (x .memory .ledger) (x .memory .map)) i in
       omega arith
 
-  pub read-left : x .desk .started ≡ true → {y : Left AllAnswer} {o : Outcome} → y ≡ allLeft (x .desk .reading) (lentCycle x) (x .memory .ledger) (x .memory .map) i
+  pub read-left : x .desk .started ≡ true → {y : Left (AllSaid Reading)} {o : Said (Unit {0})} → y ≡ allLeft (x .desk .reading) (lentCycle x) (x .memory .ledger) (x .memory .map) i
       → o ≡ outcomeBy (y .answer .last) → asFed (x .desk .started) y o ≡ fedBy x (runOn (stageOn x) i)
   read-left e {y} {o} h q =
       (λ j. asFed (x .desk .started) y (q j))
       ∙ (λ j. asFed (e j) (h j) (outcomeBy (h j .answer .last)))
-      ∙ ap (λ (z : Left AllAnswer). asFed true z (outcomeBy (z .answer .last))) read-is
+      ∙ ap (λ (z : Left (AllSaid Reading)). asFed true z (outcomeBy (z .answer .last))) read-is
       ∙ (λ j. asFed true (allBy (x .desk .reading) read) (outcome-by (read .end) j))
       ∙ ap (λ (b : Bool). fedBy (laidAs b x) (runOn (stageOn (laidAs b x)) i)) (sym e)
 
@@ -216,7 +216,7 @@ module _ (o : Opening) (r : Reading) (n : ℕ) (room : List ℕ) (l : List ℤ) 
   unfolding U
   opens-as h = settled-taken _ h
 
-  refuses-as : (openGround o room ≡ 0 → ⊥) → openAll Y i ≡ stops Y (Refused (openGround o room))
+  refuses-as : (openGround o room ≡ 0 → ⊥) → openAll Y i ≡ stops Y (refuses (openGround o room))
   refuses-as h = settled-refused _ h
 
   feeds-as : openGround o room ≡ 0 → feedOf Y i ≡ fedBy Y (runOn (stageOf o room l m) i)
@@ -247,7 +247,7 @@ module _ (o : Opening) (r : Reading) (n : ℕ) (room : List ℕ) (l : List ℤ) 
       let q = ground-ready o room h in
       let f = ap (λ (z : Consumed). z .laid .desk .started) (sym (opens-as h)) ∙ e in
       opens-as h ∙ ap (fedBy Y) (sym (waits o r n room l m i q (has-not o r n room l m i q f))) ∙ sym (feeds-as h))
-      (λ h. refuses-as h ∙ (λ j. stops Y (Refused (of-opening Y few refl j))) ∙ sym (feed-refuses Y i (λ z. h (of-opening Y few refl ∙ z))))
+      (λ h. refuses-as h ∙ (λ j. stops Y (refuses (of-opening Y few refl j))) ∙ sym (feed-refuses Y i (λ z. h (of-opening Y few refl ∙ z))))
 
   ground-as : openAll Y i .laid .desk .started ≡ true → startedGround (openAll Y i .laid) ≡ 0
   ground-as e =

@@ -1,4 +1,4 @@
--- The 1 or 2 of a desk, which comes before all else: what it tests, and that `feed` answers it with nothing taken.
+-- The 1 or 2 of a desk, which comes before all else: what it tests, and that `feed` answers it with nothing taken; and answers that say the same.
 -- Assumes nothing.
 use mathlib.Core.Bool.{Bool, true, false, cond}
 use mathlib.Core.List.{List}
@@ -8,11 +8,35 @@ use borrow.Author.Tests.{leb-true, le-leb, lt-leb}
 use lib.Dec.{leb}
 use lib.ListN.{length}
 use Rattle.numbers.proofs.Tests.{pass, stop, not-refused, settled-taken, settled-refused, settled-answer}
+use Rattle.laws.specs.Answers.{Said, gives, refuses}
+use Rattle.laws.proofs.Answers.{known-by}
 use Rattle.records.specs.Stage.{runOn}
 use Rattle.opening.specs.Answers.{openGround}
 use Rattle.reading.specs.Answers.{readGround}
-use Rattle.desk.specs.declared.Outcome.the-variants.{Refused}
-use Rattle.desk.specs.Feeding.{Laid, lentCycle, stageOn, stops, fedBy, feedOf, mostFields, startedGround, deskGround, Steady}
+use Rattle.desk.specs.declared.Fed.{Fed}
+use Rattle.desk.specs.declared.Outcome.{Outcome}
+use Rattle.desk.specs.declared.Outcome.the-variants.{More, Refused}
+use Rattle.desk.specs.Feeding.{outcomeSaid, FedSaid, fedSaid, Laid, lentCycle, stageOn, stops, fedBy, feedOf, mostFields, startedGround, deskGround, Steady}
+
+-- ---- answers that say the same are the same
+
+same-outcome : (x y : Outcome) → outcomeSaid x ≡ outcomeSaid y → x ≡ y
+same-outcome = known-by outcomeSaid back known
+  where
+    back : Said (Unit {0}) → Outcome
+    back (gives _) = More
+    back (refuses n) = Refused n
+
+    known : (x : Outcome) → back (outcomeSaid x) ≡ x
+    known More = refl
+    known (Refused n) = refl
+
+pub same-fed : (x y : Fed) → fedSaid x ≡ fedSaid y → x ≡ y
+same-fed x y e =
+    let outcome-is = same-outcome (x .outcome) (y .outcome) (ap (λ (z : FedSaid). z .outcome) e) in
+    λ i. record { outcome = outcome-is i; used = e i .used; desk = e i .desk }
+
+-- ---- before all else
 
 module _ (x : Laid) where
   pub many-fields : mostFields < x .desk .fields → 1 ≡ deskGround x
@@ -53,13 +77,13 @@ module _ (x : Laid) where
 
   -- ---- `feed` answers it, and takes nothing; else it takes what the machine takes
   module _ (i : List ℕ) where
-    pub feed-refuses : (deskGround x ≡ 0 → ⊥) → feedOf x i ≡ stops x (Refused (deskGround x))
+    pub feed-refuses : (deskGround x ≡ 0 → ⊥) → feedOf x i ≡ stops x (refuses (deskGround x))
     unfolding feedOf
     feed-refuses h = settled-refused _ h
 
-    pub feed-stops : {n : ℕ} → n ≡ deskGround x → (n ≡ 0 → ⊥) → stops x (Refused n) ≡ feedOf x i
+    pub feed-stops : {n : ℕ} → n ≡ deskGround x → (n ≡ 0 → ⊥) → stops x (refuses n) ≡ feedOf x i
     unfolding feedOf
-    feed-stops e some = settled-answer (λ k. stops x (Refused k)) _ e some
+    feed-stops e some = settled-answer (λ k. stops x (refuses k)) _ e some
 
     pub feeds : deskGround x ≡ 0 → feedOf x i ≡ fedBy x (runOn (stageOn x) i)
     unfolding feedOf

@@ -14,13 +14,14 @@ use Rattle.numbers.proofs.Tests.{first-or-rest, passed, not-refused}
 use Rattle.rules.specs.Table.{tags}
 use Rattle.rules.specs.Front.{incomplete, impossible, frontOf}
 use Rattle.rules.specs.Machine.{End, waiting, broken, stopped, ends}
+use Rattle.laws.specs.Answers.{refuses, endSaid}
 use Rattle.laws.proofs.Cuts.{used-most}
 use Rattle.laws.proofs.Prefixes.{accepted-alone, left-over, none-used}
 use Rattle.laws.proofs.Tags.{sizes}
 use Rattle.records.specs.Stage.{takeOn, runOn}
 use Rattle.opening.specs.Answers.{openGround}
 use Rattle.opening.proofs.Starting.{ground-ready}
-use Rattle.desk.specs.Feeding.{Laid, More, Refused, Consumed, stageOn, laidAfter, stops, outcomeOf, fedBy, feedOf, mostFields, startedGround, deskGround, longest}
+use Rattle.desk.specs.Feeding.{wanted, Laid, Consumed, stageOn, laidAfter, stops, fedBy, feedOf, mostFields, startedGround, deskGround, longest}
 use Rattle.desk.proofs.Grounds.{feed-refuses, feeds}
 use Rattle.desk.proofs.Staged.{none-opened, none-read}
 
@@ -40,7 +41,7 @@ incomplete-short i e =
 
 -- by the tests before all else
 module _ (x : Laid) (i : List ℕ) where
-  pub by-feed : (P : Consumed → Type 0) → (deskGround x ≡ 0 → P (fedBy x (runOn (stageOn x) i))) → ((deskGround x ≡ 0 → ⊥) → P (stops x (Refused (deskGround x)))) → P (feedOf x i)
+  pub by-feed : (P : Consumed → Type 0) → (deskGround x ≡ 0 → P (fedBy x (runOn (stageOn x) i))) → ((deskGround x ≡ 0 → ⊥) → P (stops x (refuses (deskGround x)))) → P (feedOf x i)
   by-feed P f g = go (eqb (deskGround x) 0) refl
     where
       go : (b : Bool) → eqb (deskGround x) 0 ≡ b → P (feedOf x i)
@@ -50,9 +51,9 @@ module _ (x : Laid) (i : List ℕ) where
   pub feed-used : feedOf x i .used ≤ length i
   feed-used = by-feed (λ (y : Consumed). y .used ≤ length i) (λ _. used-most tags takeOn (stageOn x) i) (λ _. zero-le)
 
-  pub feed-short : feedOf x i .outcome ≡ More → length i < feedOf x i .used + longest
+  pub feed-short : feedOf x i .outcome ≡ wanted → length i < feedOf x i .used + longest
   feed-short =
-      by-feed (λ (y : Consumed). y .outcome ≡ More → length i < y .used + longest)
+      by-feed (λ (y : Consumed). y .outcome ≡ wanted → length i < y .used + longest)
       (λ _ e.
       let y = runOn (stageOn x) i in
       let short = incomplete-short (drop (y .used) i) (left-over tags takeOn (stageOn x) i (only-waiting (y .end) e)) in
@@ -61,7 +62,7 @@ module _ (x : Laid) (i : List ℕ) where
       omega arith)
       (λ _ e. absurd (false≢true cc))
     where
-      only-waiting : (e : End) → outcomeOf e ≡ More → e ≡ waiting
+      only-waiting : (e : End) → endSaid tt e ≡ wanted → e ≡ waiting
       only-waiting waiting q = refl
       only-waiting broken q = absurd (false≢true cc)
       only-waiting (stopped n) q = absurd (false≢true cc)

@@ -14,6 +14,7 @@ use Rattle.numbers.proofs.Tests.{settled-taken, settled-refused}
 use Rattle.rules.specs.Table.{behindTolerances, tags}
 use Rattle.rules.specs.Front.{Front, incomplete, impossible, field, frontOf}
 use Rattle.rules.specs.Machine.{taken, passed, refused, Reply, toField, notYet, noField, End, waiting, broken, stopped, Ran, on, off, ends, onwards, goOn, moveOf, moveAt, replyAs, replyAt, upto}
+use Rattle.laws.specs.Answers.{Said, gives, refuses, endSaid}
 use Rattle.laws.proofs.Moves.{move-size}
 use Rattle.laws.proofs.Places.{block-places}
 use Rattle.state.specs.State.{Memory, lent}
@@ -21,13 +22,12 @@ use Rattle.records.specs.Stage.{Stage, roomAfter, takeOn, replyOn}
 use Rattle.records.proofs.After.{after-move, after-upto}
 use Rattle.records.proofs.Came.{gone, moved}
 use Rattle.opening.specs.declared.Opening.{Opening}
-use Rattle.opening.specs.declared.OpenStep.the-variants as opening
-use Rattle.opening.specs.Answers.{stageOf, openingOf, runOf, openedBy, openGround, frontOpened}
+use Rattle.opening.specs.Answers.{opens, starts, stageOf, openingOf, runOf, openedBy, openGround, frontOpened}
 use Rattle.opening.proofs.Next.{Next, waits, begins, next-move}
 use Rattle.opening.proofs.Starting.{Ready, ground-ready}
 use Rattle.reading.specs.declared.Reading.{Reading}
 use Rattle.reading.specs.Answers.{startedReading, readingOf}
-use Rattle.desk.specs.Feeding.{Laid, Outcome, More, Refused, Consumed, startedOpening, laidAfter, stops, behind, outcomeOf, fedBy, opensTo, openOne, openRest, openAll}
+use Rattle.desk.specs.Feeding.{wanted, Laid, Consumed, startedOpening, laidAfter, stops, behind, fedBy, opensTo, openOne, openRest, openAll}
 use Rattle.desk.proofs.Staged.{none-opened, fed-joined}
 use Rattle.desk.proofs.Good.{Good, good-first, good-move, opens-on}
 
@@ -42,8 +42,8 @@ pub record Onward (x y : Laid) : Type 0 where
 
 -- what a call of `open` is for the machine
 pub data View (x : Laid) (i : List ℕ) : Type 0 where
-  stays : (q : Outcome) → openOne x i ≡ stops x q → openRest x i ≡ stops x q → View x i
-  goes : (y : Laid) (k : ℕ) → openOne x i ≡ record { laid = y; used = k; outcome = More } → openRest x i ≡ behind k (openAll y (drop k i))
+  stays : (q : Said (Unit {0})) → openOne x i ≡ stops x q → openRest x i ≡ stops x q → View x i
+  goes : (y : Laid) (k : ℕ) → openOne x i ≡ record { laid = y; used = k; outcome = wanted } → openRest x i ≡ behind k (openAll y (drop k i))
       → 3 ≤ k → k ≤ length i → Onward x y → View x i
 
 module _ (o : Opening) (r : Reading) (n : ℕ) (room : List ℕ) (l : List ℤ) (m : List ℕ) (i : List ℕ) where
@@ -54,9 +54,9 @@ module _ (o : Opening) (r : Reading) (n : ℕ) (room : List ℕ) (l : List ℤ) 
   s = stageOf o room l m
 
   -- ---- the tests before all else refuse
-  refuses : (openGround o room ≡ 0 → ⊥) → View X i
+  ground-stops : (openGround o room ≡ 0 → ⊥) → View X i
   unfolding frontOpened
-  refuses h = stays (Refused (openGround o room)) (ap (opensTo X) (settled-refused _ h)) (settled-refused _ h)
+  ground-stops h = stays (refuses (openGround o room)) (ap (opensTo X) (settled-refused _ h)) (settled-refused _ h)
 
   -- ---- they pass
   module _ (e : openGround o room ≡ 0) where
@@ -83,11 +83,11 @@ module _ (o : Opening) (r : Reading) (n : ℕ) (room : List ℕ) (l : List ℤ) 
     first = ap (λ (k : ℕ). upto tags takeOn k s i) suc-left
 
     -- no field is accepted
-    no-field : (q : End) → moveAt tags takeOn s i ≡ off q → openOne X i ≡ stops X (outcomeOf q) → View X i
+    no-field : (q : End) → moveAt tags takeOn s i ≡ off q → openOne X i ≡ stops X (endSaid tt q) → View X i
     no-field q d f =
-        stays (outcomeOf q) f
+        stays (endSaid tt q) f
         (rest-is ∙ ap (fedBy X) (first ∙ ap (λ z. goOn s z (λ v k. upto tags takeOn left v (drop k i))) d)
-        ∙ (λ j. record { laid = none-opened X q refl ready j; used = 0; outcome = outcomeOf q }))
+        ∙ (λ j. record { laid = none-opened X q refl ready j; used = 0; outcome = endSaid tt q }))
 
     -- one is, and leads to v
     module _ (v : Stage) (k : ℕ) (d : moveAt tags takeOn s i ≡ on v k) where
@@ -105,7 +105,7 @@ module _ (o : Opening) (r : Reading) (n : ℕ) (room : List ℕ) (l : List ℤ) 
           ∙ (λ j. behind (add-zero k j) (fedBy (laidAfter X (one v k)) w))
 
       -- the desk after it, by what it is
-      on-desk : (y : Laid) → laidAfter X (one v k) ≡ y → openOne X i ≡ record { laid = y; used = k; outcome = More }
+      on-desk : (y : Laid) → laidAfter X (one v k) ≡ y → openOne X i ≡ record { laid = y; used = k; outcome = wanted }
           → openAll y (drop k i) ≡ fedBy y (upto tags takeOn left v (drop k i)) → Onward X y → View X i
       on-desk y c f g a =
           let (low, high) = move-size tags takeOn s i v k d in
@@ -114,7 +114,7 @@ module _ (o : Opening) (r : Reading) (n : ℕ) (room : List ℕ) (l : List ℤ) 
       -- as the code forms it
       abbrev answered : Bool → Consumed
       answered b = opensTo X (record {
-        answer = record { step = cond b (opening.Started k (runOf v)) (opening.Taken k); opening = openingOf v };
+        answer = record { says = gives (cond b (starts k (runOf v)) (opens k)); opening = openingOf v };
         room = roomAfter s v room;
         memory = v .run .memory;
       })
@@ -165,7 +165,7 @@ module _ (o : Opening) (r : Reading) (n : ℕ) (room : List ℕ) (l : List ℤ) 
             memory = v .run .memory;
           })
           (f ∙ ap answered (eq-eqb (v .place) 4 q))
-          ((λ j. record { laid = record { desk = record { started = true; opening = openingOf v; reading = sym c j; fields = no-more j }; room = roomAfter s v room; memory = v .run .memory }; used = 0; outcome = More })
+          ((λ j. record { laid = record { desk = record { started = true; opening = openingOf v; reading = sym c j; fields = no-more j }; room = roomAfter s v room; memory = v .run .memory }; used = 0; outcome = wanted })
           ∙ ap (λ (z : ℕ). fedBy Z (upto tags takeOn z v (drop k i))) (sym none))
           (record { fields = refl; turn = λ z. absurd (false≢true (sym z)) })
 
@@ -205,7 +205,7 @@ module _ (o : Opening) (r : Reading) (n : ℕ) (room : List ℕ) (l : List ℤ) 
     where
       go : (b : Bool) → eqb (openGround o room) 0 ≡ b → View X i
       go true q = passes (eqb-true _ 0 q)
-      go false q = refuses (eqb-false _ 0 q)
+      go false q = ground-stops (eqb-false _ 0 q)
 
 pub view-of : (x : Laid) → x .desk .started ≡ false → (i : List ℕ) → View x i
 view-of x f i =

@@ -12,6 +12,7 @@ use lib.ListN.{length, take}
 use lib.Seq.{length-take-le}
 use Rattle.rules.specs.Table.{behindTolerances}
 use Rattle.rules.specs.Machine.{End, Ran, ends}
+use Rattle.laws.specs.Answers.{endSaid}
 use Rattle.laws.proofs.Cuts.{joined}
 use Rattle.state.specs.State.{Memory}
 use Rattle.state.specs.Refusals.{started}
@@ -23,7 +24,7 @@ use Rattle.opening.proofs.Starting.{Ready}
 use Rattle.reading.specs.declared.Reading.{Reading}
 use Rattle.reading.specs.Answers.{startedReading, stageAt, readingOf}
 use Rattle.reading.proofs.Taking.{from-start}
-use Rattle.desk.specs.Feeding.{Desk, Laid, lentCycle, stageOn, startedOpening, laidAfter, behind, outcomeOf, fedBy}
+use Rattle.desk.specs.Feeding.{Desk, Laid, lentCycle, stageOn, startedOpening, laidAfter, behind, fedBy}
 
 -- ---- the room: in two steps as in one
 
@@ -143,4 +144,4 @@ laid-joined x u w a b = joined-by (x .desk .opening) (x .desk .reading) (x .desk
 
 -- so is what is taken
 pub fed-joined : (x : Laid) (u w : Ran Stage) → After (stageOn x) (u .state) → After (u .state) (w .state) → behind (u .used) (fedBy (laidAfter x u) w) ≡ fedBy x (joined u w)
-fed-joined x u w a b = λ i. record { laid = laid-joined x u w a b i; used = u .used + w .used; outcome = outcomeOf (w .end) }
+fed-joined x u w a b = λ i. record { laid = laid-joined x u w a b i; used = u .used + w .used; outcome = endSaid tt (w .end) }

@@ -13,20 +13,20 @@ use Rattle.numbers.proofs.Lists.{part-rest}
 use Rattle.opening.specs.declared.Opening.{Opening}
 use Rattle.opening.specs.declared.OpenAnswer.{OpenAnswer}
 use Rattle.opening.specs.declared.OpenStep.{OpenStep}
-use Rattle.opening.specs.Answers.{openLeft, frontOpened}
-use Rattle.desk.specs.Feeding.{Desk, Laid, Fed, fedLeft, More, Consumed, stops, behind, opensAs, opensTo, openOne, openRest, openAll}
+use Rattle.opening.specs.Answers.{openStepSaid, openLeft, frontOpened}
+use Rattle.desk.specs.Feeding.{Desk, wanted, Laid, FedSaid, fedOn, Consumed, stops, behind, opensAs, opensTo, openOne, openRest, openAll}
 use Rattle.desk.proofs.Opens.{Onward, View, stays, goes, view-of}
 
 -- ---- one field
 
 -- by what its answer is known to be
-pub opens-by : (d : Desk) (o : Opening) {s s′ : OpenStep} {r : Fed} → s ≡ s′ → r ≡ opensAs d s′ o → r ≡ opensAs d s o
-opens-by d o e h = h ∙ ap (λ (z : OpenStep). opensAs d z o) (sym e)
+pub opens-by : (d : Desk) (o : Opening) {s s′ : OpenStep} {r : FedSaid} → s ≡ s′ → r ≡ opensAs d (openStepSaid s′) o → r ≡ opensAs d (openStepSaid s) o
+opens-by d o e h = h ∙ ap (λ (z : OpenStep). opensAs d (openStepSaid z) o) (sym e)
 
-pub one-left : (x : Laid) (i : List ℕ) {a : OpenAnswer} {room : List ℕ} {l : List ℤ} {m : List ℕ} {r : Fed}
-    → openLeft a room l m ≡ frontOpened (x .desk .opening) (x .room) (x .memory .ledger) (x .memory .map) i → r ≡ opensAs (x .desk) (a .step) (a .opening)
-    → fedLeft r room l m ≡ openOne x i
-one-left x i {room = room} {l = l} {m = m} e h = (λ j. fedLeft (h j) room l m) ∙ ap (opensTo x) e
+pub one-left : (x : Laid) (i : List ℕ) (a : OpenAnswer) {room : List ℕ} {l : List ℤ} {m : List ℕ} {r : FedSaid}
+    → openLeft a room l m ≡ frontOpened (x .desk .opening) (x .room) (x .memory .ledger) (x .memory .map) i → r ≡ opensAs (x .desk) (openStepSaid (a .step)) (a .opening)
+    → fedOn r room l m ≡ openOne x i
+one-left x i a {room = room} {l = l} {m = m} e h = (λ j. fedOn (h j) room l m) ∙ ap (opensTo x) e
 
 -- ---- the loop
 
@@ -38,17 +38,17 @@ module _ (x : Laid) (input : List ℕ) (u : ℕ) where
   i = drop u input
 
   -- the run has started
-  pub turn-started : x .desk .started ≡ true → record { laid = x; used = u; outcome = More } ≡ behind u (openAll x i)
+  pub turn-started : x .desk .started ≡ true → record { laid = x; used = u; outcome = wanted } ≡ behind u (openAll x i)
   turn-started e =
       let z : u ≡ u + 0 = omega arith in
-      (λ j. record { laid = x; used = z j; outcome = More }) ∙ ap (λ b. behind u (cond b (stops x More) (openRest x i))) (sym e)
+      (λ j. record { laid = x; used = z j; outcome = wanted }) ∙ ap (λ b. behind u (cond b (stops x wanted) (openRest x i))) (sym e)
 
   module _ {y : Consumed} (h : y ≡ openOne x (take (length input - u) (drop u input))) (e : x .desk .started ≡ false) where
     here : y ≡ openOne x i
     here = h ∙ ap (openOne x) (part-rest u input)
 
     opens : openAll x i ≡ openRest x i
-    opens = ap (λ b. cond b (stops x More) (openRest x i)) e
+    opens = ap (λ b. cond b (stops x wanted) (openRest x i)) e
 
     pub turn-size : u ≤ length input → (u + y .used ≤ length input) × (y .laid .desk .fields ≤ x .desk .fields + 1)
     turn-size w = go (view-of x e i)

@@ -12,22 +12,41 @@ use Rattle.rules.specs.Bench.{mostOffered, mostPassed}
 use Rattle.rules.specs.Cycle.{mostBytes}
 use Rattle.rules.specs.Shown.{ledgerNumbers, mapWords}
 use Rattle.rules.specs.Table.{behindTolerances, behindRecharge, tags}
-use Rattle.rules.specs.Machine.{End, waiting, broken, stopped, Ran, upto}
+use Rattle.rules.specs.Machine.{Ran, upto}
+use Rattle.laws.specs.Answers.{Said, gives, refuses, endSaid}
 use Rattle.state.specs.declared.Run.{Run}
 use Rattle.state.specs.State.{Memory, lent}
 use Rattle.state.specs.Refusals.{notBegun}
 use Rattle.records.specs.Stage.{Stage, takeOn, runOn, roomAfter}
 use Rattle.opening.specs.declared.Opening.{Opening}
-use Rattle.opening.specs.declared.OpenStep.{OpenStep}
-use Rattle.opening.specs.declared.OpenStep.the-variants as opening
-use Rattle.opening.specs.Answers.{nothing, noTolerances, stageOf, openingOf, runOf, OpenLeft, openGround, frontOpened}
-use Rattle.reading.specs.declared.Step.{Step}
-use Rattle.reading.specs.declared.Step.the-variants as step
-use Rattle.reading.specs.Answers.{startedReading, stageAt, readingOf, readGround}
+use Rattle.opening.specs.Answers.{Opened, opens, starts, unfinished, nothing, noTolerances, stageOf, openingOf, runOf, OpenLeft, openGround, frontOpened}
+use Rattle.reading.specs.Answers.{FieldRead, startedReading, stageAt, readingOf, readGround}
 pub use Rattle.desk.specs.declared.Desk.{Desk}
-pub use Rattle.desk.specs.declared.Outcome.{Outcome}
-pub use Rattle.desk.specs.declared.Outcome.the-variants.{More, Refused}
-pub use Rattle.desk.specs.declared.Fed.{Fed}
+use Rattle.desk.specs.declared.Outcome.{Outcome}
+use Rattle.desk.specs.declared.Outcome.the-variants.{More, Refused}
+use Rattle.desk.specs.declared.Fed.{Fed}
+
+-- ---- what the answer says
+
+-- all whole fields are taken, and more bytes are wanted
+abbrev pub wanted : Said (Unit {0})
+wanted = gives tt
+
+-- what the cases say
+abbrev pub outcomeSaid : Outcome → Said (Unit {0})
+outcomeSaid More = wanted
+outcomeSaid (Refused n) = refuses n
+
+-- with how many bytes were taken, and the desk that is left
+pub record FedSaid : Type 0 where
+  pub outcome : Said (Unit {0})
+  pub used : ℕ
+  pub desk : Desk
+
+abbrev pub fedSaid : Fed → FedSaid
+fedSaid f = record { outcome = outcomeSaid (f .outcome); used = f .used; desk = f .desk }
+
+-- ---- a desk and its memory
 
 -- a desk on its lent room, ledger and map
 pub record Laid : Type 0 where
@@ -39,14 +58,17 @@ pub record Laid : Type 0 where
 pub record Consumed : Type 0 where
   pub laid : Laid
   pub used : ℕ
-  pub outcome : Outcome
+  pub outcome : Said (Unit {0})
 
 abbrev pub laidOf : Desk → List ℕ → List ℤ → List ℕ → Laid
 laidOf d room l m = record { desk = d; room = room; memory = lent l m }
 
 -- as a call leaves it: its answer, and the room, ledger and map
+abbrev pub fedOn : FedSaid → List ℕ → List ℤ → List ℕ → Consumed
+fedOn f room l m = record { laid = laidOf (f .desk) room l m; used = f .used; outcome = f .outcome }
+
 abbrev pub fedLeft : Fed → List ℕ → List ℤ → List ℕ → Consumed
-fedLeft f room l m = record { laid = laidOf (f .desk) room l m; used = f .used; outcome = f .outcome }
+fedLeft f = fedOn (fedSaid f)
 
 -- memory that is long enough for any record
 pub record Lent : Type 0 where
@@ -103,20 +125,15 @@ laidAfter x y = record {
 -- ---- what is taken
 
 -- nothing
-abbrev pub stops : Laid → Outcome → Consumed
+abbrev pub stops : Laid → Said (Unit {0}) → Consumed
 stops x o = record { laid = x; used = 0; outcome = o }
 
 -- n bytes more, before those of y
 abbrev pub behind : ℕ → Consumed → Consumed
 behind n y = record { laid = y .laid; used = n + y .used; outcome = y .outcome }
 
-abbrev pub outcomeOf : End → Outcome
-outcomeOf waiting = More
-outcomeOf broken = Refused 8
-outcomeOf (stopped n) = Refused n
-
 abbrev pub fedBy : Laid → Ran Stage → Consumed
-fedBy x y = record { laid = laidAfter x y; used = y .used; outcome = outcomeOf (y .end) }
+fedBy x y = record { laid = laidAfter x y; used = y .used; outcome = endSaid tt (y .end) }
 
 -- ---- before all else
 
@@ -141,7 +158,7 @@ pub record Steady (x : Laid) : Type 0 where
 
 -- the input is worked through field by field
 unfoldable pub feedOf : Laid → List ℕ → Consumed
-feedOf x i = let n = deskGround x in settled n (fedBy x (runOn (stageOn x) i)) (stops x (Refused n))
+feedOf x i = let n = deskGround x in settled n (fedBy x (runOn (stageOn x) i)) (stops x (refuses n))
 
 -- how many bytes the longest field has: tag, length and the longest cycle
 abbrev pub longest : ℕ
@@ -150,23 +167,23 @@ longest = 3 + mostBytes
 -- ---- in parts
 
 -- the answer s to a field until the start, which left the opening o
-abbrev pub opensAs : Desk → OpenStep → Opening → Fed
-opensAs d (opening.Taken n) o = record {
-  outcome = More;
+abbrev pub opensAs : Desk → Said Opened → Opening → FedSaid
+opensAs d (gives (opens n)) o = record {
+  outcome = wanted;
   used = n;
   desk = record { started = false; opening = o; reading = d .reading; fields = d .fields + 1 };
 }
-opensAs d (opening.Started n r) o = record {
-  outcome = More;
+opensAs d (gives (starts n r)) o = record {
+  outcome = wanted;
   used = n;
   desk = record { started = true; opening = o; reading = startedReading (o .vehicle) r; fields = d .fields + 1 };
 }
-opensAs d opening.Incomplete o = record { outcome = More; used = 0; desk = d }
-opensAs d (opening.Refused k) o = record { outcome = Refused k; used = 0; desk = d }
+opensAs d (gives unfinished) o = record { outcome = wanted; used = 0; desk = d }
+opensAs d (refuses k) o = record { outcome = refuses k; used = 0; desk = d }
 
 abbrev pub opensTo : Laid → OpenLeft → Consumed
 opensTo x y =
-    let z = opensAs (x .desk) (y .answer .step) (y .answer .opening) in
+    let z = opensAs (x .desk) (y .answer .says) (y .answer .opening) in
     record { laid = record { desk = z .desk; room = y .room; memory = y .memory }; used = z .used; outcome = z .outcome }
 
 -- the field at the front of the input, until the start
@@ -177,14 +194,12 @@ openOne x i = opensTo x (frontOpened (x .desk .opening) (x .room) (x .memory .le
 abbrev pub openRest : Laid → List ℕ → Consumed
 openRest x i =
     let n = openGround (x .desk .opening) (x .room) in
-    settled n (fedBy x (upto tags takeOn (behindTolerances - x .desk .opening .fields) (stageOn x) i)) (stops x (Refused n))
+    settled n (fedBy x (upto tags takeOn (behindTolerances - x .desk .opening .fields) (stageOn x) i)) (stops x (refuses n))
 
 abbrev pub openAll : Laid → List ℕ → Consumed
-openAll x i = cond (x .desk .started) (stops x More) (openRest x i)
+openAll x i = cond (x .desk .started) (stops x wanted) (openRest x i)
 
 -- what the answer after the last accepted field says of the bytes
-abbrev pub outcomeBy : Step → Outcome
-outcomeBy (step.Taken n) = More
-outcomeBy (step.Passed n) = More
-outcomeBy step.Incomplete = More
-outcomeBy (step.Refused k) = Refused k
+abbrev pub outcomeBy : Said FieldRead → Said (Unit {0})
+outcomeBy (gives x) = wanted
+outcomeBy (refuses k) = refuses k

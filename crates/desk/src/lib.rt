@@ -22,7 +22,9 @@ ghost use mathlib.Core.Path.{_≡_};
 ghost use Prim.Native.Nat.{_+_, _≤_};
 ghost use mathlib.Core.Bool.{true};
 ghost use Rattle.records.specs.Stage.{runOn};
-ghost use Rattle.desk.specs.Feeding.{emptyDesk, laidOf, fedLeft, stageOn, fedBy, outcomeBy, opensAs, openOne, openAll, feedOf};
+ghost use Rattle.opening.specs.Answers.{openStepSaid};
+ghost use Rattle.reading.specs.Answers.{stepSaid};
+ghost use Rattle.desk.specs.Feeding.{outcomeSaid, fedSaid, emptyDesk, laidOf, fedLeft, stageOn, fedBy, outcomeBy, opensAs, openOne, openAll, feedOf};
 ghost use Rattle.desk.specs.Feeding.{mostFields, startedGround, deskGround, Steady};
 
 // A record as far as it was read: until the start the opening, after it the reading; and how many fields were accepted.
@@ -85,7 +87,7 @@ pub fn empty() -> Desk
 
 // Nothing was taken.
 fn stopped(desk: Desk, outcome: Outcome) -> Fed
-    ensures { λ r. ⌜ r ≡ record { outcome = outcome; used = 0; desk = desk } ⌝ }
+    ensures { λ r. ⌜ fedSaid r ≡ record { outcome = outcomeSaid outcome; used = 0; desk = desk } ⌝ }
 {
     Fed {
         outcome,
@@ -97,7 +99,7 @@ fn stopped(desk: Desk, outcome: Outcome) -> Fed
 // The answer to a field until the start.
 fn opened(desk: Desk, answer: OpenAnswer) -> Fed
     requires { ⌜ desk .fields ≤ mostFields + 4 ⌝ }
-    ensures { λ r. ⌜ r ≡ opensAs desk (answer .step) (answer .opening) ⌝ }
+    ensures { λ r. ⌜ fedSaid r ≡ opensAs desk (openStepSaid (answer .step)) (answer .opening) ⌝ }
 {
     let step = answer.step;
     let opening = answer.opening;
@@ -183,7 +185,7 @@ fn open_all(desk: Desk, input: &[u8], room: &mut [u8], ledger: &mut [i64], map: 
 
 // What the answer after the last accepted field says of the bytes.
 fn outcome_of(step: Step) -> Outcome
-    ensures { λ r. ⌜ r ≡ outcomeBy step ⌝ }
+    ensures { λ r. ⌜ outcomeSaid r ≡ outcomeBy (stepSaid step) ⌝ }
 {
     match step {
         Step::Taken(_) => Outcome::More,

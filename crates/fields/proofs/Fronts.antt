@@ -11,9 +11,12 @@ use lib.ListN.{length, getD, take, drop}
 use Rattle.rules.specs.Words.{allBelow}
 use Rattle.rules.specs.Table.{begins, byRow, lengthAllowed, tags, RUN1}
 use Rattle.rules.specs.Front.{Field, Front as Stands, incomplete, impossible, field, frontOf}
+use Rattle.laws.proofs.Answers.{known-by}
 use Rattle.laws.proofs.Fronts.{front-whole, front-allowed}
+use Rattle.laws.specs.Answers.{Said, gives, refuses}
+use Rattle.fields.specs.declared.Front.{Front}
 use Rattle.fields.specs.declared.Front.the-variants as front
-use Rattle.fields.specs.Fields.{frontSaid, hasRow}
+use Rattle.fields.specs.Fields.{AtFront, whole, unfinished, frontSaid, standsSaid, hasRow}
 
 -- ---- the value
 
@@ -37,10 +40,11 @@ pub record Whole (i : List ℕ) (tag n : ℕ) : Type 0 where
   pub size : length (fieldOf i tag n .value) ≡ n
   pub long : 3 + n ≤ length i
 
-pub said-whole : (i : List ℕ) (tag n : ℕ) → frontSaid (frontOf tags i) ≡ front.Field tag n → Whole i tag n
-said-whole i tag n = go (frontOf tags i) refl
+-- r is the answer to the input
+pub said-whole : (i : List ℕ) (tag n : ℕ) {r : Front} → frontSaid r ≡ standsSaid (frontOf tags i) → r ≡ front.Field tag n → Whole i tag n
+said-whole i tag n {r} p q = go (frontOf tags i) refl (sym p ∙ ap frontSaid q)
   where
-    go : (x : Stands) → frontOf tags i ≡ x → frontSaid x ≡ front.Field tag n → Whole i tag n
+    go : (x : Stands) → frontOf tags i ≡ x → standsSaid x ≡ gives (whole tag n) → Whole i tag n
     go incomplete e h = absurd (false≢true cc)
     go impossible e h = absurd (false≢true cc)
     go (field f) e h =
@@ -58,21 +62,35 @@ said-whole i tag n = go (frontOf tags i) refl
         }
 
 -- by what else is said
-pub said-incomplete : (i : List ℕ) → frontSaid (frontOf tags i) ≡ front.Incomplete → frontOf tags i ≡ incomplete
-said-incomplete i = go (frontOf tags i)
+pub said-incomplete : (i : List ℕ) {r : Front} → frontSaid r ≡ standsSaid (frontOf tags i) → r ≡ front.Incomplete → frontOf tags i ≡ incomplete
+said-incomplete i p q = go (frontOf tags i) (sym p ∙ ap frontSaid q)
   where
-    go : (x : Stands) → frontSaid x ≡ front.Incomplete → x ≡ incomplete
+    go : (x : Stands) → standsSaid x ≡ gives unfinished → x ≡ incomplete
     go incomplete h = refl
     go impossible h = absurd (false≢true cc)
     go (field f) h = absurd (false≢true cc)
 
-pub said-impossible : (i : List ℕ) → frontSaid (frontOf tags i) ≡ front.Impossible → frontOf tags i ≡ impossible
-said-impossible i = go (frontOf tags i)
+pub said-impossible : (i : List ℕ) {r : Front} → frontSaid r ≡ standsSaid (frontOf tags i) → r ≡ front.Impossible → frontOf tags i ≡ impossible
+said-impossible i p q = go (frontOf tags i) (sym p ∙ ap frontSaid q)
   where
-    go : (x : Stands) → frontSaid x ≡ front.Impossible → x ≡ impossible
+    go : (x : Stands) → standsSaid x ≡ refuses 8 → x ≡ impossible
     go incomplete h = absurd (false≢true cc)
     go impossible h = refl
     go (field f) h = absurd (false≢true cc)
+
+-- answers that say the same are the same
+pub same-front : (x y : Front) → frontSaid x ≡ frontSaid y → x ≡ y
+same-front = known-by frontSaid back known
+  where
+    back : Said AtFront → Front
+    back (gives (whole tag n)) = front.Field tag n
+    back (gives unfinished) = front.Incomplete
+    back (refuses n) = front.Impossible
+
+    known : (x : Front) → back (frontSaid x) ≡ x
+    known (front.Field tag n) = refl
+    known front.Incomplete = refl
+    known front.Impossible = refl
 
 -- ---- the row of a field, by its tag
 

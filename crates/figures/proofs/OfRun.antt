@@ -20,6 +20,7 @@ use Rattle.laws.proofs.NineNumbers.{outside-figure}
 use Rattle.ledger.specs.Row.{outsideIn, outsideAll}
 use Rattle.state.specs.declared.Run.{Run}
 use Rattle.judge.proofs.Runs.{Reached, run-shows, never-refused}
+use Rattle.figures.proofs.Answered.{weighted-is, range-is, ac-is}
 use Rattle.closing.proofs.Joined.{weighted-of-run, range-of-run, recharge-of-run}
 use Rattle.rules.specs.Values.{isNumber}
 use Rattle.reading.specs.declared.Reading.{Reading}
@@ -57,6 +58,7 @@ module _ (p : Plan) (l₀ : List ℤ) (m₀ : List ℕ) (r : Reading) {xs : List
       let shown = run-shows p l₀ m₀ h in
       let a = r .amounts in
       let limits = amounts-in-limits r ok in
+      let f = figuresBy (r .vehicle) (r .passed) a p xs in
       λ i. record {
         refusal = reading-not-refused i;
         figures =
@@ -68,8 +70,8 @@ module _ (p : Plan) (l₀ : List ℤ) (m₀ : List ℕ) (r : Reading) {xs : List
               outside = outsides-add-up p l₀ m₀ h j;
               passed = r .passed;
               drawn = shown .energies-add-up j;
-              weighted = weighted-of-run p l₀ m₀ h a limits j;
-              range = range-of-run p l₀ m₀ h a limits j;
-              ac = recharge-of-run p l₀ m₀ h a limits j;
+              weighted = sym (weighted-is (r .run) a (p .cycle) l m (f .weighted) (sym (weighted-of-run p l₀ m₀ h a limits))) j;
+              range = sym (range-is (r .run) a (p .cycle) l m (f .range) (sym (range-of-run p l₀ m₀ h a limits))) j;
+              ac = sym (ac-is (r .run) a (p .cycle) l m (f .ac) (sym (recharge-of-run p l₀ m₀ h a limits))) j;
             })) i;
       }

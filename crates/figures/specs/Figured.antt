@@ -12,8 +12,11 @@ use Rattle.rules.specs.Parts.{cycles}
 use Rattle.state.specs.declared.Run.{Run}
 use Rattle.judge.specs.declared.Sums.{Sums}
 use Rattle.judge.specs.Answers.{sumsOf}
-use Rattle.rules.specs.declared.Figure.the-variants.{Absent}
-use Rattle.closing.specs.Answers.{weightedAnswer, rangeAnswer, rechargeAnswer}
+use Rattle.rules.specs.declared.Figure.the-variants.{Is, Absent}
+use Rattle.rules.specs.Closing.{figureOr, chargedBy}
+use Rattle.ledger.specs.Row.{energyIn, distanceIn}
+use Rattle.state.specs.Refusals.{cyclesBy}
+use Rattle.closing.specs.Answers.{whole, closingBy, refusalOf}
 use Rattle.reading.specs.declared.Reading.{Reading}
 use Rattle.reading.specs.Answers.{readGround}
 use Rattle.rules.specs.declared.Figures.{Figures}
@@ -47,9 +50,9 @@ withSums vehicle passed a r b l m sums = record {
   outside = sums .outside;
   passed = passed;
   drawn = sums .drawn;
-  weighted = weightedAnswer r a b l m;
-  range = rangeAnswer r a b l m;
-  ac = rechargeAnswer r a b l m;
+  weighted = figureOr (refusalOf r a b l m) (Is (closingBy r a b l m .weighted));
+  range = figureOr (refusalOf r a b l m) (Is (closingBy r a b l m .range));
+  ac = figureOr (refusalOf r a b l m) (chargedBy (whole r a b l m) (cyclesBy r) (energyIn l) (distanceIn l) (a .after) (a .charge));
 }
 
 -- "In a started run 1 and 2 come before all others": vehicle, place, passed-over count and amounts are numbers of the state

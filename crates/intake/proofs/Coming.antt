@@ -14,15 +14,14 @@ use lib.IntN.{ℤ}
 use lib.ListN.{length, take, drop, length-append, length-drop}
 use lib.Seq.{paste, take-add, take-paste, length-take-le, drop-at}
 use Rattle.rules.specs.Words.{unless}
+use Rattle.laws.specs.Answers.{Said, gives, refuses}
 use Rattle.sheet.specs.Overlaid.{overlaid, mostSheet}
 use Rattle.edges.specs.declared.Got.{Got}
 use Rattle.edges.specs.declared.Got.the-variants as got
 use Rattle.edges.specs.Answers.{Within}
 use Rattle.edges.proofs.Got.{the-type as got-type}
 use Rattle.desk.specs.declared.Desk.{Desk}
-use Rattle.desk.specs.declared.Outcome.{Outcome}
-use Rattle.desk.specs.declared.Outcome.the-variants.{More, Refused as refused}
-use Rattle.desk.specs.Feeding.{Laid, Consumed, laidOf, emptyDesk, feedOf, longest}
+use Rattle.desk.specs.Feeding.{wanted, Laid, Consumed, laidOf, emptyDesk, feedOf, longest}
 use Rattle.prints.specs.Printed.{Prints, refuseText, closeText}
 use Rattle.prints.proofs.Texts.{as-text}
 use Rattle.intake.specs.declared.Intake.{Intake}
@@ -34,9 +33,9 @@ use Rattle.intake.specs.Turns.{turnedBy, heldBy, bufferBy, isOn, isFaile
 use Rattle.desk.proofs.LeftOver.{feed-used, feed-short}
 
 -- a turn that fed the desk says what the desk did
-outcome-of : (o : Outcome) → o ≡ outcomeBy (turnedBy o)
-outcome-of More = refl
-outcome-of (refused k) = refl
+outcome-of : (o : Said (Unit {0})) → o ≡ outcomeBy (turnedBy o)
+outcome-of (gives _) = refl
+outcome-of (refuses k) = refl
 
 -- the bytes before place k, from place u on
 between-places : (u k : ℕ) (b : List ℕ) → u ≤ k → k ≤ length b → drop u (take k b) ≡ take (k - u) (drop u b)
@@ -78,9 +77,9 @@ goes-by (got.Bytes n) x held left b short h space rest =
       falls = λ _. omega (arith, rest);
     }
   where
-    held-by : (o : Outcome) → (o ≡ More → held + n < feedOf x (take (held + n) b) .used + longest) → heldBy o (feedOf x (take (held + n) b) .used) (held + n) < longest
-    held-by More e = let f = e refl in omega arith
-    held-by (refused k) e = omega arith
+    held-by : (o : Said (Unit {0})) → (o ≡ wanted → held + n < feedOf x (take (held + n) b) .used + longest) → heldBy o (feedOf x (take (held + n) b) .used) (held + n) < longest
+    held-by (gives _) e = let f = e refl in omega arith
+    held-by (refuses k) e = omega arith
 goes-by got.End x held left b short h space rest = record { held = short; falls = λ e. absurd (false≢true e) }
 goes-by got.Again x held left b short h space rest = record { held = short; falls = λ e. absurd (false≢true e) }
 goes-by got.Failed x held left b short h space rest = record { held = short; falls = λ e. absurd (false≢true e) }
@@ -91,7 +90,7 @@ pub nothing-yet : (most : ℕ) (desk : Desk) (b room : List ℕ) (l : List ℤ) 
 nothing-yet most desk b room l m e = record {
   bytes = [];
   rest = [];
-  came = subst⁻¹ (λ (d : Desk). Came (laidOf emptyDesk room l m) [] (laidOf d room l m) [] More) e none;
+  came = subst⁻¹ (λ (d : Desk). Came (laidOf emptyDesk room l m) [] (laidOf d room l m) [] wanted) e none;
   held = λ _. (refl, refl);
   all = zero-add most;
 }
@@ -113,7 +112,7 @@ module _ (x₀ : Laid) (most : ℕ) (desk : Desk) (held left : ℕ) (b₀ room :
   rest-is = s .held refl .0 ∙ sym same
 
   -- nothing came
-  pub nothing-came : (t : Turned) → outcomeBy t ≡ More → Stood x₀ most (roundOf (record { turned = t; desk = desk; held = held; left = left }) b room l m)
+  pub nothing-came : (t : Turned) → outcomeBy t ≡ wanted → Stood x₀ most (roundOf (record { turned = t; desk = desk; held = held; left = left }) b room l m)
   nothing-came t e = record {
     bytes = s .bytes;
     rest = s .rest;
@@ -141,10 +140,10 @@ module _ (x₀ : Laid) (most : ℕ) (desk : Desk) (held left : ℕ) (b₀ room :
     used-within : fed .used ≤ held + n
     used-within = omega (arith, feed-used (laidOf desk room l m) (take (held + n) b), length-take-le (held + n) b fits)
 
-    front-held : (o : Outcome) (u : ℕ) → u ≤ held + n → outcomeBy (turnedBy o) ≡ More
+    front-held : (o : Said (Unit {0})) (u : ℕ) → u ≤ held + n → outcomeBy (turnedBy o) ≡ wanted
         → (drop u (take (held + n) b) ≡ take (heldBy o u (held + n)) (bufferBy o u (held + n) b)) × (length (drop u (take (held + n) b)) ≡ heldBy o u (held + n))
-    front-held More u h e = (to-the-front u (held + n) b h fits, omega (arith, length-drop u (take (held + n) b), length-take-le (held + n) b fits))
-    front-held (refused k) u h e = absurd (false≢true cc)
+    front-held (gives _) u h e = (to-the-front u (held + n) b h fits, omega (arith, length-drop u (take (held + n) b), length-take-le (held + n) b fits))
+    front-held (refuses k) u h e = absurd (false≢true cc)
 
     digested : Stood x₀ most (roundAfter fed (held + n) (left - n) b)
     digested = record {
@@ -176,7 +175,7 @@ module _ (x₀ : Laid) (most : ℕ) (out : List ℕ) (t : Turn) (b room : List �
   x = laidOf (t .desk) room l m
 
   -- what is printed with the bytes held is what is printed with the rest: of a refusal neither has a part
-  same-text : (z : Turned) → (outcomeBy z ≡ More → length (s .rest) ≡ t .held) → textOf (outcomeBy z) x (t .held) ≡ textOf (outcomeBy z) x (length (s .rest))
+  same-text : (z : Turned) → (outcomeBy z ≡ wanted → length (s .rest) ≡ t .held) → textOf (outcomeBy z) x (t .held) ≡ textOf (outcomeBy z) x (length (s .rest))
   same-text On h = ap (closeText x) (sym (h refl))
   same-text Ended h = ap (closeText x) (sym (h refl))
   same-text Failed h = ap (closeText x) (sym (h refl))
@@ -215,7 +214,7 @@ printed-of t x out e p = (
 )
 
 -- no field was refused
-pub not-refused : (z : Turned) → OneOf (0 ∷ 1 ∷ 2 ∷ []) (tagOf turned z) → outcomeBy z ≡ More
+pub not-refused : (z : Turned) → OneOf (0 ∷ 1 ∷ 2 ∷ []) (tagOf turned z) → outcomeBy z ≡ wanted
 not-refused On h = refl
 not-refused Ended h = refl
 not-refused Failed h = refl

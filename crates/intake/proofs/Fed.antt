@@ -8,9 +8,8 @@ use native.Mathlib.Numerals.{add-one}
 use native.Mathlib.Omega.{arith}
 use lib.ListN.{length, getD, set, drop}
 use lib.Seq.{paste, paste-suc, drop-paste, getD-drop}
-use Rattle.desk.specs.declared.Outcome.{Outcome}
-use Rattle.desk.specs.declared.Outcome.the-variants.{More}
-use Rattle.desk.specs.Feeding.{Consumed}
+use Rattle.laws.specs.Answers.{Said}
+use Rattle.desk.specs.Feeding.{wanted, Consumed}
 use Rattle.intake.specs.declared.Turned.the-variants.{On}
 use Rattle.intake.specs.Turns.{roundAfter}
 
@@ -37,15 +36,15 @@ moved-more d from k h g =
 -- ---- the desk took what y says, which is z
 module _ {y z : Consumed} (e : y ≡ z) (upto left : ℕ) (buffer : List ℕ) where
   -- by what became of it: with a refusal nothing is held, and nothing moves
-  pub fed-turn : (o : Outcome) → y .outcome ≡ o → roundAfter (record { laid = y .laid; used = y .used; outcome = o }) upto left buffer ≡ roundAfter z upto left buffer
+  pub fed-turn : (o : Said (Unit {0})) → y .outcome ≡ o → roundAfter (record { laid = y .laid; used = y .used; outcome = o }) upto left buffer ≡ roundAfter z upto left buffer
   fed-turn o p =
-      ap (λ (o : Outcome). roundAfter (record { laid = y .laid; used = y .used; outcome = o }) upto left buffer) (sym p)
+      ap (λ (o : Said (Unit {0})). roundAfter (record { laid = y .laid; used = y .used; outcome = o }) upto left buffer) (sym p)
       ∙ ap (λ (x : Consumed). roundAfter x upto left buffer) e
 
   -- else the rest is held, at the front
-  pub more-turn : {h : ℕ} {b : List ℕ} → y .outcome ≡ More → h ≡ upto - y .used → b ≡ paste buffer 0 (drop (y .used) buffer) (upto - y .used)
+  pub more-turn : {h : ℕ} {b : List ℕ} → y .outcome ≡ wanted → h ≡ upto - y .used → b ≡ paste buffer 0 (drop (y .used) buffer) (upto - y .used)
       → record { turn = record { turned = On; desk = y .laid .desk; held = h; left = left }; buffer = b; room = y .laid .room; memory = y .laid .memory }
       ≡ roundAfter z upto left buffer
   more-turn p q r =
       (λ i. record { turn = record { turned = On; desk = y .laid .desk; held = q i; left = left }; buffer = r i; room = y .laid .room; memory = y .laid .memory })
-      ∙ fed-turn More p
+      ∙ fed-turn wanted p

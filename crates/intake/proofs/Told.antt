@@ -12,8 +12,7 @@ use Rattle.rules.specs.Record.{refusedAt, sheetOf}
 use Rattle.desk.specs.Feeding.{Lent, Laid, Consumed, laidOf, emptyDesk, feedOf}
 use Rattle.desk.proofs.Arriving.{Arrived, arrived-none, arrived-more}
 use Rattle.sheet.specs.Overlaid.{overlaid, mostSheet}
-use Rattle.desk.specs.declared.Outcome.{Outcome}
-use Rattle.desk.specs.declared.Outcome.the-variants.{More, Refused}
+use Rattle.laws.specs.Answers.{Said, gives, refuses}
 use Rattle.rules.specs.Text.{printed}
 use Rattle.prints.proofs.Texts.{text-is}
 use Rattle.prints.proofs.Printing.{report-prints, refusal-prints}
@@ -26,7 +25,7 @@ module _ (lent : Lent) where
   abbrev pub start : Laid
   start = laidOf emptyDesk (lent .room₀) (lent .l₀) (lent .m₀)
 
-  came-prints : {w rest : List ℕ} {x : Laid} {o : Outcome} → Came start w x rest o → textOf o x (length rest) ≡ printed (sheetOf w)
+  came-prints : {w rest : List ℕ} {x : Laid} {o : Said (Unit {0})} → Came start w x rest o → textOf o x (length rest) ≡ printed (sheetOf w)
   came-prints none = report-prints lent (arrived-none (lent .room₀) (lent .l₀) (lent .m₀) (lent .long-room))
   came-prints (part {w = w} {rest = rest} {x = x} h new) = go (y .outcome) refl
     where
@@ -36,9 +35,9 @@ module _ (lent : Lent) where
       y : Consumed
       y = feedOf x (rest ++ new)
 
-      go : (o : Outcome) → y .outcome ≡ o → textOf o (y .laid) (length (drop (y .used) (rest ++ new))) ≡ printed (sheetOf (w ++ new))
-      go More e = report-prints lent (arrived-more (lent .room₀) (lent .l₀) (lent .m₀) (lent .long-room) arrived new e)
-      go (Refused k) e = refusal-prints lent arrived new k e [] ∙ ap (λ (q : List ℕ). printed (sheetOf q)) (append-nil (w ++ new))
+      go : (o : Said (Unit {0})) → y .outcome ≡ o → textOf o (y .laid) (length (drop (y .used) (rest ++ new))) ≡ printed (sheetOf (w ++ new))
+      go (gives _) e = report-prints lent (arrived-more (lent .room₀) (lent .l₀) (lent .m₀) (lent .long-room) arrived new e)
+      go (refuses k) e = refusal-prints lent arrived new k e [] ∙ ap (λ (q : List ℕ). printed (sheetOf q)) (append-nil (w ++ new))
 
   -- "Every figure equals the rules of document 01", to the bytes that are written: the lines are what the rules give for the bytes that came
   pub take-record-prints : {most : ℕ} {out room after : List ℕ} {l : List ℤ} {m : List ℕ} {r : Intake} (c : Recorded start most out r room l m after)

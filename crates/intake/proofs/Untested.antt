@@ -11,23 +11,22 @@ use lib.IntN.{ℤ}
 use lib.ListN.{length}
 use Rattle.numbers.proofs.Tests.{stop}
 use Rattle.rules.specs.Cycle.{mostBytes}
+use Rattle.laws.specs.Answers.{Said, refuses}
 use Rattle.opening.specs.Answers.{openGround}
 use Rattle.desk.specs.declared.Desk.{Desk}
-use Rattle.desk.specs.declared.Outcome.{Outcome}
-use Rattle.desk.specs.declared.Outcome.the-variants.{More, Refused}
-use Rattle.desk.specs.Feeding.{Laid, Consumed, laidOf, emptyDesk, feedOf, deskGround, Steady}
+use Rattle.desk.specs.Feeding.{wanted, Laid, Consumed, laidOf, emptyDesk, feedOf, deskGround, Steady}
 use Rattle.desk.proofs.Grounds.{of-opening, ground-steady, feed-refuses}
 use Rattle.desk.proofs.Arriving.{begin, Arrived, arrived-none, arrived-more, arrived-ground}
 use Rattle.intake.specs.Turns.{Came, none, part, roundOf, onwards, Stood}
 
 -- on a room that is long enough, the bytes that came have arrived at the desk
 module _ (room : List ℕ) (l : List ℤ) (m : List ℕ) (long : mostBytes ≤ length room) where
-  pub came-arrived : {w rest : List ℕ} {x : Laid} {o : Outcome} → Came (begin room l m long) w x rest o → o ≡ More → Arrived room l m long w x rest
+  pub came-arrived : {w rest : List ℕ} {x : Laid} {o : Said (Unit {0})} → Came (begin room l m long) w x rest o → o ≡ wanted → Arrived room l m long w x rest
   came-arrived none e = arrived-none room l m long
   came-arrived (part h new) e = arrived-more room l m long (came-arrived h refl) new e
 
 -- on a shorter one each call is refused
-came-nothing : (room : List ℕ) (l : List ℤ) (m : List ℕ) → length room < mostBytes → {w rest : List ℕ} {x : Laid} {o : Outcome} → Came (laidOf emptyDesk room l m) w x rest o → o ≡ More
+came-nothing : (room : List ℕ) (l : List ℤ) (m : List ℕ) → length room < mostBytes → {w rest : List ℕ} {x : Laid} {o : Said (Unit {0})} → Came (laidOf emptyDesk room l m) w x rest o → o ≡ wanted
     → x ≡ laidOf emptyDesk room l m
 unfolding openGround
 came-nothing room l m h none e = refl
@@ -38,11 +37,11 @@ came-nothing room l m h (part {rest = rest} {x = x} c new) e =
     let fed = ap (λ (y : Laid). feedOf y (rest ++ new)) same ∙ feed-refuses x₀ (rest ++ new) (λ z. omega arith) in
     absurd (more-not-refused (deskGround x₀) (sym e ∙ ap (λ (y : Consumed). y .outcome) fed))
   where
-    more-not-refused : (k : ℕ) → More ≡ Refused k → ⊥
+    more-not-refused : (k : ℕ) → wanted ≡ refuses k → ⊥
     more-not-refused k e = false≢true cc
 
 -- on any
-came-steady : (room : List ℕ) (l : List ℤ) (m : List ℕ) {w rest : List ℕ} {x : Laid} → Came (laidOf emptyDesk room l m) w x rest More → Steady x
+came-steady : (room : List ℕ) (l : List ℤ) (m : List ℕ) {w rest : List ℕ} {x : Laid} → Came (laidOf emptyDesk room l m) w x rest wanted → Steady x
 came-steady room l m {x = x} c = go (leb mostBytes (length room)) refl
   where
     go : (p : Bool) → leb mostBytes (length room) ≡ p → Steady x

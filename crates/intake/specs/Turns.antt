@@ -10,16 +10,14 @@ use lib.IntN.{ℤ}
 use lib.ListN.{length, take, drop}
 use lib.Seq.{paste}
 use Rattle.rules.specs.Words.{unless}
+use Rattle.laws.specs.Answers.{Said, gives, refuses}
 use Rattle.state.specs.State.{Memory, lent}
 use Rattle.sheet.specs.Overlaid.{overlaid, mostSheet}
 use Rattle.prints.specs.Printed.{refuseText, closeText}
 use Rattle.edges.specs.declared.Got.{Got}
 use Rattle.edges.specs.declared.Got.the-variants as got
 use Rattle.desk.specs.declared.Desk.{Desk}
-use Rattle.desk.specs.declared.Outcome.{Outcome}
-use Rattle.desk.specs.declared.Outcome.the-variants.{More}
-use Rattle.desk.specs.declared.Outcome.the-variants as outcome
-use Rattle.desk.specs.Feeding.{Laid, Consumed, laidOf, feedOf, longest}
+use Rattle.desk.specs.Feeding.{wanted, Laid, Consumed, laidOf, feedOf, longest}
 use Rattle.intake.specs.declared.Intake.{Intake}
 use Rattle.intake.specs.declared.Turn.{Turn}
 use Rattle.intake.specs.declared.Turned.{Turned}
@@ -54,17 +52,17 @@ pub record Goes (n : ℕ) (t : Turn) : Type 0 where
 -- ---- the bytes of a record, as they come
 
 -- the bytes w came in parts, each behind what was left over of those before it: the desk x has taken all but the rest, and what became of the last part
-pub data Came (x₀ : Laid) : List ℕ → Laid → List ℕ → Outcome → Type 0 where
-  none : Came x₀ [] x₀ [] More
-  part : {w rest : List ℕ} {x : Laid} → Came x₀ w x rest More → (new : List ℕ)
+pub data Came (x₀ : Laid) : List ℕ → Laid → List ℕ → Said (Unit {0}) → Type 0 where
+  none : Came x₀ [] x₀ [] wanted
+  part : {w rest : List ℕ} {x : Laid} → Came x₀ w x rest wanted → (new : List ℕ)
       → Came x₀ (w ++ new) (feedOf x (rest ++ new) .laid) (drop (feedOf x (rest ++ new) .used) (rest ++ new)) (feedOf x (rest ++ new) .outcome)
 
 -- what a turn says of the bytes: no field was refused, or one was
-abbrev pub outcomeBy : Turned → Outcome
-outcomeBy On = More
-outcomeBy Ended = More
-outcomeBy Failed = More
-outcomeBy (Refused k) = outcome.Refused k
+abbrev pub outcomeBy : Turned → Said (Unit {0})
+outcomeBy On = wanted
+outcomeBy Ended = wanted
+outcomeBy Failed = wanted
+outcomeBy (Refused k) = refuses k
 
 -- a turn with its buffer and memory
 pub record Round : Type 0 where
@@ -82,17 +80,17 @@ laidAt p = record { desk = p .turn .desk; room = p .room; memory = p .memory }
 
 -- a turn in which the desk took what y says of the first upto bytes of the buffer: what became of it, how many bytes are held, and the buffer: what the
 -- desk did not take, an unfinished field, moves to the front
-abbrev pub turnedBy : Outcome → Turned
-turnedBy More = On
-turnedBy (outcome.Refused k) = Refused k
+abbrev pub turnedBy : Said (Unit {0}) → Turned
+turnedBy (gives _) = On
+turnedBy (refuses k) = Refused k
 
-abbrev pub heldBy : Outcome → ℕ → ℕ → ℕ
-heldBy More used upto = upto - used
-heldBy (outcome.Refused k) used upto = 0
+abbrev pub heldBy : Said (Unit {0}) → ℕ → ℕ → ℕ
+heldBy (gives _) used upto = upto - used
+heldBy (refuses k) used upto = 0
 
-abbrev pub bufferBy : Outcome → ℕ → ℕ → List ℕ → List ℕ
-bufferBy More used upto buffer = paste buffer 0 (drop used buffer) (upto - used)
-bufferBy (outcome.Refused k) used upto buffer = buffer
+abbrev pub bufferBy : Said (Unit {0}) → ℕ → ℕ → List ℕ → List ℕ
+bufferBy (gives _) used upto buffer = paste buffer 0 (drop used buffer) (upto - used)
+bufferBy (refuses k) used upto buffer = buffer
 
 abbrev pub roundAfter : Consumed → ℕ → ℕ → List ℕ → Round
 roundAfter y upto left buffer = record {
@@ -127,7 +125,7 @@ pub record Stood (x₀ : Laid) (most : ℕ) (p : Round) : Type 0 where
   pub bytes : List ℕ
   pub rest : List ℕ
   pub came : Came x₀ bytes (laidAt p) rest (outcomeBy (p .turn .turned))
-  pub held : outcomeBy (p .turn .turned) ≡ More → (rest ≡ take (p .turn .held) (p .buffer)) × (length rest ≡ p .turn .held)
+  pub held : outcomeBy (p .turn .turned) ≡ wanted → (rest ≡ take (p .turn .held) (p .buffer)) × (length rest ≡ p .turn .held)
   pub all : length bytes + p .turn .left ≡ most
 
 -- a turn leads from round to round: whatever record stood here stands there
@@ -137,9 +135,9 @@ Leads p q = (x₀ : Laid) (most : ℕ) → Stood x₀ most p → Stood x₀ most
 -- ---- a whole record
 
 -- what is printed of the desk x, with so many bytes left over: the line of a refused field, or what stands where the input ends
-abbrev pub textOf : Outcome → Laid → ℕ → List ℕ
-textOf More x left = closeText x left
-textOf (outcome.Refused k) x left = refuseText x k
+abbrev pub textOf : Said (Unit {0}) → Laid → ℕ → List ℕ
+textOf (gives _) x left = closeText x left
+textOf (refuses k) x left = refuseText x k
 
 -- what is answered of the last turn t, on its memory x with the lines out, and what the lines then are: nothing is printed where reading failed
 abbrev pub textBy : Turn → Laid → List ℕ
@@ -160,7 +158,7 @@ pub record Recorded (x₀ : Laid) (most : ℕ) (out : List ℕ) (r : Intake) (ro
   pub desk : Desk
   pub bytes : List ℕ
   pub rest : List ℕ
-  pub outcome : Outcome
+  pub outcome : Said (Unit {0})
   pub came : Came x₀ bytes (laidOf desk room ledger map) rest outcome
   pub all : length bytes + r .left ≡ most
   -- where reading failed, nothing is printed

@@ -1,5 +1,6 @@
 -- The laws of document 01's definitions.
 pub mod Sound
+pub mod Answers
 pub mod Band
 pub mod Tally
 pub mod Facts

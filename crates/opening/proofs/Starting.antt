@@ -22,24 +22,50 @@ use Rattle.rules.specs.Front.{Field, Front as Stands, frontOf}
 use Rattle.rules.specs.Machine.{toField, replyAs, replyAt}
 use Rattle.rules.specs.Values.{isNumber, tolerancesIn}
 use Rattle.rules.specs.Record.{Content, brought, wrong, nothing, aNumber, aCycle, theTolerances, fieldContent, answerBy}
+use Rattle.laws.specs.Answers.{Said, gives, refuses}
+use Rattle.laws.proofs.Answers.{was-given, was-refused, given-refused, given-is, known-by}
 use Rattle.laws.proofs.Contents.{content-order}
 use Rattle.laws.proofs.Tags.{by-tag, no-length}
 use Rattle.state.specs.declared.Run.{Run}
-use Rattle.state.specs.State.{lent, Left}
+use Rattle.state.specs.State.{Memory, lent, Left}
 use Rattle.state.specs.Refusals.{startRefusal, started}
 use Rattle.step.specs.Step.{startOf}
 use Rattle.judge.specs.declared.Answer.{Answer}
 use Rattle.judge.specs.declared.Answer.the-variants as answer
-use Rattle.judge.specs.Answers.{startLeft}
-use Rattle.judge.proofs.Promises.{StartPromise, promised, answer-refused, answer-taken}
+use Rattle.judge.specs.Answers.{answerSaid, startLeft}
+use Rattle.judge.proofs.Promises.{StartPromise, promised}
 use Rattle.records.specs.Stage.{Stage, written, contentOn, bringOn, passOn, takeOn}
 use Rattle.fields.specs.Fields.{hasRow}
 use Rattle.fields.proofs.Fronts.{row-of-mark}
 use Rattle.opening.specs.declared.Opening.{Opening}
 use Rattle.opening.specs.declared.OpenAnswer.{OpenAnswer}
-use Rattle.opening.specs.declared.OpenStep.the-variants.{Taken, Started, Refused}
-use Rattle.opening.specs.Answers.{stageOf, isOpening, openGround, OpenLeft, openLeft, notOpened, openedBy, fieldOpened, frontOpened}
+use Rattle.opening.specs.declared.OpenStep.{OpenStep}
+use Rattle.opening.specs.declared.OpenStep.the-variants.{Taken, Started, Incomplete, Refused}
+use Rattle.opening.specs.Answers.{Opened, opens, starts, unfinished, openStepSaid, OpenSaid, openSaid, stageOf, isOpening, openGround, OpenLeft, notOpened, openedBy, fieldOpened, frontOpened}
 use Rattle.opening.specs.Begin.{refusedAt, numberAnswer, cycleAnswer, startNumber, startOpened}
+
+-- ---- answers that say the same are the same
+
+same-step : (x y : OpenStep) → openStepSaid x ≡ openStepSaid y → x ≡ y
+same-step = known-by openStepSaid back known
+  where
+    back : Said Opened → OpenStep
+    back (gives (opens n)) = Taken n
+    back (gives (starts n r)) = Started n r
+    back (gives unfinished) = Incomplete
+    back (refuses n) = Refused n
+
+    known : (x : OpenStep) → back (openStepSaid x) ≡ x
+    known (Taken n) = refl
+    known (Started n r) = refl
+    known Incomplete = refl
+    known (Refused n) = refl
+
+pub same-opened : (x y : OpenAnswer) → openSaid x ≡ openSaid y → x ≡ y
+same-opened x y e =
+    let step-is = same-step (x .step) (y .step) (ap (λ (z : OpenSaid). z .says) e) in
+    let opening-is = ap (λ (z : OpenSaid). z .opening) e in
+    λ i. record { step = step-is i; opening = opening-is i }
 
 -- ---- before all else
 
@@ -55,8 +81,8 @@ pub ground-ready : (o : Opening) (room : List ℕ) → openGround o room ≡ 0 �
 unfolding openGround isOpening
 ground-ready o room e =
     let (long, e₁) = not-refused 0 _ _ e in
-    let (opens, _) = not-refused 0 _ _ e₁ in
-    let h₂ = both _ _ opens in
+    let (limits, _) = not-refused 0 _ _ e₁ in
+    let h₂ = both _ _ limits in
     let h₁ = both _ _ (h₂ .0) in
     record { few = leb-true _ _ (h₁ .0); size = leb-true _ _ (h₁ .1); number = h₂ .1; room = leb-true _ _ long }
 
@@ -104,11 +130,14 @@ module _ (o : Opening) (room : List ℕ) (l : List ℤ) (m : List ℕ) where
   abbrev x : Stage
   x = stageOf o room l m
 
-  -- the answer a, where room and memory are as they were; and where the room is
-  abbrev here : OpenAnswer → OpenLeft
-  here a = openLeft a room l m
+  -- the answer a, where the memory is as it was; where the room is so too; and where the room is
+  abbrev opened : OpenSaid → List ℕ → OpenLeft
+  opened a room′ = record { answer = a; room = room′; memory = lent l m }
 
-  abbrev beside : Left OpenAnswer → OpenLeft
+  abbrev here : OpenSaid → OpenLeft
+  here a = opened a room
+
+  abbrev beside : Left OpenSaid → OpenLeft
   beside y = record { answer = y .answer; room = room; memory = y .memory }
 
   -- the opening with one field more, of which nothing is kept
@@ -125,23 +154,24 @@ module _ (o : Opening) (room : List ℕ) (l : List ℤ) (m : List ℕ) where
     abbrev run : Run
     run = started (take (o .cycle) room) (tolerancesIn v)
 
-    module _ (n : ℕ) {t : Tolerances} (e : t ≡ tolerancesIn v) {y : Left Answer} (h : y ≡ startLeft (take (o .cycle) room) t l m) where
-      promise : StartPromise (take (o .cycle) room) (tolerancesIn v) l m (y .answer) (y .memory)
+    module _ (n : ℕ) {t : Tolerances} (e : t ≡ tolerancesIn v) (a : Answer) {c : Memory} (h : record { answer = answerSaid a; memory = c } ≡ startLeft (take (o .cycle) room) t l m) where
+      promise : StartPromise (take (o .cycle) room) (tolerancesIn v) l m a c
       promise = promised (h ∙ ap (λ (z : Tolerances). startLeft (take (o .cycle) room) z l m) e)
 
-      answers : {r : OpenAnswer} → r ≡ startOpened o room l m v n .answer → record { answer = r; memory = y .memory } ≡ startOpened o room l m v n
+      answers : {r : OpenSaid} → r ≡ startOpened o room l m v n .answer → record { answer = r; memory = c } ≡ startOpened o room l m v n
       answers p = λ i. record { answer = p i; memory = promise .in-memory i }
 
-      pub start-refused : {k : ℕ} {r : OpenAnswer} → y .answer ≡ answer.Refused k → r ≡ refusedAt o k → record { answer = r; memory = y .memory } ≡ startOpened o room l m v n
+      pub start-refused : {k : ℕ} {r : OpenSaid} → a ≡ answer.Refused k → r ≡ refusedAt o k → record { answer = r; memory = c } ≡ startOpened o room l m v n
       start-refused {k} p q =
-          let (same, some) = answer-refused number-is run k (sym (promise .answer) ∙ p) in
+          let (same, some) = was-refused number-is (gives run) k (sym (promise .answer) ∙ ap answerSaid p) given-refused in
           answers (q ∙ ap (refusedAt o) (sym same) ∙ sym (settled-refused _ some))
 
-      pub start-taken : {r : Run} {k : Opening} → y .answer ≡ answer.Taken r → k ≡ oneMore
-          → record { answer = record { step = Started n r; opening = k }; memory = y .memory } ≡ startOpened o room l m v n
+      pub start-taken : {r : Run} {k : Opening} → a ≡ answer.Taken r → k ≡ oneMore
+          → record { answer = record { says = gives (starts n r); opening = k }; memory = c } ≡ startOpened o room l m v n
       start-taken {r} p q =
-          let (none, same) = answer-taken number-is run r (sym (promise .answer) ∙ p) in
-          answers ((λ i. record { step = Started n (sym same i); opening = q i }) ∙ sym (settled-taken _ none))
+          let (none, same) = was-given number-is (gives run) r (sym (promise .answer) ∙ ap answerSaid p) in
+          let run-is = given-is same in
+          answers ((λ i. record { says = gives (starts n (sym run-is i)); opening = q i }) ∙ sym (settled-taken _ none))
 
     -- what field 4 brings, by that number
     start-content : contentOn x tolerances v ≡ settled number-is (brought (theTolerances (tolerancesIn v))) (wrong number-is)
@@ -169,10 +199,10 @@ module _ (o : Opening) (room : List ℕ) (l : List ℤ) (m : List ℕ) where
         → y ≡ openedBy o room x (toField (answerBy (bringOn x k) (passOn x) c) n) → y ≡ fieldOpened o room l m (fieldOf tag)
     by-content tag c e f h = h ∙ (λ i. openedBy o room x (toField (answerBy (bringOn x (sym f i)) (passOn x) (sym e i)) n))
 
-    pub no-row : (tag : ℕ) {r : OpenAnswer} → hasRow tag v ≡ false → r ≡ refusedAt o 8 → here r ≡ fieldOpened o room l m (fieldOf tag)
+    pub no-row : (tag : ℕ) {r : OpenSaid} → hasRow tag v ≡ false → r ≡ refusedAt o 8 → here r ≡ fieldOpened o room l m (fieldOf tag)
     no-row tag h e = by-content tag (wrong 8) (content-order (o .fields) (contentOn x) (fieldOf tag) ∙ sym (stop _ h)) refl (ap here e)
 
-    pub out-of-order : (tag : ℕ) {r : OpenAnswer} → hasRow tag v ≡ true → o .fields ≤ 3 → lengthAllowed tags tag (length v) ≡ true → (tag ≡ o .fields + 1 → ⊥) → r ≡ refusedAt o 9
+    pub out-of-order : (tag : ℕ) {r : OpenSaid} → hasRow tag v ≡ true → o .fields ≤ 3 → lengthAllowed tags tag (length v) ≡ true → (tag ≡ o .fields + 1 → ⊥) → r ≡ refusedAt o 9
         → here r ≡ fieldOpened o room l m (fieldOf tag)
     out-of-order tag row few a h e =
         by-content tag (wrong 9) (content-order (o .fields) (contentOn x) (fieldOf tag) ∙ sym (pass _ row (stop _ (out-of-turn (o .fields) few v tag (length v) a h)))) refl (ap here e)
@@ -221,7 +251,7 @@ module _ (o : Opening) (room : List ℕ) (l : List ℤ) (m : List ℕ) where
       place-of : (k : ℕ) {q : ℕ} → tag ≡ k + 1 → placeAfter tags k (k + 1) v ≡ q → placeAfter tags (o .fields) tag v ≡ q
       place-of k d e = (λ i. placeAfter tags (before-it k d i) (d i) v) ∙ e
 
-      pub number-opens : {r : OpenAnswer} → tag ≡ 2 → r ≡ numberAnswer o v n → here r ≡ fieldOpened o room l m (fieldOf tag)
+      pub number-opens : {r : OpenSaid} → tag ≡ 2 → r ≡ numberAnswer o v n → here r ≡ fieldOpened o room l m (fieldOf tag)
       unfolding unless
       number-opens d e =
           by-content tag (unless (wrong 4) (isNumber v) (brought (aNumber v))) (content-of 1 d of-number) (place-of 1 d (moves-on .0)) (ap here e ∙ go (isNumber v))
@@ -229,34 +259,34 @@ module _ (o : Opening) (room : List ℕ) (l : List ℤ) (m : List ℕ) where
           two : o .fields + 1 ≡ 2
           two = omega arith
 
-          go : (b : Bool) → here (unless (refusedAt o 4) b (record { step = Taken n; opening = record { fields = o .fields + 1; vehicle = v; cycle = o .cycle } }))
+          go : (b : Bool) → here (unless (refusedAt o 4) b (record { says = gives (opens n); opening = record { fields = o .fields + 1; vehicle = v; cycle = o .cycle } }))
               ≡ openedBy o room x (toField (answerBy (bringOn x 2) (passOn x) (unless (wrong 4) b (brought (aNumber v)))) n)
           go true = λ i. record {
-            answer = record { step = Taken n; opening = record { fields = two i; vehicle = v; cycle = sym size-is i } };
+            answer = record { says = gives (opens n); opening = record { fields = two i; vehicle = v; cycle = sym size-is i } };
             room = sym (not-written (leb (o .fields) 2) (written room (take (o .cycle) room))) i;
             memory = lent l m;
           }
           go false = refl
 
-      pub cycle-opens : {r : OpenAnswer} {room′ : List ℕ} → tag ≡ 3 → r ≡ cycleAnswer o v n → room′ ≡ unless room (valid v) (written room v)
-          → openLeft r room′ l m ≡ fieldOpened o room l m (fieldOf tag)
+      pub cycle-opens : {r : OpenSaid} {room′ : List ℕ} → tag ≡ 3 → r ≡ cycleAnswer o v n → room′ ≡ unless room (valid v) (written room v)
+          → opened r room′ ≡ fieldOpened o room l m (fieldOf tag)
       unfolding unless
       cycle-opens d e f =
-          by-content tag (unless (wrong 2) (valid v) (brought (aCycle v))) (content-of 2 d of-cycle) (place-of 2 d (moves-on .1)) ((λ i. openLeft (e i) (f i) l m) ∙ go (valid v))
+          by-content tag (unless (wrong 2) (valid v) (brought (aCycle v))) (content-of 2 d of-cycle) (place-of 2 d (moves-on .1)) ((λ i. opened (e i) (f i)) ∙ go (valid v))
         where
           three : o .fields + 1 ≡ 3
           three = omega arith
 
-          go : (b : Bool) → openLeft (unless (refusedAt o 2) b (record { step = Taken n; opening = record { fields = o .fields + 1; vehicle = o .vehicle; cycle = length v } })) (unless room b (written room v)) l m
+          go : (b : Bool) → opened (unless (refusedAt o 2) b (record { says = gives (opens n); opening = record { fields = o .fields + 1; vehicle = o .vehicle; cycle = length v } })) (unless room b (written room v))
               ≡ openedBy o room x (toField (answerBy (bringOn x 3) (passOn x) (unless (wrong 2) b (brought (aCycle v)))) n)
           go true = λ i. record {
-            answer = record { step = Taken n; opening = record { fields = three i; vehicle = o .vehicle; cycle = length v } };
+            answer = record { says = gives (opens n); opening = record { fields = three i; vehicle = o .vehicle; cycle = length v } };
             room = cond (sym (le-leb (o .fields) 2 (omega arith)) i && true) (written room v) room;
             memory = lent l m;
           }
           go false = refl
 
-      pub start-opens : {y : Left OpenAnswer} → tag ≡ 4 → y ≡ startOpened o room l m v n → beside y ≡ fieldOpened o room l m (fieldOf tag)
+      pub start-opens : {y : Left OpenSaid} → tag ≡ 4 → y ≡ startOpened o room l m v n → beside y ≡ fieldOpened o room l m (fieldOf tag)
       start-opens d e =
           by-content tag (settled number-is (brought (theTolerances (tolerancesIn v))) (wrong number-is)) (content-of 3 d (of-tolerances ∙ start-content)) (place-of 3 d (moves-on .2))
           (ap beside e ∙ go (eqb number-is 0))
@@ -265,10 +295,10 @@ module _ (o : Opening) (room : List ℕ) (l : List ℤ) (m : List ℕ) where
           four = omega arith
 
           go : (b : Bool)
-              → beside (record { answer = cond b (record { step = Started n run; opening = oneMore }) (refusedAt o number-is); memory = cond b (startOf l m .memory) (lent l m) })
+              → beside (record { answer = cond b (record { says = gives (starts n run); opening = oneMore }) (refusedAt o number-is); memory = cond b (startOf l m .memory) (lent l m) })
               ≡ openedBy o room x (toField (answerBy (bringOn x 4) (passOn x) (cond b (brought (theTolerances (tolerancesIn v))) (wrong number-is))) n)
           go true = λ i. record {
-            answer = record { step = Started n run; opening = record { fields = four i; vehicle = o .vehicle; cycle = sym size-is i } };
+            answer = record { says = gives (starts n run); opening = record { fields = four i; vehicle = o .vehicle; cycle = sym size-is i } };
             room = cond (sym (lt-leb (o .fields) 2 (omega arith)) i && true) (written room (take (o .cycle) room)) room;
             memory = startOf l m .memory;
           }
@@ -276,23 +306,23 @@ module _ (o : Opening) (room : List ℕ) (l : List ℤ) (m : List ℕ) where
 
       -- any other is the mark, of which nothing is kept
       pub mark-opens : {k : Opening} → hasRow tag v ≡ true → o .fields ≤ 3 → (tag ≡ 2 → ⊥) → (tag ≡ 3 → ⊥) → (tag ≡ 4 → ⊥) → k ≡ oneMore
-          → here (record { step = Taken n; opening = k }) ≡ fieldOpened o room l m (fieldOf tag)
+          → here (record { says = gives (opens n); opening = k }) ≡ fieldOpened o room l m (fieldOf tag)
       mark-opens row few two three four e =
           let d : tag ≡ 1 = omega arith in
           let first : hasRow 1 v ≡ true = subst (λ (t : ℕ). hasRow t v ≡ true) d row in
           let one : o .fields + 1 ≡ 1 = omega arith in
           by-content tag (brought nothing) (content-of 0 d (of-mark first)) (place-of 0 d (moves-mark first))
-          ((λ i. here (record { step = Taken n; opening = e i })) ∙ (λ i. record {
-            answer = record { step = Taken n; opening = record { fields = one i; vehicle = o .vehicle; cycle = sym size-is i } };
+          ((λ i. here (record { says = gives (opens n); opening = e i })) ∙ (λ i. record {
+            answer = record { says = gives (opens n); opening = record { fields = one i; vehicle = o .vehicle; cycle = sym size-is i } };
             room = sym (not-written (leb (o .fields) 2) (written room (take (o .cycle) room))) i;
             memory = lent l m;
           }))
 
   -- ---- the field at the front of the input
   module _ (i : List ℕ) where
-    pub ground-refuses : {k : ℕ} {r : OpenAnswer} → k ≡ openGround o room → (k ≡ 0 → ⊥) → r ≡ refusedAt o k → here r ≡ frontOpened o room l m i
+    pub ground-refuses : {k : ℕ} {r : OpenSaid} → k ≡ openGround o room → (k ≡ 0 → ⊥) → r ≡ refusedAt o k → here r ≡ frontOpened o room l m i
     unfolding frontOpened
-    ground-refuses e some p = ap here p ∙ settled-answer (λ k. notOpened o room x (Refused k)) _ e some
+    ground-refuses e some p = ap here p ∙ settled-answer (λ k. notOpened o room x (refuses k)) _ e some
 
     -- by what stands there
     pub ground-passes : {y : OpenLeft} → openGround o room ≡ 0 → {w : Stands} → frontOf tags i ≡ w → y ≡ openedBy o room x (replyAs tags takeOn x w) → y ≡ frontOpened o room l m i

@@ -14,6 +14,7 @@ use Rattle.rules.specs.Front.{Field, bytesOf}
 use Rattle.rules.specs.Machine.{Reply, toField, notYet, noField, taken, passed, refused}
 use Rattle.rules.specs.Values.{isNumber}
 use Rattle.rules.specs.Record.{noAmounts}
+use Rattle.laws.specs.Answers.{Said, gives, refuses}
 use Rattle.state.specs.declared.Run.{Run}
 use Rattle.state.specs.State.{Memory, lent}
 use Rattle.state.specs.Refusals.{notBegun, started}
@@ -47,6 +48,29 @@ stageOf o room l m = record {
 abbrev pub openingOf : Stage → Opening
 openingOf x = record { fields = x .place; vehicle = x .vehicle; cycle = length (x .cycle) }
 
+-- ---- what the answer says
+
+-- a field is taken, of so many bytes; the run starts with it; "incomplete"
+pub data Opened : Type 0 where
+  opens : ℕ → Opened
+  starts : ℕ → Run → Opened
+  unfinished : Opened
+
+-- what the cases say
+abbrev pub openStepSaid : OpenStep → Said Opened
+openStepSaid (Taken n) = gives (opens n)
+openStepSaid (Started n r) = gives (starts n r)
+openStepSaid Incomplete = gives unfinished
+openStepSaid (Refused n) = refuses n
+
+-- with the opening that is left
+pub record OpenSaid : Type 0 where
+  pub says : Said Opened
+  pub opening : Opening
+
+abbrev pub openSaid : OpenAnswer → OpenSaid
+openSaid a = record { says = openStepSaid (a .step); opening = a .opening }
+
 -- ---- the answer
 
 -- the run that has started
@@ -54,32 +78,32 @@ abbrev pub runOf : Stage → Run
 runOf x = started (x .cycle) (x .tolerances)
 
 -- a field was taken, of n bytes: the fourth starts the run
-abbrev pub openTaken : Stage → ℕ → OpenStep
-openTaken x n = cond (eqb (x .place) behindTolerances) (Started n (runOf x)) (Taken n)
+abbrev pub openTaken : Stage → ℕ → Opened
+openTaken x n = cond (eqb (x .place) behindTolerances) (starts n (runOf x)) (opens n)
 
 -- what a call until the start leaves: its answer, the room, and ledger and map
 pub record OpenLeft : Type 0 where
-  pub answer : OpenAnswer
+  pub answer : OpenSaid
   pub room : List ℕ
   pub memory : Memory
 
 abbrev pub openLeft : OpenAnswer → List ℕ → List ℤ → List ℕ → OpenLeft
-openLeft a room l m = record { answer = a; room = room; memory = lent l m }
+openLeft a room l m = record { answer = openSaid a; room = room; memory = lent l m }
 
-abbrev pub notOpened : Opening → List ℕ → Stage → OpenStep → OpenLeft
-notOpened o room x s = record { answer = record { step = s; opening = o }; room = room; memory = x .run .memory }
+abbrev pub notOpened : Opening → List ℕ → Stage → Said Opened → OpenLeft
+notOpened o room x s = record { answer = record { says = s; opening = o }; room = room; memory = x .run .memory }
 
 -- no block may stand before the start, so none is passed over; where no field is accepted, nothing changes
 abbrev pub openedBy : Opening → List ℕ → Stage → Reply Stage → OpenLeft
 openedBy o room x (toField (taken y) n) = record {
-  answer = record { step = openTaken y n; opening = openingOf y };
+  answer = record { says = gives (openTaken y n); opening = openingOf y };
   room = roomAfter x y room;
   memory = y .run .memory;
 }
-openedBy o room x (toField (passed y) n) = record { answer = record { step = Taken n; opening = openingOf y }; room = room; memory = y .run .memory }
-openedBy o room x (toField (refused k) n) = notOpened o room x (Refused k)
-openedBy o room x notYet = notOpened o room x Incomplete
-openedBy o room x noField = notOpened o room x (Refused 8)
+openedBy o room x (toField (passed y) n) = record { answer = record { says = gives (opens n); opening = openingOf y }; room = room; memory = y .run .memory }
+openedBy o room x (toField (refused k) n) = notOpened o room x (refuses k)
+openedBy o room x notYet = notOpened o room x (gives unfinished)
+openedBy o room x noField = notOpened o room x (refuses 8)
 
 -- ---- before all else
 
@@ -100,4 +124,4 @@ unfoldable pub frontOpened : Opening → List ℕ → List ℤ → List ℕ → 
 frontOpened o room l m i =
     let n = openGround o room in
     let x = stageOf o room l m in
-    settled n (openedBy o room x (replyOn x i)) (notOpened o room x (Refused n))
+    settled n (openedBy o room x (replyOn x i)) (notOpened o room x (refuses n))

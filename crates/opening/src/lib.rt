@@ -18,8 +18,8 @@ ghost use Rattle.state.specs.State.{left};
 ghost use Rattle.rules.specs.Table.{lengthAllowed, tags};
 ghost use Rattle.rules.specs.Values.{tolerancesIn};
 ghost use Rattle.records.specs.Stage.{written};
-ghost use Rattle.opening.specs.Answers.{isOpening, openGround, openLeft, fieldOpened};
-ghost use Rattle.opening.specs.Begin.{numberAnswer, cycleAnswer, startOpened};
+ghost use Rattle.opening.specs.Answers.{isOpening, openGround, openSaid, openLeft, fieldOpened};
+ghost use Rattle.opening.specs.Begin.{refusedAt, numberAnswer, cycleAnswer, startOpened};
 
 // Until the start: how many of the first four fields are accepted, the vehicle, and how many bytes the cycle in the room has.
 pub struct Opening {
@@ -103,7 +103,7 @@ pub fn open_refusal(o: Opening, room: &[u8]) -> u32
 
 // A refused field leaves the opening as it was.
 pub fn refused_at(o: Opening, number: u32) -> OpenAnswer
-    ensures { λ r. ⌜ r ≡ record { step = OpenStep.Refused number; opening = o } ⌝ }
+    ensures { λ r. ⌜ openSaid r ≡ refusedAt o number ⌝ }
 {
     OpenAnswer {
         step: OpenStep::Refused(number),
@@ -127,7 +127,7 @@ fn with_field(o: Opening) -> Opening
 // The vehicle number, in a field of n bytes.
 fn open_number(o: Opening, v: &[u8], n: usize) -> OpenAnswer
     requires { ⌜ (o .fields ≤ 3) × (length (now v) ≡ 17) ⌝ }
-    ensures { λ r. ⌜ r ≡ numberAnswer o (now (v .entry)) n ⌝ }
+    ensures { λ r. ⌜ openSaid r ≡ numberAnswer o (now (v .entry)) n ⌝ }
 {
     if !is_number(v) {
         return refused_at(o, 4);
@@ -145,7 +145,7 @@ fn open_number(o: Opening, v: &[u8], n: usize) -> OpenAnswer
 // The cycle, in a field of n bytes.
 fn open_cycle(o: Opening, room: &mut [u8], v: &[u8], n: usize) -> OpenAnswer
     requires { ⌜ (o .fields ≤ 3) × (length (now v) ≤ length (now room)) ⌝ }
-    ensures { λ r. ⌜ r ≡ cycleAnswer o (now (v .entry)) n ⌝ }
+    ensures { λ r. ⌜ openSaid r ≡ cycleAnswer o (now (v .entry)) n ⌝ }
     ensures { λ _. ⌜ now (room .exit) ≡ unless (now (room .entry)) (valid (now (v .entry))) (written (now (room .entry)) (now (v .entry))) ⌝ }
 {
     if !is_cycle(v) {
@@ -174,7 +174,7 @@ fn open_start(
 ) -> OpenAnswer
     requires { ⌜ (o .fields ≤ 3) × (o .cycle ≤ length (now room)) × (6 ≤ length (now v)) ⌝ }
     ensures { λ r. ⌜
-        left r (now (ledger .exit)) (now (map .exit))
+        left (openSaid r) (now (ledger .exit)) (now (map .exit))
         ≡ startOpened o (now (room .entry)) (now (ledger .entry)) (now (map .entry)) (now (v .entry)) n
         ⌝ }
 {

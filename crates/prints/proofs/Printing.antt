@@ -19,24 +19,23 @@ use Rattle.rules.specs.Table.{behindTolerances, tags}
 use Rattle.rules.specs.Machine.{End, waiting, broken, stopped, Ran, run}
 use Rattle.rules.specs.Record.{Told, takeField, untold, told, refusedAt, sheetBy, sheetOf}
 use Rattle.rules.specs.Text.{sheetText, refusalText, printed}
+use Rattle.laws.specs.Answers.{refuses, endSaid}
 use Rattle.laws.proofs.Places.{early-or-late}
 use Rattle.laws.proofs.Sheets.{refusal-stays-refused}
 use Rattle.records.specs.Stage.{Stage}
 use Rattle.records.proofs.Joined.{Long, Holds}
-use Rattle.reader.specs.declared.Ending.the-variants as ending
-use Rattle.reader.specs.Answers.{endingOf}
+use Rattle.reader.specs.Answers.{mayEnd, endingOf}
 use Rattle.reading.specs.declared.Reading.{Reading}
 use Rattle.reading.specs.Answers.{startedReading, readingOf, isReading, readGround}
 use Rattle.opening.specs.Answers.{nothing, runOf}
 use Rattle.figures.specs.declared.Found.{Found}
 use Rattle.figures.specs.Figured.{foundOf}
 use Rattle.figures.proofs.OfRun.{figures-of-run}
-use Rattle.desk.specs.declared.Outcome.the-variants.{Refused}
-use Rattle.desk.specs.Feeding.{Laid, Consumed, outcomeOf, feedOf, mostFields, Lent}
+use Rattle.desk.specs.Feeding.{Laid, Consumed, feedOf, mostFields, Lent}
 use Rattle.desk.proofs.Arriving.{worked, good, after, after-fields, after-few, after-late, after-early, after-ground, Arrived, fed-is, alike}
 use Rattle.desk.proofs.Good.{reads-on}
 use Rattle.prints.specs.Printed.{nextField, refuseText, foundOn, textBy, closeText}
-use Rattle.prints.proofs.Texts.{by-ending}
+use Rattle.prints.proofs.Texts.{by-end}
 
 -- the number of the next field, of which there are not too many
 next : (n : ℕ) → n ≤ mostFields → nextField n ≡ suc n
@@ -109,7 +108,7 @@ module _ (lent : Lent) where
     abbrev left : ℕ
     left = length w - made w .used
 
-    ends-late : behindTolerances ≤ u .place → (b : Bool) → eqb left 0 ≡ b → textBy (unless (ending.Refused 15) b ending.Whole) (laid w) ≡ printed (unless (refusedAt 15 (suc (made w .fields))) b (told (lists w .state)))
+    ends-late : behindTolerances ≤ u .place → (b : Bool) → eqb left 0 ≡ b → textBy (unless (refuses 15) b mayEnd) (laid w) ≡ printed (unless (refusedAt 15 (suc (made w .fields))) b (told (lists w .state)))
     unfolding unless
     ends-late e true f = ap sheetText (figures-are e)
     ends-late e false f = refused-is w 15
@@ -118,10 +117,10 @@ module _ (lent : Lent) where
     unfolding endingOf unless
     ends-as =
         early-or-late (u .place)
-        (λ e. ap (λ (b : Bool). textBy (unless (ending.Refused 15) b (unless (ending.Refused 15) (eqb left 0) ending.Whole)) (laid w)) (ap (λ (x : Laid). x .desk .started) (after-early room l m long w e))
+        (λ e. ap (λ (b : Bool). textBy (unless (refuses 15) b (unless (refuses 15) (eqb left 0) mayEnd)) (laid w)) (ap (λ (x : Laid). x .desk .started) (after-early room l m long w e))
         ∙ refused-is w 15
         ∙ ap (λ (b : Bool). printed (unless (refusedAt 15 (suc (made w .fields))) b (unless (refusedAt 15 (suc (made w .fields))) (eqb left 0) (told (lists w .state))))) (sym (place-test e)))
-        (λ e. ap (λ (b : Bool). textBy (unless (ending.Refused 15) b (unless (ending.Refused 15) (eqb left 0) ending.Whole)) (laid w)) (ap (λ (x : Laid). x .desk .started) (after-late room l m long w e))
+        (λ e. ap (λ (b : Bool). textBy (unless (refuses 15) b (unless (refuses 15) (eqb left 0) mayEnd)) (laid w)) (ap (λ (x : Laid). x .desk .started) (after-late room l m long w e))
         ∙ ends-late e (eqb left 0) refl
         ∙ ap (λ (b : Bool). printed (unless (refusedAt 15 (suc (made w .fields))) b (unless (refusedAt 15 (suc (made w .fields))) (eqb left 0) (told (lists w .state))))) (sym (place-passes e)))
       where
@@ -137,13 +136,13 @@ module _ (lent : Lent) where
     report-prints =
         let left-is : length rest ≡ length w - made w .used = ap length (sym (h .bytes)) ∙ length-drop (made w .used) w in
         (λ j. closeText (sym (h .laid) j) (left-is j))
-        ∙ sym (by-ending (laid w) (left w) (after-ground room l m long w) _ _ refl refl)
+        ∙ sym (by-end (laid w) (left w) (after-ground room l m long w))
         ∙ ends-as w
         ∙ ap (λ (e : End). printed (sheetBy e (lists w .state) (made w .fields) (left w))) (sym (h .waits))
         ∙ ap printed (sym (sheet-is w))
 
     -- where a field is refused, its number is the record's, whatever would follow it
-    refused-all : (new : List ℕ) (k : ℕ) → feedOf x (rest ++ new) .outcome ≡ Refused k → (q : List ℕ) → sheetOf ((w ++ new) ++ q) ≡ refusedAt k (suc (made (w ++ new) .fields))
+    refused-all : (new : List ℕ) (k : ℕ) → feedOf x (rest ++ new) .outcome ≡ refuses k → (q : List ℕ) → sheetOf ((w ++ new) ++ q) ≡ refusedAt k (suc (made (w ++ new) .fields))
     refused-all new k e q = go (made all .end) refl (ap (λ (y : Consumed). y .outcome) (sym (fed-is room l m long h new)) ∙ e)
       where
         all : List ℕ
@@ -154,19 +153,19 @@ module _ (lent : Lent) where
             refusal-stays-refused all q (λ z. n (sym d ∙ sym (alike room l m long enough all .end) ∙ z)) ∙ sheet-is all
             ∙ ap (λ (z : End). sheetBy z (lists all .state) (made all .fields) (length all - made all .used)) d
 
-        go : (e : End) → made all .end ≡ e → outcomeOf e ≡ Refused k → sheetOf (all ++ q) ≡ refusedAt k (suc (made all .fields))
+        go : (e : End) → made all .end ≡ e → endSaid {A = Unit {0}} tt e ≡ refuses k → sheetOf (all ++ q) ≡ refusedAt k (suc (made all .fields))
         go waiting d f = absurd (false≢true cc)
         go broken d f = let n : 8 ≡ k = cc f in stays broken d (λ z. false≢true cc) ∙ ap (λ (j : ℕ). refusedAt j (suc (made all .fields))) n
         go (stopped i) d f = let n : i ≡ k = cc f in stays (stopped i) d (λ z. false≢true cc) ∙ ap (λ (j : ℕ). refusedAt j (suc (made all .fields))) n
 
-    pub refused-number : (new : List ℕ) (k : ℕ) → feedOf x (rest ++ new) .outcome ≡ Refused k → (q : List ℕ)
+    pub refused-number : (new : List ℕ) (k : ℕ) → feedOf x (rest ++ new) .outcome ≡ refuses k → (q : List ℕ)
         → sheetOf ((w ++ new) ++ q) ≡ refusedAt k (suc (feedOf x (rest ++ new) .laid .desk .fields))
     refused-number new k e q =
         refused-all new k e q
         ∙ ap (λ (n : ℕ). refusedAt k (suc n)) (sym (ap (λ (y : Consumed). y .laid .desk .fields) (fed-is room l m long h new) ∙ after-fields room l m long (w ++ new)))
 
     -- and so is what is printed
-    pub refusal-prints : (new : List ℕ) (k : ℕ) → feedOf x (rest ++ new) .outcome ≡ Refused k → (q : List ℕ)
+    pub refusal-prints : (new : List ℕ) (k : ℕ) → feedOf x (rest ++ new) .outcome ≡ refuses k → (q : List ℕ)
         → refuseText (feedOf x (rest ++ new) .laid) k ≡ printed (sheetOf ((w ++ new) ++ q))
     refusal-prints new k e q =
         ap (λ (y : Consumed). refuseText (y .laid) k) (fed-is room l m long h new) ∙ refused-is (w ++ new) k ∙ ap printed (sym (refused-all new k e q))

@@ -10,7 +10,8 @@ use lib.Seq.{take-at}
 use Rattle.rules.specs.Words.{unless}
 use Rattle.numbers.proofs.Tests.{pass, settled-taken, settled-refused}
 use Rattle.reader.specs.declared.Ending.{Ending}
-use Rattle.reader.specs.Answers.{endingOf}
+use Rattle.laws.specs.Answers.{Said}
+use Rattle.reader.specs.Answers.{endingSaid, endingOf}
 use Rattle.sheet.specs.Overlaid.{overlaid, mostSheet}
 use Rattle.desk.specs.Feeding.{Laid, deskGround}
 use Rattle.prints.specs.Printed.{Prints, refuseText, textBy, closeText}
@@ -33,7 +34,11 @@ module _ (x : Laid) (left : ℕ) where
   unfolding closeText
   desk-refused n e h = ap (refuseText x) e ∙ sym (settled-refused _ (λ z. h (e ∙ z)))
 
-  -- by whether the input may end
-  pub by-ending : deskGround x ≡ 0 → (s y : Ending) → s ≡ endingOf (x .desk .started) left → s ≡ y → textBy y x ≡ closeText x left
-  unfolding closeText
-  by-ending g s y e p = ap (λ (z : Ending). textBy z x) (sym p ∙ e) ∙ sym (settled-taken _ g)
+  -- by whether the input may end, and by the answer s to that
+  module _ (g : deskGround x ≡ 0) where
+    pub by-end : textBy (endingOf (x .desk .started) left) x ≡ closeText x left
+    unfolding closeText
+    by-end = sym (settled-taken _ g)
+
+    pub by-ending : {s y : Ending} → endingSaid s ≡ endingOf (x .desk .started) left → s ≡ y → textBy (endingSaid y) x ≡ closeText x left
+    by-ending e p = ap (λ (z : Said (Unit {0})). textBy z x) (ap endingSaid (sym p) ∙ e) ∙ by-end

@@ -7,8 +7,7 @@ use Prim.Native.Nat.{ℕ, _+_}
 use lib.Dec.{leb, ltb}
 use lib.ListN.{length}
 use Rattle.rules.specs.Words.{unless, settled}
-use Rattle.reader.specs.declared.Ending.{Ending}
-use Rattle.reader.specs.declared.Ending.the-variants as ending
+use Rattle.laws.specs.Answers.{Said, gives, refuses}
 use Rattle.reader.specs.Answers.{endingOf}
 use Rattle.sheet.specs.Overlaid.{overlaid, mostSheet}
 use Rattle.rules.specs.Text.{sheetText, refusalText}
@@ -35,9 +34,9 @@ abbrev pub foundOn : Laid → Found
 foundOn x = foundOf (x .desk .reading) (lentCycle x) (x .memory .ledger) (x .memory .map)
 
 -- by whether the input may end here
-abbrev pub textBy : Ending → Laid → List ℕ
-textBy ending.Whole x = sheetText (foundOn x .figures)
-textBy (ending.Refused number) x = refuseText x number
+abbrev pub textBy : Said (Unit {0}) → Laid → List ℕ
+textBy (gives _) x = sheetText (foundOn x .figures)
+textBy (refuses number) x = refuseText x number
 
 -- where the input ends, with so many bytes of an unfinished field left over: 1 and 2 before all else, then 15, then the sheet
 unfoldable pub closeText : Laid → ℕ → List ℕ

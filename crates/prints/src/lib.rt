@@ -13,7 +13,7 @@ ghost use lib.ListN.{length};
 ghost use Rattle.rules.specs.Words.{unless};
 ghost use Rattle.sheet.specs.Overlaid.{overlaid, mostSheet};
 ghost use Rattle.rules.specs.Text.{refusalText};
-ghost use Rattle.reader.specs.declared.Ending.the-variants.{Whole};
+ghost use Rattle.reader.specs.Answers.{mayEnd};
 ghost use Rattle.desk.specs.Feeding.{laidOf};
 ghost use Rattle.prints.specs.Printed.{nextField, textBy, closeText};
 
@@ -44,12 +44,12 @@ fn print_run(desk: Desk, room: &[u8], ledger: &[i64], map: &[u64], out: &mut [u8
     requires { ⌜ desk .opening .cycle ≤ length (now room) ⌝ }
     ensures { λ r. ⌜
         r ≡ unless 0 (leb mostSheet (length (now (out .entry))))
-        (length (textBy Whole (laidOf desk (now (room .entry)) (now (ledger .entry)) (now (map .entry)))))
+        (length (textBy mayEnd (laidOf desk (now (room .entry)) (now (ledger .entry)) (now (map .entry)))))
         ⌝ }
     ensures { λ _. ⌜
         now (out .exit)
         ≡ unless (now (out .entry)) (leb mostSheet (length (now (out .entry))))
-        (overlaid (now (out .entry)) 0 (textBy Whole (laidOf desk (now (room .entry)) (now (ledger .entry)) (now (map .entry)))))
+        (overlaid (now (out .entry)) 0 (textBy mayEnd (laidOf desk (now (room .entry)) (now (ledger .entry)) (now (map .entry)))))
         ⌝ }
 {
     let opening = desk.opening;

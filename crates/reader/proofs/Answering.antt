@@ -13,27 +13,23 @@ use Rattle.rules.specs.Bench.{mostPassed, mostTimeTolerance}
 use Rattle.values.specs.Limits.{areAmounts}
 use Rattle.rules.specs.Cycle.{valid, seconds}
 use Rattle.rules.specs.declared.Tolerances.{Tolerances}
+use Rattle.laws.specs.Answers.{refuses}
 use Rattle.state.specs.State.{Left, left}
 use Rattle.state.proofs.Checked.{Ground, ground-passed}
 use Rattle.judge.proofs.Calls.{kept-ground}
 use Rattle.rules.specs.Values.{isNumber}
 use Rattle.reading.specs.declared.Along.{Along}
-use Rattle.reading.specs.declared.Passage.{Passage}
 use Rattle.reading.specs.declared.Reading.{Reading}
-use Rattle.reading.specs.declared.Step.the-variants.{Refused}
-use Rattle.reading.specs.declared.Stepped.{Stepped}
-use Rattle.reading.specs.Answers.{readingPlan, isReading, readGround}
+use Rattle.reading.specs.Answers.{ReadSaid, AllSaid, readingPlan, isReading, readGround}
 use Rattle.reading.specs.Along.{alongAt, withAlong, frontTaken, allTaken, Ready}
-use Rattle.reader.specs.declared.ReadAnswer.{ReadAnswer}
-use Rattle.reader.specs.declared.AllAnswer.{AllAnswer}
 use Rattle.reader.specs.Answers.{readLeft, allLeft}
 
 -- as the answer of a call, with the reading y, for one field and for all
-abbrev asRead : Reading → Left Stepped → Left ReadAnswer
-asRead y x = record { answer = record { step = x .answer .step; reading = y }; memory = x .memory }
+abbrev asRead : Reading → Left (ReadSaid Along) → Left (ReadSaid Reading)
+asRead y x = record { answer = record { says = x .answer .says; state = y }; memory = x .memory }
 
-abbrev asAll : Reading → Left Passage → Left AllAnswer
-asAll y x = record { answer = record { reading = y; fields = x .answer .fields; used = x .answer .used; last = x .answer .last }; memory = x .memory }
+abbrev asAll : Reading → Left (AllSaid Along) → Left (AllSaid Reading)
+asAll y x = record { answer = record { state = y; fields = x .answer .fields; used = x .answer .used; last = x .answer .last }; memory = x .memory }
 
 module _ (r : Reading) (b : List ℕ) (l : List ℤ) (m : List ℕ) where
   abbrev t : Tolerances
@@ -60,26 +56,26 @@ module _ (r : Reading) (b : List ℕ) (l : List ℤ) (m : List ℕ) where
 
       -- what is read from k on is what the call reads
       module _ (i : List ℕ) {y : Reading} where
-        pub read-taken : {x : Left Stepped} → x ≡ frontTaken b t k l m (r .vehicle) i → y ≡ withAlong r (x .answer .along) → asRead y x ≡ readLeft r b l m i
+        pub read-taken : {x : Left (ReadSaid Along)} → x ≡ frontTaken b t k l m (r .vehicle) i → y ≡ withAlong r (x .answer .state) → asRead y x ≡ readLeft r b l m i
         unfolding readLeft
         read-taken {x} h q =
             ap (λ (z : Reading). asRead z x) q
-            ∙ ap (λ (z : Left Stepped). asRead (withAlong r (z .answer .along)) z) (h ∙ ap (λ (z : Along). frontTaken b t z l m (r .vehicle) i) p)
+            ∙ ap (λ (z : Left (ReadSaid Along)). asRead (withAlong r (z .answer .state)) z) (h ∙ ap (λ (z : Along). frontTaken b t z l m (r .vehicle) i) p)
             ∙ sym (settled-taken _ e)
 
-        pub all-taken : {x : Left Passage} → x ≡ allTaken b t k l m (r .vehicle) i → y ≡ withAlong r (x .answer .along) → asAll y x ≡ allLeft r b l m i
+        pub all-taken : {x : Left (AllSaid Along)} → x ≡ allTaken b t k l m (r .vehicle) i → y ≡ withAlong r (x .answer .state) → asAll y x ≡ allLeft r b l m i
         unfolding allLeft
         all-taken {x} h q =
             ap (λ (z : Reading). asAll z x) q
-            ∙ ap (λ (z : Left Passage). asAll (withAlong r (z .answer .along)) z) (h ∙ ap (λ (z : Along). allTaken b t z l m (r .vehicle) i) p)
+            ∙ ap (λ (z : Left (AllSaid Along)). asAll (withAlong r (z .answer .state)) z) (h ∙ ap (λ (z : Along). allTaken b t z l m (r .vehicle) i) p)
             ∙ sym (settled-taken _ e)
 
   -- ---- a test refuses
   module _ (i : List ℕ) {x : ℕ} (e : x ≡ readGround r b l m) (some : x ≡ 0 → ⊥) where
-    pub read-refuses : left {A = ReadAnswer} (record { step = Refused x; reading = r }) l m ≡ readLeft r b l m i
+    pub read-refuses : left {A = ReadSaid Reading} (record { says = refuses x; state = r }) l m ≡ readLeft r b l m i
     unfolding readLeft
-    read-refuses = settled-answer (λ k. left {A = ReadAnswer} (record { step = Refused k; reading = r }) l m) _ e some
+    read-refuses = settled-answer (λ k. left {A = ReadSaid Reading} (record { says = refuses k; state = r }) l m) _ e some
 
-    pub all-refuses : left {A = AllAnswer} (record { reading = r; fields = 0; used = 0; last = Refused x }) l m ≡ allLeft r b l m i
+    pub all-refuses : left {A = AllSaid Reading} (record { state = r; fields = 0; used = 0; last = refuses x }) l m ≡ allLeft r b l m i
     unfolding allLeft
-    all-refuses = settled-answer (λ k. left {A = AllAnswer} (record { reading = r; fields = 0; used = 0; last = Refused k }) l m) _ e some
+    all-refuses = settled-answer (λ k. left {A = AllSaid Reading} (record { state = r; fields = 0; used = 0; last = refuses k }) l m) _ e some

@@ -13,7 +13,7 @@ ghost use mathlib.Core.Path.{_≡_};
 ghost use Rattle.state.specs.State.{left};
 ghost use Rattle.opening.specs.Answers.{nothing, openLeft, frontOpened};
 ghost use Rattle.reading.specs.Answers.{startedReading, readGround};
-ghost use Rattle.reader.specs.Answers.{readLeft, allLeft, endingOf};
+ghost use Rattle.reader.specs.Answers.{readSaid, allSaid, endingSaid, readLeft, allLeft, endingOf};
 
 // Whether the input may end here.
 pub enum Ending {
@@ -107,7 +107,7 @@ pub fn read(
     map: &mut [u64],
 ) -> ReadAnswer
     ensures { λ r. ⌜
-        left r (now (ledger .exit)) (now (map .exit))
+        left (readSaid r) (now (ledger .exit)) (now (map .exit))
         ≡ readLeft reading (now (cycle .entry)) (now (ledger .entry)) (now (map .entry)) (now (input .entry))
         ⌝ }
 {
@@ -141,7 +141,7 @@ pub fn read_fields(
 ) -> AllAnswer
     requires { ⌜ readGround reading (now cycle) (now ledger) (now map) ≡ 0 ⌝ }
     ensures { λ r. ⌜
-        left r (now (ledger .exit)) (now (map .exit))
+        left (allSaid r) (now (ledger .exit)) (now (map .exit))
         ≡ allLeft reading (now (cycle .entry)) (now (ledger .entry)) (now (map .entry)) (now (input .entry))
         ⌝ }
 {
@@ -169,7 +169,7 @@ pub fn read_all(
     map: &mut [u64],
 ) -> AllAnswer
     ensures { λ r. ⌜
-        left r (now (ledger .exit)) (now (map .exit))
+        left (allSaid r) (now (ledger .exit)) (now (map .exit))
         ≡ allLeft reading (now (cycle .entry)) (now (ledger .entry)) (now (map .entry)) (now (input .entry))
         ⌝ }
 {
@@ -187,7 +187,7 @@ pub fn read_all(
 
 // Whether the input may end where the run has started or not, with so many bytes of an unfinished field left.
 pub fn ended(started: bool, left: usize) -> Ending
-    ensures { λ r. ⌜ r ≡ endingOf started left ⌝ }
+    ensures { λ r. ⌜ endingSaid r ≡ endingOf started left ⌝ }
 {
     if !started {
         return Ending::Refused(15);

@@ -20,18 +20,15 @@ use Rattle.step.specs.declared.Going.{Going}
 use Rattle.step.specs.Step.{Kept, standing}
 use Rattle.records.specs.Stage.{Stage, takeOn, replyOn, runOn, stageAfter}
 use Rattle.records.proofs.Later.{Later, later-move}
-use Rattle.reading.specs.declared.Step.{Step}
-use Rattle.reading.specs.declared.Step.the-variants as step
+use Rattle.laws.specs.Answers.{Said, gives, endSaid}
 use Rattle.reading.specs.declared.Along.{Along}
-use Rattle.reading.specs.declared.Passage.{Passage}
-use Rattle.reading.specs.declared.Stepped.{Stepped}
-use Rattle.reading.specs.Answers.{stepOf, lastOf, bytesOf}
+use Rattle.reading.specs.Answers.{FieldRead, unfinished, replySaid, bytesOf, ReadSaid, AllSaid}
 use Rattle.reading.specs.Along.{stageAlong, alongLeft, steppedLeft, passageLeft, Ready}
 use Rattle.reading.proofs.Taking.{along-is}
 
 -- ---- an answer and how many bytes it uses
 
-reply-on : (x : Stage) (r : Reply Stage) (n : ℕ) → n ≡ bytesOf (stepOf r) → (n ≡ 0 → ⊥) → moveOf r ≡ on (stageAfter x r) n
+reply-on : (x : Stage) (r : Reply Stage) (n : ℕ) → n ≡ bytesOf (replySaid r) → (n ≡ 0 → ⊥) → moveOf r ≡ on (stageAfter x r) n
 reply-on x (toField (taken z) m) n e h = ap (on z) (sym e)
 reply-on x (toField (passed z) m) n e h = ap (on z) (sym e)
 reply-on x (toField (refused k) m) n e h = absurd (h e)
@@ -41,10 +38,10 @@ reply-on x noField n e h = absurd (h e)
 record Off (x : Stage) (r : Reply Stage) : Type 0 where
   end : End
   move : moveOf r ≡ off end
-  last : lastOf end ≡ stepOf r
+  last : endSaid unfinished end ≡ replySaid r
   same : stageAfter x r ≡ x
 
-reply-off : (x : Stage) (r : Reply Stage) → ((z : Stage) (m : ℕ) → moveOf r ≡ on z m → 3 ≤ m) → bytesOf (stepOf r) ≡ 0 → Off x r
+reply-off : (x : Stage) (r : Reply Stage) → ((z : Stage) (m : ℕ) → moveOf r ≡ on z m → 3 ≤ m) → bytesOf (replySaid r) ≡ 0 → Off x r
 reply-off x (toField (taken z) m) h e = absurd (let l = h z m refl in omega arith)
 reply-off x (toField (passed z) m) h e = absurd (let l = h z m refl in omega arith)
 reply-off x (toField (refused k) m) h e = record { end = stopped k; move = refl; last = refl; same = refl }
@@ -58,12 +55,12 @@ behind f u y = record { state = y .state; fields = f + y .fields; used = u + y .
 -- ---- a reading with its memory
 
 -- after the answer to a field
-abbrev next : Left Stepped → Left Along
-next x = record { answer = x .answer .along; memory = x .memory }
+abbrev next : Left (ReadSaid Along) → Left Along
+next x = record { answer = x .answer .state; memory = x .memory }
 
 -- as the answer to f fields of u bytes, the last answered by s
-abbrev passage : Left Along → ℕ → ℕ → Step → Left Passage
-passage y f u s = record { answer = record { along = y .answer; fields = f; used = u; last = s }; memory = y .memory }
+abbrev passage : Left Along → ℕ → ℕ → Said FieldRead → Left (AllSaid Along)
+passage y f u s = record { answer = record { state = y .answer; fields = f; used = u; last = s }; memory = y .memory }
 
 module _ (me b : List ℕ) (t : Tolerances) where
   abbrev p : Plan
@@ -112,13 +109,13 @@ module _ (me b : List ℕ) (t : Tolerances) where
       none n = omega arith
 
   -- all is read
-  ended : (y : Left Along) (f u : ℕ) (e : End) {w : Ran Stage} → Ready me p y → w ≡ behind f u (ends (stage y) e) → passage y f u (lastOf e) ≡ passageLeft w
+  ended : (y : Left Along) (f u : ℕ) (e : End) {w : Ran Stage} → Ready me p y → w ≡ behind f u (ends (stage y) e) → passage y f u (endSaid unfinished e) ≡ passageLeft w
   ended y f u e h d =
-      (λ j. passage (record { answer = along-is me b t (y .answer) (y .memory .ledger) (y .memory .map) (h .kept) j; memory = y .memory }) (sym (add-zero f) j) (sym (add-zero u) j) (lastOf e))
+      (λ j. passage (record { answer = along-is me b t (y .answer) (y .memory .ledger) (y .memory .map) (h .kept) j; memory = y .memory }) (sym (add-zero f) j) (sym (add-zero u) j) (endSaid unfinished e))
       ∙ ap passageLeft (sym d)
 
   module _ {y₀ y : Left Along} {input : List ℕ} {f u : ℕ} (h : Past y₀ input f u y) where
-    pub nothing-left : u ≡ length input → passage y f u step.Incomplete ≡ passageLeft (runOn (stage y₀) input)
+    pub nothing-left : u ≡ length input → passage y f u (gives unfinished) ≡ passageLeft (runOn (stage y₀) input)
     nothing-left e =
         ended y f u waiting (h .ready)
         (h .rest ∙ ap (λ (i : List ℕ). behind f u (runOn (stage y) i)) (ap (λ (d : ℕ). drop d input) e ∙ drop-length input) ∙ ap (behind f u) (no-bytes tags takeOn (stage y)))
@@ -130,12 +127,12 @@ module _ (me b : List ℕ) (t : Tolerances) where
     reply = replyOn (stage y) i
 
     -- a turn of the loop: x answers the field after them, as it is lent on, and accepts n bytes
-    module _ {x : Left Stepped} (q : x ≡ steppedLeft (stage y) (replyOn (stage y) (take (length input - u) (drop u input)))) {n : ℕ} (e : n ≡ bytesOf (x .answer .step)) where
+    module _ {x : Left (ReadSaid Along)} (q : x ≡ steppedLeft (stage y) (replyOn (stage y) (take (length input - u) (drop u input)))) {n : ℕ} (e : n ≡ bytesOf (x .answer .says)) where
       here : steppedLeft (stage y) reply ≡ x
       here = sym (q ∙ ap (λ (j : List ℕ). steppedLeft (stage y) (replyOn (stage y) j)) (part-rest u input))
 
-      bytes-is : n ≡ bytesOf (stepOf reply)
-      bytes-is = e ∙ sym (ap (λ (z : Left Stepped). bytesOf (z .answer .step)) here)
+      bytes-is : n ≡ bytesOf (replySaid reply)
+      bytes-is = e ∙ sym (ap (λ (z : Left (ReadSaid Along)). bytesOf (z .answer .says)) here)
 
       abbrev z : Stage
       z = stageAfter (stage y) reply
@@ -155,11 +152,11 @@ module _ (me b : List ℕ) (t : Tolerances) where
             let (low, high) = turn-size in
             let w = runOn (stage (next x)) (drop (u + n) input) in
             let one : f + suc (w .fields) ≡ f + 1 + w .fields = omega arith in
-            let same : z ≡ stage (next x) = sym (stage-again z next-later) ∙ ap (λ (v : Left Stepped). stage (next v)) here in
+            let same : z ≡ stage (next x) = sym (stage-again z next-later) ∙ ap (λ (v : Left (ReadSaid Along)). stage (next v)) here in
             record {
               within = high;
               fewer = omega (arith, h .fewer);
-              ready = subst (λ (v : Left Stepped). Ready me p (next v)) here (ready-again z next-later (h .ready));
+              ready = subst (λ (v : Left (ReadSaid Along)). Ready me p (next v)) here (ready-again z next-later (h .ready));
               rest =
                   h .rest
                   ∙ ap (behind f u) (first-then tags takeOn (stage y) i z n goes)
@@ -168,11 +165,11 @@ module _ (me b : List ℕ) (t : Tolerances) where
             }
 
       -- it accepts none
-      pub turn-end : n ≡ 0 → passage (next x) f u (x .answer .step) ≡ passageLeft (runOn (stage y₀) input)
+      pub turn-end : n ≡ 0 → passage (next x) f u (x .answer .says) ≡ passageLeft (runOn (stage y₀) input)
       turn-end none =
           let o = reply-off (stage y) reply (λ w m d. move-size tags takeOn (stage y) i w m d .0) (sym bytes-is ∙ none) in
           let same : y ≡ next x =
           (λ j. record { answer = along-is me b t (y .answer) (y .memory .ledger) (y .memory .map) (h .ready .kept) j; memory = y .memory })
           ∙ ap alongLeft (sym (o .same)) ∙ ap next here in
-          (λ j. passage (sym same j) f u ((ap (λ (v : Left Stepped). v .answer .step) (sym here) ∙ sym (o .last)) j))
+          (λ j. passage (sym same j) f u ((ap (λ (v : Left (ReadSaid Along)). v .answer .says) (sym here) ∙ sym (o .last)) j))
           ∙ ended y f u (o .end) (h .ready) (h .rest ∙ ap (behind f u) (first-ends tags takeOn (stage y) i (o .end) (o .move)))

@@ -20,6 +20,8 @@ use Rattle.rules.specs.Front.{Field, Front, frontOf, bytesOf}
 use Rattle.rules.specs.Machine.{taken, toField, replyAs, replyAt}
 use Rattle.rules.specs.Values.{samplesOf, momentAt, countIn, momentsIn}
 use Rattle.rules.specs.Record.{Content as Comes-in, ownSamples, brought, foreign, contentOf, fieldContent, answerBy}
+use Rattle.laws.specs.Answers.{Said, gives, refuses}
+use Rattle.laws.proofs.Answers.{known-by}
 use Rattle.laws.proofs.Carried.{In, here, there, ByRow, by-row, same-rows}
 use Rattle.laws.proofs.Contents.{not-first}
 use Rattle.laws.proofs.Says.{movesTo, Says, says, says-foreign}
@@ -35,11 +37,41 @@ use Rattle.contents.specs.declared.Content.the-variants.{Brought, Foreign, Refu
 use Rattle.contents.specs.declared.Bring.{Bring}
 use Rattle.contents.specs.declared.Bring.the-variants.{Samples, Before, After, Recharge}
 use Rattle.contents.specs.Content.{bringSaid, contentSaid, laterContent}
-use Rattle.reading.specs.declared.Step.{Step}
-use Rattle.reading.specs.declared.Step.the-variants.{Taken, Passed}
 use Rattle.reading.specs.declared.Along.{Along}
+use Rattle.reading.specs.declared.Passage.{Passage}
+use Rattle.reading.specs.declared.Step.{Step}
+use Rattle.reading.specs.declared.Step.the-variants as step
 use Rattle.reading.specs.declared.Stepped.{Stepped}
-use Rattle.reading.specs.Along.{alongOf, stageAlong, stageHere, alongLeft, steppedLeft, withPassed, withAmounts, placeOf, bringTaken, contentTaken, wholeTaken, frontTaken, Takes, Ready}
+use Rattle.reading.specs.Answers.{FieldRead, reads, passes, unfinished, stepSaid, ReadSaid, AllSaid}
+use Rattle.reading.specs.Along.{steppedSaid, passageSaid, alongOf, stageAlong, stageHere, alongLeft, steppedLeft, withPassed, withAmounts, placeOf, bringTaken, contentTaken, wholeTaken, frontTaken, Takes, Ready}
+
+-- ---- answers that say the same are the same
+
+pub same-step : (x y : Step) → stepSaid x ≡ stepSaid y → x ≡ y
+same-step = known-by stepSaid back known
+  where
+    back : Said FieldRead → Step
+    back (gives (reads n)) = step.Taken n
+    back (gives (passes n)) = step.Passed n
+    back (gives unfinished) = step.Incomplete
+    back (refuses n) = step.Refused n
+
+    known : (x : Step) → back (stepSaid x) ≡ x
+    known (step.Taken n) = refl
+    known (step.Passed n) = refl
+    known step.Incomplete = refl
+    known (step.Refused n) = refl
+
+pub same-stepped : (x y : Stepped) → steppedSaid x ≡ steppedSaid y → x ≡ y
+same-stepped x y e =
+    let step-is = same-step (x .step) (y .step) (ap (λ (z : ReadSaid Along). z .says) e) in
+    let along-same = ap (λ (z : ReadSaid Along). z .state) e in
+    λ i. record { step = step-is i; along = along-same i }
+
+pub same-passage : (x y : Passage) → passageSaid x ≡ passageSaid y → x ≡ y
+same-passage x y e =
+    let last-is = same-step (x .last) (y .last) (ap (λ (z : AllSaid Along). z .last) e) in
+    λ i. record { along = e i .state; fields = e i .fields; used = e i .used; last = last-is i }
 
 -- a place counted from the start
 pub from-start : (p : ℕ) → p ≡ behindTolerances + p - behindTolerances
@@ -83,24 +115,24 @@ module _ (b : List ℕ) (t : Tolerances) (k : Along) (l : List ℤ) (m : List �
   -- ---- the content of a field, of n bytes
 
   module _ (v : List ℕ) (n : ℕ) where
-    pub by-content : {c d : Content} {y : Left Stepped} → c ≡ d → y ≡ contentTaken b t k l m v d n → y ≡ contentTaken b t k l m v c n
+    pub by-content : {c d : Content} {y : Left (ReadSaid Along)} → c ≡ d → y ≡ contentTaken b t k l m v d n → y ≡ contentTaken b t k l m v c n
     by-content e h = h ∙ ap (λ (x : Content). contentTaken b t k l m v x n) (sym e)
 
-    abbrev afterBring : Left Along → Left Stepped
-    afterBring y = record { answer = record { step = Taken n; along = y .answer }; memory = y .memory }
+    abbrev afterBring : Left Along → Left (ReadSaid Along)
+    afterBring y = record { answer = record { says = gives (reads n); state = y .answer }; memory = y .memory }
 
     pub brought-taken : (g : Bring) {y : Left Along} → y ≡ bringTaken b t k l m v g → afterBring y ≡ contentTaken b t k l m v (Brought g) n
     brought-taken g e = ap afterBring e
 
-    pub passed-taken : Kept p (left (k .going) l m) → {r : Along} → r ≡ withPassed k → left {A = Stepped} (record { step = Passed n; along = r }) l m ≡ contentTaken b t k l m v Foreign n
+    pub passed-taken : Kept p (left (k .going) l m) → {r : Along} → r ≡ withPassed k → left {A = ReadSaid Along} (record { says = gives (passes n); state = r }) l m ≡ contentTaken b t k l m v Foreign n
     passed-taken h e =
-        (λ i. left {A = Stepped} (record { step = Passed n; along = e i }) l m)
-        ∙ (λ i. left {A = Stepped} (record { step = Passed n; along = record { place = from-start (k .place) i; passed = k .passed + 1; amounts = k .amounts; going = h .stands i } }) l m)
+        (λ i. left {A = ReadSaid Along} (record { says = gives (passes n); state = e i }) l m)
+        ∙ (λ i. left {A = ReadSaid Along} (record { says = gives (passes n); state = record { place = from-start (k .place) i; passed = k .passed + 1; amounts = k .amounts; going = h .stands i } }) l m)
 
   -- where nothing is taken
-  pub unmoved : (me : List ℕ) → Kept p (left (k .going) l m) → (s : Step)
-      → left {A = Stepped} (record { step = s; along = k }) l m ≡ record { answer = record { step = s; along = alongOf (stageAlong me b t k l m) }; memory = stageAlong me b t k l m .run .memory }
-  unmoved me h s = λ i. record { answer = record { step = s; along = along-is me b t k l m h i }; memory = held (k .going) l m .memory }
+  pub unmoved : (me : List ℕ) → Kept p (left (k .going) l m) → (s : Said FieldRead)
+      → left {A = ReadSaid Along} (record { says = s; state = k }) l m ≡ record { answer = record { says = s; state = alongOf (stageAlong me b t k l m) }; memory = stageAlong me b t k l m .run .memory }
+  unmoved me h s = λ i. record { answer = record { says = s; state = along-is me b t k l m h i }; memory = held (k .going) l m .memory }
 
   module _ (me : List ℕ) where
     abbrev x : Stage
@@ -174,7 +206,7 @@ module _ (b : List ℕ) (t : Tolerances) (k : Along) (l : List ℤ) (m : List �
           → contentTaken b t k l m (f .value) d (bytesOf f)
           ≡ steppedLeft x (toField (answerBy (bringOn x (placeAfter tags (x .place) (f .tag) (f .value))) (passOn x) (contentSaid (f .value) d)) (bytesOf f))
       same-answer (Brought g) d =
-          (λ i. let y = same-brought (behindTolerances + placeOf g) g i in record { answer = record { step = Taken (bytesOf f); along = y .answer }; memory = y .memory })
+          (λ i. let y = same-brought (behindTolerances + placeOf g) g i in record { answer = record { says = gives (reads (bytesOf f)); state = y .answer }; memory = y .memory })
           ∙ ap (λ (q : ℕ). steppedLeft x (toField (taken (bringOn x q (bringSaid (f .value) g))) (bytesOf f))) (sym (says-it g d .1 ∙ moves-to g))
       same-answer Foreign d = refl
       same-answer (Refused n) d = refl
@@ -185,7 +217,7 @@ module _ (b : List ℕ) (t : Tolerances) (k : Along) (l : List ℤ) (m : List �
           ∙ ap (λ (y : Comes-in). steppedLeft x (toField (answerBy (bringOn x (placeAfter tags (x .place) (f .tag) (f .value))) (passOn x) y) (bytesOf f))) (e ∙ sym (later-is f))
 
     -- ---- the field at the front of the input, by what stands there
-    module _ (i : List ℕ) {y : Left Stepped} where
+    module _ (i : List ℕ) {y : Left (ReadSaid Along)} where
       pub front-taken : {w : Front} → frontOf tags i ≡ w → y ≡ steppedLeft x (replyAs tags takeOn x w) → y ≡ frontTaken b t k l m me i
       unfolding replyAt
       front-taken e h = h ∙ ap (λ (w : Front). steppedLeft x (replyAs tags takeOn x w)) (sym e)

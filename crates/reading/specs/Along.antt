@@ -25,7 +25,8 @@ use Rattle.contents.specs.declared.Bring.{Bring}
 use Rattle.contents.specs.declared.Bring.the-variants.{Samples, Before, After, Recharge}
 use Rattle.contents.specs.Content.{bringSaid, contentSaid}
 use Rattle.reading.specs.declared.Reading.{Reading}
-use Rattle.reading.specs.Answers.{stepOf, lastOf}
+use Rattle.laws.specs.Answers.{endSaid}
+use Rattle.reading.specs.Answers.{unfinished, stepSaid, replySaid, ReadSaid, AllSaid}
 pub use Rattle.reading.specs.declared.Along.{Along}
 pub use Rattle.reading.specs.declared.Stepped.{Stepped}
 pub use Rattle.reading.specs.declared.Passage.{Passage}
@@ -57,16 +58,23 @@ alongOf x = record {
   going = standing (x .cycle) (x .tolerances .time) (x .run .progress);
 }
 
+-- what the answers say
+abbrev pub steppedSaid : Stepped → ReadSaid Along
+steppedSaid x = record { says = stepSaid (x .step); state = x .along }
+
+abbrev pub passageSaid : Passage → AllSaid Along
+passageSaid x = record { state = x .along; fields = x .fields; used = x .used; last = stepSaid (x .last) }
+
 -- with the memory that is left: of a state, of the answer y to a field, of all
 abbrev pub alongLeft : Stage → Left Along
 alongLeft x = record { answer = alongOf x; memory = x .run .memory }
 
-abbrev pub steppedLeft : Stage → Reply Stage → Left Stepped
-steppedLeft x y = let z = stageAfter x y in record { answer = record { step = stepOf y; along = alongOf z }; memory = z .run .memory }
+abbrev pub steppedLeft : Stage → Reply Stage → Left (ReadSaid Along)
+steppedLeft x y = let z = stageAfter x y in record { answer = record { says = replySaid y; state = alongOf z }; memory = z .run .memory }
 
-abbrev pub passageLeft : Ran Stage → Left Passage
+abbrev pub passageLeft : Ran Stage → Left (AllSaid Along)
 passageLeft y = record {
-  answer = record { along = alongOf (y .state); fields = y .fields; used = y .used; last = lastOf (y .end) };
+  answer = record { state = alongOf (y .state); fields = y .fields; used = y .used; last = endSaid unfinished (y .end) };
   memory = y .state .run .memory;
 }
 
@@ -98,18 +106,18 @@ module _ (b : List ℕ) (t : Tolerances) (k : Along) (l : List ℤ) (m : List �
   bringTaken v c = alongLeft (bringOn stageHere (behindTolerances + placeOf c) (bringSaid v c))
 
   -- the content c of the value v, in a field of n bytes
-  abbrev pub contentTaken : List ℕ → Content → ℕ → Left Stepped
+  abbrev pub contentTaken : List ℕ → Content → ℕ → Left (ReadSaid Along)
   contentTaken v c n = steppedLeft stageHere (toField (answerBy (bringOn stageHere (behindTolerances + placeBy c)) (passOn stageHere) (contentSaid v c)) n)
 
   module _ (me : List ℕ) where
     -- a whole field, the field at the front of the input, and all of its whole fields
-    abbrev pub wholeTaken : Field → Left Stepped
+    abbrev pub wholeTaken : Field → Left (ReadSaid Along)
     wholeTaken f = let x = stageAlong me b t k l m in steppedLeft x (toField (takeOn x f) (front.bytesOf f))
 
-    abbrev pub frontTaken : List ℕ → Left Stepped
+    abbrev pub frontTaken : List ℕ → Left (ReadSaid Along)
     frontTaken i = let x = stageAlong me b t k l m in steppedLeft x (replyOn x i)
 
-    abbrev pub allTaken : List ℕ → Left Passage
+    abbrev pub allTaken : List ℕ → Left (AllSaid Along)
     allTaken i = passageLeft (runOn (stageAlong me b t k l m) i)
 
 -- what a value v brings may be taken

@@ -10,9 +10,10 @@ use Rattle.rules.specs.Bench.{mostPassed}
 use Rattle.values.specs.Limits.{areAmounts}
 use Rattle.rules.specs.Regular.{Plan, plan}
 use Rattle.rules.specs.Table.{behindTolerances}
-use Rattle.rules.specs.Machine.{Reply, toField, notYet, noField, taken, passed, refused, End, waiting, broken, stopped}
+use Rattle.rules.specs.Machine.{Reply, toField, notYet, noField, taken, passed, refused}
 use Rattle.rules.specs.Values.{isNumber}
 use Rattle.rules.specs.Record.{noAmounts}
+use Rattle.laws.specs.Answers.{Said, gives, refuses}
 use Rattle.state.specs.declared.Run.{Run}
 use Rattle.state.specs.State.{ground}
 use Rattle.step.specs.Step.{stateOf, withProgress}
@@ -52,28 +53,46 @@ readingOf r x = record {
 abbrev pub readingPlan : Reading → List ℕ → Plan
 readingPlan r b = plan b (r .run .track .tolerances)
 
--- ---- the answers
+-- ---- what the answers say
 
--- to the field at the front
-abbrev pub stepOf : Reply Stage → Step
-stepOf (toField (taken x) n) = Taken n
-stepOf (toField (passed x) n) = Passed n
-stepOf (toField (refused k) n) = Refused k
-stepOf notYet = Incomplete
-stepOf noField = Refused 8
+-- a field is taken, or "passed over", of so many bytes; or "incomplete"
+pub data FieldRead : Type 0 where
+  reads : ℕ → FieldRead
+  passes : ℕ → FieldRead
+  unfinished : FieldRead
 
--- after the last accepted field
-abbrev pub lastOf : End → Step
-lastOf waiting = Incomplete
-lastOf broken = Refused 8
-lastOf (stopped n) = Refused n
+-- what the cases say
+abbrev pub stepSaid : Step → Said FieldRead
+stepSaid (Taken n) = gives (reads n)
+stepSaid (Passed n) = gives (passes n)
+stepSaid Incomplete = gives unfinished
+stepSaid (Refused n) = refuses n
+
+-- what the machine says of the field at the front
+abbrev pub replySaid : Reply Stage → Said FieldRead
+replySaid (toField (taken x) n) = gives (reads n)
+replySaid (toField (passed x) n) = gives (passes n)
+replySaid (toField (refused k) n) = refuses k
+replySaid notYet = gives unfinished
+replySaid noField = refuses 8
 
 -- how many bytes an accepted field has; 0 where the answer accepts none
-abbrev pub bytesOf : Step → ℕ
-bytesOf (Taken n) = n
-bytesOf (Passed n) = n
-bytesOf Incomplete = 0
-bytesOf (Refused x) = 0
+abbrev pub bytesOf : Said FieldRead → ℕ
+bytesOf (gives (reads n)) = n
+bytesOf (gives (passes n)) = n
+bytesOf (gives unfinished) = 0
+bytesOf (refuses n) = 0
+
+-- with what is left of a state: of one field, and of all, how many they are, how many bytes they have, and what is said after the last of them
+pub record ReadSaid (S : Type 0) : Type 0 where
+  pub says : Said FieldRead
+  pub state : S
+
+pub record AllSaid (S : Type 0) : Type 0 where
+  pub state : S
+  pub fields : ℕ
+  pub used : ℕ
+  pub last : Said FieldRead
 
 -- ---- before all else
 

@@ -23,10 +23,10 @@ ghost use lib.ListN.{length};
 ghost use Rattle.rules.specs.Cycle.{valid, seconds};
 ghost use Rattle.rules.specs.Bench.{mostTimeTolerance, mostPassed};
 ghost use Rattle.rules.specs.Table.{lengthAllowed, tags};
-ghost use Rattle.reading.specs.Answers.{bytesOf, isReading, readGround};
+ghost use Rattle.reading.specs.Answers.{stepSaid, bytesOf, isReading, readGround};
 ghost use Rattle.rules.specs.Regular.{plan};
 ghost use Rattle.state.specs.State.{left};
-ghost use Rattle.reading.specs.Along.{alongAt, withAlong, withPassed, withAmounts, bringTaken, contentTaken, wholeTaken, frontTaken, allTaken, Brings, Takes, Ready};
+ghost use Rattle.reading.specs.Along.{alongAt, steppedSaid, passageSaid, withAlong, withPassed, withAmounts, bringTaken, contentTaken, wholeTaken, frontTaken, allTaken, Brings, Takes, Ready};
 
 // After the start. Place in the order: 0 after the tolerances, 1 after a 6 before, 2 after an own block, 3 after a 6 after, 4 after a 7.
 pub struct Reading {
@@ -209,7 +209,7 @@ fn take_content(
 ) -> Stepped
     requires { ⌜ Takes (plan (now cycle) t) (left k (now ledger) (now map)) (now v) c ⌝ }
     ensures { λ r. ⌜
-        left r (now (ledger .exit)) (now (map .exit))
+        left (steppedSaid r) (now (ledger .exit)) (now (map .exit))
         ≡ contentTaken (now (cycle .entry)) t k (now (ledger .entry)) (now (map .entry)) (now (v .entry)) c n
         ⌝ }
 {
@@ -242,7 +242,7 @@ fn whole_field(
 ) -> Stepped
     requires { ⌜ Ready (now me) (plan (now cycle) t) (left k (now ledger) (now map)) × (lengthAllowed tags tag (length (now v)) ≡ true) ⌝ }
     ensures { λ r. ⌜
-        left r (now (ledger .exit)) (now (map .exit))
+        left (steppedSaid r) (now (ledger .exit)) (now (map .exit))
         ≡ wholeTaken (now (cycle .entry)) t k (now (ledger .entry)) (now (map .entry)) (now (me .entry)) (record { tag = tag; value = now (v .entry) })
         ⌝ }
 {
@@ -263,7 +263,7 @@ pub fn one_field(
 ) -> Stepped
     requires { ⌜ Ready (now me) (plan (now cycle) t) (left k (now ledger) (now map)) ⌝ }
     ensures { λ r. ⌜
-        left r (now (ledger .exit)) (now (map .exit))
+        left (steppedSaid r) (now (ledger .exit)) (now (map .exit))
         ≡ frontTaken (now (cycle .entry)) t k (now (ledger .entry)) (now (map .entry)) (now (me .entry)) (now (input .entry))
         ⌝ }
 {
@@ -294,7 +294,7 @@ pub fn one_field(
 
 // How many bytes an accepted field has; 0 where the answer accepts none.
 fn bytes_of(step: Step) -> usize
-    ensures { λ r. ⌜ r ≡ bytesOf step ⌝ }
+    ensures { λ r. ⌜ r ≡ bytesOf (stepSaid step) ⌝ }
 {
     match step {
         Step::Taken(n) => n,
@@ -316,7 +316,7 @@ pub fn all_fields(
 ) -> Passage
     requires { ⌜ Ready (now me) (plan (now cycle) t) (left k (now ledger) (now map)) ⌝ }
     ensures { λ r. ⌜
-        left r (now (ledger .exit)) (now (map .exit))
+        left (passageSaid r) (now (ledger .exit)) (now (map .exit))
         ≡ allTaken (now (cycle .entry)) t k (now (ledger .entry)) (now (map .entry)) (now (me .entry)) (now (input .entry))
         ⌝ }
 {

@@ -35,7 +35,6 @@ use Rattle.state.specs.State.{lent, ground}
 use Rattle.state.specs.Refusals.{notBegun, startRefusal, started}
 use Rattle.step.specs.Step.{State, samplesTaken, startOf, withProgress}
 use Rattle.blocks.proofs.Accepted.{accepted-by}
-use Rattle.judge.proofs.Runs as runs
 use Rattle.judge.proofs.Runs.{Reached, run-shows, never-refused}
 use Rattle.records.specs.Stage.{Stage, withAmounts, isLong, contentOn, bringOn, passOn, takeOn, runOn}
 use Rattle.records.proofs.Later.{taken-list}

@@ -12,7 +12,7 @@ use Rattle.rules.specs.Closing.{isCharge, chargedBy}
 use Rattle.state.specs.Refusals.{cyclesBy}
 use Rattle.ledger.specs.Row.{energyIn, distanceIn}
 use Rattle.numbers.proofs.Tests.{settled-taken}
-use Rattle.rules.specs.declared.Figure.{Figure}
+use Rattle.laws.specs.Answers.{Said, Measure, figureSaid}
 use Rattle.consumption.specs.declared.Closed.{Closed}
 use Rattle.closing.specs.Answers.{whole, refusalOf, closingOf}
 use Rattle.consumption.specs.Figures.{rechargedBy}
@@ -32,10 +32,10 @@ module _ (c : tie.Else1) where
   found = c .before .before .closing-of .result
 
   -- the figure, by the recharge
-  abbrev by : Charge → Figure
-  by =
+  abbrev by : Charge → Said Measure
+  by charge =
       let l = start .args .ledger .now in
-      chargedBy E (cyclesBy (start .args .run)) (energyIn l) (distanceIn l) (start .args .amounts .after)
+      figureSaid (chargedBy E (cyclesBy (start .args .run)) (energyIn l) (distanceIn l) (start .args .amounts .after) charge)
 
   is-closing : found ≡ closingOf (start .args .run) (start .args .amounts) (start .args .cycle .now) (start .args .ledger .now) (start .args .map .now)
   is-closing = c .before .before .closing-of .ensures

@@ -17,9 +17,9 @@ use Rattle.numbers.proofs.Signed.{read, sum-fits, sum-read}
 use Rattle.wide.specs.Ratio.{ratio}
 use Rattle.wide.proofs.Answers.{is-quotient, over-quotient}
 use Rattle.rules.specs.Closing.{recharge, mostTransfer}
+use Rattle.laws.specs.Answers.{gives, is}
 use Rattle.laws.specs.Beside.{mostWhole}
 use Rattle.laws.proofs.Recharge.{twice}
-use Rattle.rules.specs.declared.Figure.the-variants.{Is}
 use Rattle.consumption.specs.Figures.{rechargedBy}
 use Rattle.consumption.proofs.Weights.{positive, cast}
 use Rattle.consumption.proofs.recharged.Statement.{statement}
@@ -96,7 +96,7 @@ returns-3 : tie.Need-returns-3
 unfolding rechargedBy
 returns-3 c =
     let k = c .before .before in
-    pass _ (some (k .before .before .before)) (pass _ (omega (tests, figure k)) (ap Is (figure k)))
+    pass _ (some (k .before .before .before)) (pass _ (omega (tests, figure k)) (ap (λ (n : ℕ). gives (is n)) (figure k)))
 
 returns-4 : tie.Need-returns-4
 unfolding rechargedBy

@@ -5,11 +5,12 @@ use Rattle.fields.proofs.front_of
 use Rattle.fields.proofs.is_value
 use Rattle.fields.proofs.is_number
 use Rattle.fields.proofs.is_same
+use Rattle.fields.proofs.Fronts.{same-front}
 use Rattle.demands.specs.Calls.{AsksNothing, OneAnswer}
 use Rattle.demands.proofs.NoDoubt.{same}
 
 pub front-of-one-answer : OneAnswer front_of.ended front_of.Reads.Learnt
-front-of-one-answer κs a r r′ w w′ p q = (same p q, refl)
+front-of-one-answer κs a r r′ w w′ p q = (same-front r r′ (same p q), refl)
 
 pub front-of-asks-nothing : AsksNothing front_of.ended front_of.Reads.Asked
 front-of-asks-nothing κs a = tt

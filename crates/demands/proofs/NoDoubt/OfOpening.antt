@@ -4,6 +4,8 @@ use mathlib.Core.Path.{refl, ap}
 use Rattle.opening.proofs.open_refusal
 use Rattle.opening.proofs.refused_at
 use Rattle.opening.proofs.open_whole
+use Rattle.opening.specs.Answers.{OpenLeft}
+use Rattle.opening.proofs.Starting.{same-opened}
 use Rattle.demands.specs.Calls.{AsksNothing, OneAnswer}
 use Rattle.demands.proofs.NoDoubt.{same}
 
@@ -14,10 +16,10 @@ pub open-refusal-asks-nothing : AsksNothing open_refusal.ended open_refusal.Read
 open-refusal-asks-nothing κs a = tt
 
 pub refused-at-one-answer : OneAnswer refused_at.ended refused_at.Reads.Learnt
-refused-at-one-answer κs a r r′ w w′ p q = (same p q, refl)
+refused-at-one-answer κs a r r′ w w′ p q = (same-opened r r′ (same p q), refl)
 
 pub refused-at-asks-nothing : AsksNothing refused_at.ended refused_at.Reads.Asked
 refused-at-asks-nothing κs a = tt
 
 pub open-whole-one-answer : OneAnswer open_whole.ended open_whole.Reads.Learnt
-open-whole-one-answer κs a r r′ w w′ p q = (ap (λ y. y .answer) (same p q), λ i. (tt, (same p q i .room, (same p q i .memory .ledger, (same p q i .memory .map, (tt, (tt, tt)))))))
+open-whole-one-answer κs a r r′ w w′ p q = (same-opened r r′ (ap (λ (y : OpenLeft). y .answer) (same p q)), λ i. (tt, (same p q i .room, (same p q i .memory .ledger, (same p q i .memory .map, (tt, (tt, tt)))))))

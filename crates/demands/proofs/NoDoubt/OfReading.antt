@@ -6,6 +6,10 @@ use Rattle.reading.proofs.with_along
 use Rattle.reading.proofs.along_at
 use Rattle.reading.proofs.one_field
 use Rattle.reading.proofs.all_fields
+use Rattle.state.specs.State.{Left}
+use Rattle.reading.specs.declared.Along.{Along}
+use Rattle.reading.specs.Answers.{ReadSaid, AllSaid}
+use Rattle.reading.proofs.Taking.{same-stepped, same-passage}
 use Rattle.demands.specs.Calls.{AsksNothing, OneAnswer}
 use Rattle.demands.proofs.NoDoubt.{same}
 
@@ -25,7 +29,7 @@ pub along-at-one-answer : OneAnswer along_at.ended along_at.Reads.Learnt
 along-at-one-answer κs a r r′ w w′ p q = (same p q, refl)
 
 pub one-field-one-answer : OneAnswer one_field.ended one_field.Reads.Learnt
-one-field-one-answer κs a r r′ w w′ p q = (ap (λ y. y .answer) (same p q), λ i. (tt, (tt, (tt, (tt, (same p q i .memory .ledger, (same p q i .memory .map, (tt, tt))))))))
+one-field-one-answer κs a r r′ w w′ p q = (same-stepped r r′ (ap (λ (y : Left (ReadSaid Along)). y .answer) (same p q)), λ i. (tt, (tt, (tt, (tt, (same p q i .memory .ledger, (same p q i .memory .map, (tt, tt))))))))
 
 pub all-fields-one-answer : OneAnswer all_fields.ended all_fields.Reads.Learnt
-all-fields-one-answer κs a r r′ w w′ p q = (ap (λ y. y .answer) (same p q), λ i. (tt, (tt, (tt, (tt, (same p q i .memory .ledger, (same p q i .memory .map, (tt, tt))))))))
+all-fields-one-answer κs a r r′ w w′ p q = (same-passage r r′ (ap (λ (y : Left (AllSaid Along)). y .answer) (same p q)), λ i. (tt, (tt, (tt, (tt, (same p q i .memory .ledger, (same p q i .memory .map, (tt, tt))))))))

@@ -2,8 +2,7 @@
 -- Assumes nothing.
 use mathlib.Core.Path.{sym, ap, _∙_}
 use borrow.Author.Needs.{needs}
-use Rattle.desk.specs.declared.Fed.{Fed}
-use Rattle.desk.specs.Feeding.{Laid, laidOf, fedLeft}
+use Rattle.desk.specs.Feeding.{FedSaid, Laid, laidOf, fedOn}
 use Rattle.desk.proofs.Grounds.{ground-steady, feed-stops}
 use Rattle.desk.proofs.feed.Statement.{statement}
 use Rattle.desk.proofs.feed.Tie as tie
@@ -34,7 +33,7 @@ returns c =
     let x = c .before .before in
     let s = entry x in
     let a = s .args in
-    ap (λ (f : Fed). fedLeft f (a .room .now) (a .ledger .now) (a .map .now)) (c .stopped .ensures)
+    ap (λ (f : FedSaid). fedOn f (a .room .now) (a .ledger .now) (a .map .now)) (c .stopped .ensures)
     ∙ feed-stops (laid s) (a .input .now) (x .desk-refusal .ensures) (c .before .if1 .taken)
 
 feed-on-requires : tie.Need-feed-on-requires

@@ -25,7 +25,7 @@ returns : tie.Need-returns
 returns c =
     let x = c .before .before .before .before .before .before in
     let a = x .before .before .before .before .before .before .before .before .args in
-    one-left (laidOf (a .desk) (a .room .now) (a .ledger .now) (a .map .now)) (a .input .now) (x .«open» .ensures) (c .opened .ensures)
+    one-left (laidOf (a .desk) (a .room .now) (a .ledger .now) (a .map .now)) (a .input .now) (x .«open» .result) (x .«open» .ensures) (c .opened .ensures)
 
 pub open-one-spec : {M : Type 1} → statement M
 open-one-spec =

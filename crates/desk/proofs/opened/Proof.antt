@@ -4,7 +4,7 @@ use mathlib.Core.Bool.{true}
 use mathlib.Core.Path.{refl}
 use Prim.Native.Nat.{_+_}
 use borrow.Author.Needs.{needs}
-use Rattle.desk.specs.declared.Outcome.the-variants.{More}
+use Rattle.desk.specs.Feeding.{wanted}
 use Rattle.desk.proofs.Turns.{opens-by}
 use Rattle.desk.proofs.opened.Statement.{statement}
 use Rattle.desk.proofs.opened.Tie as tie
@@ -43,7 +43,7 @@ returns-2 : tie.Need-returns-2
 returns-2 c =
     let a = c .before .before .before .before .before .before .before .args in
     opens-by (a .desk) (a .answer .opening) (c .before .before .before .step2 .given .1) (λ i. record {
-      outcome = More;
+      outcome = wanted;
       used = c .before .before .before .step2 .given .0 .0;
       desk = record { started = true; opening = a .answer .opening; reading = c .before .reading-of .ensures i; fields = a .desk .fields + 1 };
     })

@@ -2,6 +2,8 @@
 -- Assumes nothing.
 use mathlib.Core.Path.{sym, ap}
 use borrow.Author.Needs.{needs}
+use Rattle.reading.specs.declared.Step.{Step}
+use Rattle.reading.specs.Answers.{stepSaid}
 use Rattle.desk.specs.Feeding.{outcomeBy}
 use Rattle.desk.proofs.outcome_of.Statement.{statement}
 use Rattle.desk.proofs.outcome_of.Tie as tie
@@ -28,7 +30,7 @@ returns-3 : tie.Need-returns-3
 returns-3 c = search needs
 
 returns-4 : tie.Need-returns-4
-returns-4 c = ap outcomeBy (sym (c .before .step .given .1))
+returns-4 c = ap (λ (s : Step). outcomeBy (stepSaid s)) (sym (c .before .step .given .1))
 
 pub outcome-of-spec : {M : Type 1} → statement M
 outcome-of-spec =

@@ -50,7 +50,7 @@ returns-2 c =
     let known = c .before .before in
     let summed = known .before .before in
     let a = entry summed .args in
-    absurd (sums-not-refused (a .reading) (a .cycle .now) (a .ledger .now) (a .map .now) (passed summed) (sym (summed .totals .ensures) ∙ known .answer .given .1))
+    absurd (sums-not-refused (a .reading) (a .cycle .now) (a .ledger .now) (a .map .now) (passed summed) (summed .totals .result) (summed .totals .ensures) (known .answer .given .1))
 
 returns-3 : tie.Need-returns-3
 returns-3 c =
@@ -58,7 +58,7 @@ returns-3 c =
     let summed = known .before .before in
     let a = entry summed .args in
     (λ i. record { refusal = 0; figures = c .figures-with .ensures i })
-    ∙ sums-taken (a .reading) (a .cycle .now) (a .ledger .now) (a .map .now) (passed summed) _ (sym (summed .totals .ensures) ∙ known .answer2 .given .1)
+    ∙ sums-taken (a .reading) (a .cycle .now) (a .ledger .now) (a .map .now) (passed summed) (summed .totals .result) (summed .totals .ensures) (known .answer2 .given .1)
 
 pub figures-of-spec : {M : Type 1} → statement M
 figures-of-spec =

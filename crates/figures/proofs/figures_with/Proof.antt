@@ -4,6 +4,7 @@ use borrow.Author.Needs.{needs}
 use mir.Syntax.{w64}
 use mir.Val.{SFits}
 use Rattle.numbers.proofs.Signed.{read}
+use Rattle.figures.proofs.Answered.{weighted-is, range-is, ac-is}
 use Rattle.figures.proofs.figures_with.Statement.{statement}
 use Rattle.figures.proofs.figures_with.Tie as tie
 
@@ -37,9 +38,9 @@ returns c =
       outside = read (outside-fits c) i;
       passed = entry c .args .passed;
       drawn = read (drawn-fits c) i;
-      weighted = c .before .before .before .weighted .ensures i;
-      range = c .before .before .range .ensures i;
-      ac = c .before .recharge .ensures i;
+      weighted = weighted-is _ _ _ _ _ (c .before .before .before .weighted .result) (c .before .before .before .weighted .ensures) i;
+      range = range-is _ _ _ _ _ (c .before .before .range .result) (c .before .before .range .ensures) i;
+      ac = ac-is _ _ _ _ _ (c .before .recharge .result) (c .before .recharge .ensures) i;
     }
 
 pub figures-with-spec : {M : Type 1} → statement M

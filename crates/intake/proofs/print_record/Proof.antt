@@ -1,7 +1,7 @@
 -- `intake::print_record` meets its contract: the line of the refused field, or what is printed where the input ends.
 -- Assumes nothing.
 use mathlib.Core.Path.{sym, ap}
-use Rattle.desk.specs.declared.Outcome.{Outcome}
+use Rattle.laws.specs.Answers.{Said}
 use Rattle.desk.specs.Feeding.{Laid, laidOf}
 use Rattle.prints.proofs.Texts.{as-text}
 use Rattle.intake.specs.Turns.{outcomeBy, textOf}
@@ -27,7 +27,7 @@ returns c =
     let line = c .before .before in
     let known = line .before .before .before in
     let s = known .before .before .before .before .before .before in
-    as-text (s .args .lines .now) (ap (λ (o : Outcome). textOf o (laid s) (s .args .t .held)) (sym (ap outcomeBy (known .turned .given .1)))) (line .refuse .ensures)
+    as-text (s .args .lines .now) (ap (λ (o : Said (Unit {0})). textOf o (laid s) (s .args .t .held)) (sym (ap outcomeBy (known .turned .given .1)))) (line .refuse .ensures)
 
 close-requires : tie.Need-close-requires
 close-requires c κs = search needs
@@ -40,7 +40,7 @@ returns-2 c =
     let lines = c .before .before in
     let other = lines .before .before in
     let s = other .before .before .before .before .before in
-    as-text (s .args .lines .now) (ap (λ (o : Outcome). textOf o (laid s) (s .args .t .held)) (sym (not-refused (s .args .t .turned) (other .match .keys2)))) (lines .close .ensures)
+    as-text (s .args .lines .now) (ap (λ (o : Said (Unit {0})). textOf o (laid s) (s .args .t .held)) (sym (not-refused (s .args .t .turned) (other .match .keys2)))) (lines .close .ensures)
 
 pub print-record-spec : {M : Type 1} → statement M
 print-record-spec =

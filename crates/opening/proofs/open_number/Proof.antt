@@ -5,7 +5,8 @@ use Prim.Native.Nat.{_+_}
 use borrow.Author.Needs.{needs}
 use borrow.Author.Tests.{not-true, not-false}
 use Rattle.numbers.proofs.Tests.{pass, stop}
-use Rattle.opening.specs.declared.OpenStep.the-variants.{Taken}
+use Rattle.laws.specs.Answers.{gives}
+use Rattle.opening.specs.Answers.{opens}
 use Rattle.opening.proofs.open_number.Statement.{statement}
 use Rattle.opening.proofs.open_number.Tie as tie
 
@@ -29,7 +30,7 @@ returns-2 c =
     let e = c .before .before in
     let a = e .before .before .before .args in
     pass _ (sym (e .before .is-number .ensures) ∙ not-false _ (e .if1 .left))
-    (λ i. record { step = Taken (a .n); opening = record { fields = a .o .fields + 1; vehicle = c .characters-of .ensures i; cycle = a .o .cycle } })
+    (λ i. record { says = gives (opens (a .n)); opening = record { fields = a .o .fields + 1; vehicle = c .characters-of .ensures i; cycle = a .o .cycle } })
 
 pub open-number-spec : {M : Type 1} → statement M
 open-number-spec =

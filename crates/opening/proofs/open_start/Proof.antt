@@ -40,7 +40,7 @@ returns c =
     let start = known .before .before .before .before .before in
     let t = start .before .before .before in
     let a = t .before .before .before .before .before .args in
-    start-refused (a .o) (a .room .now) (a .ledger .now) (a .map .now) (a .v .now) (a .n) (t .tolerances-of .ensures) (start .start .ensures)
+    start-refused (a .o) (a .room .now) (a .ledger .now) (a .map .now) (a .v .now) (a .n) (t .tolerances-of .ensures) _ (start .start .ensures)
     (known .answer .given .1) (c .refused-at .ensures)
 
 same-length-3 : tie.Need-same-length-3
@@ -55,7 +55,7 @@ returns-2 c =
     let start = known .before .before .before .before .before in
     let t = start .before .before .before in
     let a = t .before .before .before .before .before .args in
-    start-taken (a .o) (a .room .now) (a .ledger .now) (a .map .now) (a .v .now) (a .n) (t .tolerances-of .ensures) (start .start .ensures)
+    start-taken (a .o) (a .room .now) (a .ledger .now) (a .map .now) (a .v .now) (a .n) (t .tolerances-of .ensures) _ (start .start .ensures)
     (known .answer2 .given .1) (c .with-field .ensures)
 
 pub open-start-spec : {M : Type 1} → statement M

@@ -1,7 +1,8 @@
 -- `prints::close` meets its contract: 1 and 2 before all else, then by whether the input may end here.
 -- Assumes nothing.
-use mathlib.Core.Path.{_≡_, sym, _∙_}
+use mathlib.Core.Path.{_≡_, sym, ap, _∙_}
 use borrow.Author.Needs.{needs}
+use Rattle.reader.specs.Answers.{endingSaid}
 use Rattle.reader.proofs.Endings.{only-whole}
 use Rattle.desk.specs.Feeding.{Laid, laidOf, deskGround}
 use Rattle.desk.proofs.Grounds.{cycle-fits}
@@ -52,7 +53,7 @@ print-run-requires c κs =
     let told = c .before in
     let end = told .before .before in
     let s = entry (end .before .before) in
-    cycle-fits (laid s) (passed (end .before)) (only-whole (s .args .desk .started) (s .args .left) (sym (end .ended .ensures) ∙ told .enum-told .given .1) .0)
+    cycle-fits (laid s) (passed (end .before)) (only-whole (s .args .desk .started) (s .args .left) (sym (end .ended .ensures) ∙ ap endingSaid (told .enum-told .given .1)) .0)
 
 same-length-2 : tie.Need-same-length-2
 same-length-2 c = search needs
@@ -63,7 +64,7 @@ returns-2 c =
     let known = line .before .before .before in
     let end = known .before .before in
     let s = entry (end .before .before) in
-    as-text (s .args .out .now) (by-ending (laid s) (s .args .left) (passed (end .before)) _ _ (end .ended .ensures) (known .ending .given .1)) (line .refuse2 .ensures)
+    as-text (s .args .out .now) (by-ending (laid s) (s .args .left) (passed (end .before)) (end .ended .ensures) (known .ending .given .1)) (line .refuse2 .ensures)
 
 same-length-3 : tie.Need-same-length-3
 same-length-3 c = search needs
@@ -74,7 +75,7 @@ returns-3 c =
     let told = lines .before .before in
     let end = told .before .before in
     let s = entry (end .before .before) in
-    as-text (s .args .out .now) (by-ending (laid s) (s .args .left) (passed (end .before)) _ _ (end .ended .ensures) (told .enum-told .given .1)) (lines .print-run .ensures)
+    as-text (s .args .out .now) (by-ending (laid s) (s .args .left) (passed (end .before)) (end .ended .ensures) (told .enum-told .given .1)) (lines .print-run .ensures)
 
 pub close-spec : {M : Type 1} → statement M
 close-spec =

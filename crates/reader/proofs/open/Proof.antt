@@ -5,7 +5,8 @@ use native.Mathlib.Omega.{arith}
 use borrow.Author.Needs.{needs}
 use Rattle.laws.proofs.Tags.{sizes}
 use Rattle.fields.proofs.Fronts.{Whole, said-whole, said-incomplete, said-impossible}
-use Rattle.opening.specs.Answers.{openGround, openLeft}
+use Rattle.state.specs.State.{lent}
+use Rattle.opening.specs.Answers.{openGround}
 use Rattle.opening.proofs.Starting.{ground-refuses, ground-passes}
 use Rattle.reader.proofs.open.Statement.{statement}
 use Rattle.reader.proofs.open.Tie as tie
@@ -22,7 +23,7 @@ abbrev tested : tie.After-front → tie.Else1
 tested c = c .before .before .before
 
 whole : (c : tie.After-front) → Whole (entry (tested c) .args .input .now) (c .front .given .0 .0) (c .front .given .0 .1 .0)
-whole c = said-whole _ _ _ (sym (c .before .before .front-of .ensures) ∙ c .front .given .1)
+whole c = said-whole _ _ _ (c .before .before .front-of .ensures) (c .front .given .1)
 
 open-refusal-requires : tie.Need-open-refusal-requires
 open-refusal-requires c κs = search needs
@@ -79,7 +80,7 @@ returns-2 c =
     let front = c .before .before in
     let a = entry (front .before) .args in
     ground-passes (a .opening) (a .room .now) (a .ledger .now) (a .map .now) (a .input .now) (passed (front .before))
-    (said-incomplete _ (sym (front .front-of .ensures) ∙ c .enum-told .given .1)) refl
+    (said-incomplete _ (front .front-of .ensures) (c .enum-told .given .1)) refl
 
 same-length-3 : tie.Need-same-length-3
 same-length-3 c = search needs
@@ -90,7 +91,7 @@ returns-3 c =
     let front = told .before .before in
     let a = entry (front .before) .args in
     ground-passes (a .opening) (a .room .now) (a .ledger .now) (a .map .now) (a .input .now) (passed (front .before))
-    (said-impossible _ (sym (front .front-of .ensures) ∙ told .enum-told2 .given .1)) (λ i. openLeft (c .refused-at2 .ensures i) (a .room .now) (a .ledger .now) (a .map .now))
+    (said-impossible _ (front .front-of .ensures) (told .enum-told2 .given .1)) (λ i. record { answer = c .refused-at2 .ensures i; room = a .room .now; memory = lent (a .ledger .now) (a .map .now) })
 
 same-length-4 : tie.Need-same-length-4
 same-length-4 c = search needs

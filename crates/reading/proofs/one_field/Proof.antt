@@ -1,11 +1,11 @@
 -- `reading::one_field` meets its contract: what stands at the front is answered, and a whole field is taken.
 -- Assumes nothing.
-use mathlib.Core.Path.{sym, _∙_}
 use native.Mathlib.Omega.{arith}
 use borrow.Author.Needs.{needs}
 use Rattle.laws.proofs.Tags.{sizes}
 use Rattle.fields.proofs.Fronts.{Whole, said-whole, said-incomplete, said-impossible}
-use Rattle.reading.specs.declared.Step.the-variants as step
+use Rattle.laws.specs.Answers.{gives, refuses}
+use Rattle.reading.specs.Answers.{unfinished}
 use Rattle.reading.proofs.Taking.{unmoved, front-taken}
 use Rattle.reading.proofs.one_field.Statement.{statement}
 use Rattle.reading.proofs.one_field.Tie as tie
@@ -15,7 +15,7 @@ abbrev entry : tie.After-front → tie.Start
 entry c = c .before .before .before .before .before .before .before
 
 whole : (c : tie.After-front) → Whole (entry c .args .input .now) (c .front .given .0 .0) (c .front .given .0 .1 .0)
-whole c = said-whole _ _ _ (sym (c .before .before .front-of .ensures) ∙ c .front .given .1)
+whole c = said-whole _ _ _ (c .before .before .front-of .ensures) (c .front .given .1)
 
 front-of-requires : tie.Need-front-of-requires
 front-of-requires c κs = search needs
@@ -50,15 +50,15 @@ returns : tie.Need-returns
 returns c =
     let s = c .before .before .before .before .before .before .before in
     let a = s .args in
-    front-taken (a .cycle .now) (a .t) (a .k) (a .ledger .now) (a .map .now) (a .me .now) (a .input .now) (said-incomplete _ (sym (c .before .before .front-of .ensures) ∙ c .enum-told .given .1))
-    (unmoved (a .cycle .now) (a .t) (a .k) (a .ledger .now) (a .map .now) (a .me .now) (s .pre .kept) step.Incomplete)
+    front-taken (a .cycle .now) (a .t) (a .k) (a .ledger .now) (a .map .now) (a .me .now) (a .input .now) (said-incomplete _ (c .before .before .front-of .ensures) (c .enum-told .given .1))
+    (unmoved (a .cycle .now) (a .t) (a .k) (a .ledger .now) (a .map .now) (a .me .now) (s .pre .kept) (gives unfinished))
 
 returns-2 : tie.Need-returns-2
 returns-2 c =
     let s = c .before .before .before .before .before .before .before in
     let a = s .args in
-    front-taken (a .cycle .now) (a .t) (a .k) (a .ledger .now) (a .map .now) (a .me .now) (a .input .now) (said-impossible _ (sym (c .before .before .front-of .ensures) ∙ c .enum-told2 .given .1))
-    (unmoved (a .cycle .now) (a .t) (a .k) (a .ledger .now) (a .map .now) (a .me .now) (s .pre .kept) (step.Refused 8))
+    front-taken (a .cycle .now) (a .t) (a .k) (a .ledger .now) (a .map .now) (a .me .now) (a .input .now) (said-impossible _ (c .before .before .front-of .ensures) (c .enum-told2 .given .1))
+    (unmoved (a .cycle .now) (a .t) (a .k) (a .ledger .now) (a .map .now) (a .me .now) (s .pre .kept) (refuses 8))
 
 same-length : tie.Need-same-length
 same-length c = search needs

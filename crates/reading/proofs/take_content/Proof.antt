@@ -2,7 +2,7 @@
 -- Assumes nothing.
 use mathlib.Core.List.{[]}
 use borrow.Author.Needs.{needs}
-use Rattle.reading.specs.declared.Step.the-variants as step
+use Rattle.laws.specs.Answers.{refuses}
 use Rattle.reading.proofs.Taking.{by-content, brought-taken, passed-taken, unmoved}
 use Rattle.reading.proofs.take_content.Statement.{statement}
 use Rattle.reading.proofs.take_content.Tie as tie
@@ -55,7 +55,7 @@ returns-3 c =
     let s = entry (known .before .before) in
     let a = s .args in
     by-content (a .cycle .now) (a .t) (a .k) (a .ledger .now) (a .map .now) (a .v .now) (a .n) (known .c2 .given .1)
-    (unmoved (a .cycle .now) (a .t) (a .k) (a .ledger .now) (a .map .now) [] (s .pre .kept) (step.Refused (known .c2 .given .0 .0)))
+    (unmoved (a .cycle .now) (a .t) (a .k) (a .ledger .now) (a .map .now) [] (s .pre .kept) (refuses (known .c2 .given .0 .0)))
 
 pub take-content-spec : {M : Type 1} → statement M
 take-content-spec =

@@ -4,8 +4,8 @@ use mathlib.Core.Path.{sym, ap}
 use native.Mathlib.Omega.{arith}
 use lib.ListN.{take}
 use lib.Seq.{length-take-le}
-use Rattle.desk.specs.declared.Outcome.the-variants.{Refused}
-use Rattle.desk.specs.Feeding.{Laid, Consumed, laidOf}
+use Rattle.laws.specs.Answers.{refuses}
+use Rattle.desk.specs.Feeding.{outcomeSaid, Laid, Consumed, laidOf}
 use Rattle.desk.proofs.LeftOver.{feed-used}
 use Rattle.intake.proofs.Fed.{fed-turn, more-turn}
 use borrow.Author.Needs.{needs}
@@ -59,7 +59,7 @@ returns c =
     let known = c .before in
     let fed = known .before .before .before .before .before .before .before .before in
     let a = entry fed .args in
-    fed-turn (fed .feed-on .ensures) (a .upto) (a .left) (a .buffer .now) (Refused (known .outcome .given .0 .0)) (known .outcome .given .1)
+    fed-turn (fed .feed-on .ensures) (a .upto) (a .left) (a .buffer .now) (refuses (known .outcome .given .0 .0)) (ap outcomeSaid (known .outcome .given .1))
 
 same-length-5 : tie.Need-same-length-5
 same-length-5 c = search needs
@@ -80,7 +80,7 @@ returns-2 c =
     let fed = told .before .before .before .before .before .before .before .before in
     let a = entry fed .args in
     let m = moved .to-front .ensures in
-    more-turn (fed .feed-on .ensures) (a .upto) (a .left) (a .buffer .now) (told .enum-told .given .1) (m .0) (m .1)
+    more-turn (fed .feed-on .ensures) (a .upto) (a .left) (a .buffer .now) (ap outcomeSaid (told .enum-told .given .1)) (m .0) (m .1)
 
 pub digest-spec : {M : Type 1} → statement M
 digest-spec =

@@ -1,0 +1,69 @@
+-- What an answer says: by the number of its refusal, and of figures.
+-- Assumes nothing.
+use mathlib.Core.Bool.{Bool, true, false, cond, false≢true}
+use mathlib.Core.Path.{_≡_, refl, sym, ap, _∙_}
+use Prim.Native.Nat.{ℕ}
+use lib.Dec.{eqb}
+use borrow.Author.Tests.{eqb-true, eqb-false}
+use Rattle.rules.specs.declared.Figure.{Figure}
+use Rattle.rules.specs.declared.Figure.the-variants.{Is, Absent, Refused}
+use Rattle.rules.specs.Closing.{figureOr}
+use Rattle.laws.specs.Answers.{Said, gives, refuses, numberOf, orRefused, Measure, is, absent, figureSaid}
+
+-- what is said, by the number of a refusal
+module _ {A : Type 0} (n : ℕ) (x : Said A) where
+  -- it is not refused, or refused so
+  pub was-given : (y : A) → orRefused n x ≡ gives y → (n ≡ 0) × (x ≡ gives y)
+  was-given y e = go (eqb n 0) refl e
+    where
+      go : (t : Bool) → eqb n 0 ≡ t → cond t x (refuses n) ≡ gives y → (n ≡ 0) × (x ≡ gives y)
+      go true p f = (eqb-true n 0 p, f)
+      go false p f = absurd (false≢true cc)
+
+  pub was-refused : (k : ℕ) → orRefused n x ≡ refuses k → (x ≡ refuses k → ⊥) → (n ≡ k) × (n ≡ 0 → ⊥)
+  was-refused k e other = go (eqb n 0) refl e
+    where
+      go : (t : Bool) → eqb n 0 ≡ t → cond t x (refuses n) ≡ refuses k → (n ≡ k) × (n ≡ 0 → ⊥)
+      go true p f = absurd (other f)
+      go false p f = (cc, eqb-false n 0 p)
+
+  -- its number
+  pub number-said : numberOf x ≡ 0 → numberOf (orRefused n x) ≡ n
+  number-said z = go (eqb n 0) refl
+    where
+      go : (t : Bool) → eqb n 0 ≡ t → numberOf (cond t x (refuses n)) ≡ n
+      go true p = let q = eqb-true n 0 p in cc
+      go false p = refl
+
+-- what is given is no refusal, and is what it is
+pub given-refused : {A : Type 0} {x : A} {n : ℕ} → gives x ≡ refuses n → ⊥
+given-refused e = false≢true cc
+
+pub given-is : {A : Type 0} {x y : A} → gives x ≡ gives y → x ≡ y
+given-is e = cc
+
+-- a figure by the number of a refusal says so
+pub figure-or : (n : ℕ) (f : Figure) → figureSaid (figureOr n f) ≡ orRefused n (figureSaid f)
+figure-or n f = go (eqb n 0)
+  where
+    go : (t : Bool) → figureSaid (cond t f (Refused n)) ≡ cond t (figureSaid f) (refuses n)
+    go true = refl
+    go false = refl
+
+-- ---- answers that say the same are the same: each is known by what it says
+
+pub known-by : {A B : Type 0} (said : A → B) (back : B → A) → ((x : A) → back (said x) ≡ x) → (x y : A) → said x ≡ said y → x ≡ y
+known-by said back h x y e = sym (h x) ∙ ap back e ∙ h y
+
+pub same-figure : (x y : Figure) → figureSaid x ≡ figureSaid y → x ≡ y
+same-figure = known-by figureSaid back known
+  where
+    back : Said Measure → Figure
+    back (gives (is n)) = Is n
+    back (gives absent) = Absent
+    back (refuses n) = Refused n
+
+    known : (x : Figure) → back (figureSaid x) ≡ x
+    known (Is n) = refl
+    known Absent = refl
+    known (Refused n) = refl
