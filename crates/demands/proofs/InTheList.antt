@@ -192,6 +192,15 @@ run-listed x i = end-proper (λ s. s .place) contentOn bringOn passOn on-proper 
 eight : Listed 8
 eight = at 8 (omega arith) (omega arith)
 
+-- after the last accepted field
+end-listed : {A : Type 0} (a : A) (x : Stage) (i : List ℕ) (n : ℕ) → endSaid a (runOn x i .end) ≡ refuses n → Listed n
+end-listed a x i n = by (runOn x i .end) refl
+  where
+    by : (e : End) → runOn x i .end ≡ e → endSaid a e ≡ refuses n → Listed n
+    by waiting q e = absurd (given-refused e)
+    by broken q e = let d : 8 ≡ n = cc e in subst Listed d eight
+    by (stopped j) q e = let d : j ≡ n = cc e in subst Listed d (run-listed x i j q)
+
 open-listed : (o : Opening) (room : List ℕ) (l : List ℤ) (m i : List ℕ) (n : ℕ) → frontOpened o room l m i .answer .says ≡ refuses n → Listed n
 unfolding frontOpened
 open-listed o room l m i n = go (eqb (openGround o room) 0) refl
@@ -242,14 +251,9 @@ module _ (r : Reading) (b : List ℕ) (l : List ℤ) (m i : List ℕ) (n : ℕ) 
   unfolding allLeft
   read-all-listed = go (eqb (readGround r b l m) 0) refl
     where
-      by : (e : End) → runOn x i .end ≡ e → endSaid unfinished e ≡ refuses n → Listed n
-      by waiting q e = absurd (false≢true cc)
-      by broken q e = let d : 8 ≡ n = cc e in subst Listed d eight
-      by (stopped j) q e = let d : j ≡ n = cc e in subst Listed d (run-listed x i j q)
-
       go : (t : Bool) → eqb (readGround r b l m) 0 ≡ t
           → cond t (allBy r (runOn x i)) (left {A = AllSaid Reading} (record { state = r; fields = 0; used = 0; last = refuses (readGround r b l m) }) l m) .answer .last ≡ refuses n → Listed n
-      go true z e = by (runOn x i .end) refl e
+      go true z e = end-listed unfinished x i n e
       go false z e = refused-listed z cc
 
 ended-listed : (started : Bool) (left n : ℕ) → endingOf started left ≡ refuses n → Listed n
@@ -263,13 +267,8 @@ ended-listed started left n = go started (eqb left 0)
 
 feed-listed : (x : Laid) (i : List ℕ) (n : ℕ) → feedOf x i .outcome ≡ refuses n → Listed n
 feed-listed x i n =
-    by-feed x i (λ (y : Consumed). y .outcome ≡ refuses n → Listed n) (λ _ e. by (runOn (stageOn x) i .end) refl e)
+    by-feed x i (λ (y : Consumed). y .outcome ≡ refuses n → Listed n) (λ _ e. end-listed tt (stageOn x) i n e)
     (λ z e. let d : deskGround x ≡ n = cc e in subst Listed d (listed (deskGround x) (few-desk x) z))
-  where
-    by : (e : End) → runOn (stageOn x) i .end ≡ e → endSaid {A = Unit {0}} tt e ≡ refuses n → Listed n
-    by waiting q e = absurd (false≢true cc)
-    by broken q e = let d : 8 ≡ n = cc e in subst Listed d eight
-    by (stopped j) q e = let d : j ≡ n = cc e in subst Listed d (run-listed (stageOn x) i j q)
 
 at-proper : (s : Told) (m : Matter) (v : List ℕ) → Proper (contentAt s m v)
 at-proper s = content-proper (s .passed) (s .holding .vehicle) (s .holding .cycle) (length (s .holding .samples))

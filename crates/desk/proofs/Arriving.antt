@@ -1,6 +1,6 @@
 -- The bytes of a record as they arrive, in whatever parts: the desk is what the machine makes of all of them.
 -- Assumes nothing.
-use mathlib.Core.Bool.{Bool, true, false, cond, false≢true}
+use mathlib.Core.Bool.{Bool, true, false, cond}
 use mathlib.Core.List.{List, [], _++_}
 use mathlib.Core.Path.{_≡_, refl, sym, ap, _∙_}
 use Prim.Native.Nat.{ℕ, _+_, _-_, _≤_, zero-le}
@@ -13,10 +13,11 @@ use lib.Seq.{drop-append-le, drop-drop}
 use Rattle.rules.specs.Words.{allBelow}
 use Rattle.rules.specs.Cycle.{mostBytes}
 use Rattle.rules.specs.Table.{behindTolerances, tags}
-use Rattle.rules.specs.Machine.{End, waiting, broken, stopped, Ran, run}
+use Rattle.rules.specs.Machine.{End, waiting, Ran, run}
 use Rattle.rules.specs.Values.{isCharacter, isNumber}
 use Rattle.rules.specs.Record.{takeField, untold}
 use Rattle.laws.specs.Answers.{endSaid}
+use Rattle.laws.proofs.Answers.{only-waiting}
 use Rattle.laws.proofs.Cuts.{joined, cut, used-most, resumed}
 use Rattle.laws.proofs.Places.{early-or-late}
 use Rattle.laws.proofs.Prefixes.{no-bytes}
@@ -27,7 +28,7 @@ use Rattle.records.proofs.After.{after-upto}
 use Rattle.records.proofs.Joined.{Long, Holds}
 use Rattle.records.proofs.Joined as lists
 use Rattle.records.proofs.Weighs.{fields-weigh}
-use Rattle.opening.specs.Answers.{nothing, stageOf, openingOf, runOf, openGround}
+use Rattle.opening.specs.Answers.{unopened, stageOf, openingOf, runOf, openGround}
 use Rattle.opening.proofs.Starting.{Ready}
 use Rattle.reading.specs.Answers.{startedReading, readingOf}
 use Rattle.desk.specs.Feeding.{Desk, Laid, laidOf, wanted, emptyDesk, Consumed, stageOn, startedOpening, laidAfter, fedBy, feedOf, startedGround, deskGround, mostFields}
@@ -42,18 +43,18 @@ module _ (room : List ℕ) (l : List ℤ) (m : List ℕ) (long : mostBytes ≤ l
   begin = laidOf emptyDesk room l m
 
   abbrev first : Stage
-  first = stageOf nothing room l m
+  first = stageOf unopened room l m
 
   -- what the machine makes of the bytes w
   abbrev pub worked : List ℕ → Ran Stage
   worked w = runOn first w
 
-  ready : Ready nothing room
+  ready : Ready unopened room
   unfolding isNumber isCharacter allBelow
   ready = record { few = zero-le; size = zero-le; number = refl; room = long }
 
-  pub good : (w : List ℕ) → Good nothing room l m (worked w .state)
-  good w = good-upto nothing room l m ready (length w) w
+  pub good : (w : List ℕ) → Good unopened room l m (worked w .state)
+  good w = good-upto unopened room l m ready (length w) w
 
   -- the desk after the bytes w
   abbrev pub after : List ℕ → Laid
@@ -76,7 +77,7 @@ module _ (room : List ℕ) (l : List ℤ) (m : List ℕ) (long : mostBytes ≤ l
       let g = good w in
       let s = fields-weigh first w (λ _. refl) in
       let f = after-fields w in
-      let o = few-offered nothing room l m u g in
+      let o = few-offered unopened room l m u g in
       omega (arith, g .limits .place, g .limits .passed)
 
   -- ---- by whether the run has started
@@ -116,9 +117,9 @@ module _ (room : List ℕ) (l : List ℤ) (m : List ℕ) (long : mostBytes ≤ l
     after-ground =
         early-or-late (u .place)
         (λ e. sym (of-opening (after w) (after-few w) (ap (λ (x : Laid). x .desk .started) (after-early e))) ∙ ap (λ (x : Laid). openGround (x .desk .opening) (x .room)) (after-early e)
-        ∙ opens-on nothing room l m u (good w) e)
+        ∙ opens-on unopened room l m u (good w) e)
         (λ e. sym (of-started (after w) (after-few w) (ap (λ (x : Laid). x .desk .started) (after-late e))) ∙ ap startedGround (after-late e)
-        ∙ begun-ground nothing room l m u (good w) e (0 + worked w .fields))
+        ∙ begun-ground unopened room l m u (good w) e (0 + worked w .fields))
 
   -- ---- the bytes arrive
 
@@ -171,13 +172,8 @@ module _ (room : List ℕ) (l : List ℤ) (m : List ℕ) (long : mostBytes ≤ l
                 ∙ sym (drop-drop (more .used) (worked w .used) (w ++ new))
                 ∙ ap (drop (more .used)) (drop-append-le (worked w .used) w new (used-most tags takeOn first w) ∙ ap (λ (r : List ℕ). r ++ new) (h .bytes))
                 ∙ ap (λ (n : ℕ). drop n (rest ++ new)) (sym used-is);
-            waits = only-waiting (worked (w ++ new) .end) (ap (λ (y : Consumed). y .outcome) (sym fed-is) ∙ e);
+            waits = only-waiting tt (worked (w ++ new) .end) (ap (λ (y : Consumed). y .outcome) (sym fed-is) ∙ e);
           }
-        where
-          only-waiting : (e : End) → endSaid tt e ≡ wanted → e ≡ waiting
-          only-waiting waiting q = refl
-          only-waiting broken q = absurd (false≢true cc)
-          only-waiting (stopped n) q = absurd (false≢true cc)
 
   -- ---- beside the lists
   module _ (enough : Long l m) where

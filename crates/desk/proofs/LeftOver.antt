@@ -13,8 +13,9 @@ use Rattle.rules.specs.Words.{be}
 use Rattle.numbers.proofs.Tests.{first-or-rest, passed, not-refused}
 use Rattle.rules.specs.Table.{tags}
 use Rattle.rules.specs.Front.{incomplete, impossible, frontOf}
-use Rattle.rules.specs.Machine.{End, waiting, broken, stopped, ends}
-use Rattle.laws.specs.Answers.{refuses, endSaid}
+use Rattle.rules.specs.Machine.{End, ends}
+use Rattle.laws.specs.Answers.{refuses}
+use Rattle.laws.proofs.Answers.{only-waiting}
 use Rattle.laws.proofs.Cuts.{used-most}
 use Rattle.laws.proofs.Prefixes.{accepted-alone, left-over, none-used}
 use Rattle.laws.proofs.Tags.{sizes}
@@ -56,16 +57,11 @@ module _ (x : Laid) (i : List ℕ) where
       by-feed (λ (y : Consumed). y .outcome ≡ wanted → length i < y .used + longest)
       (λ _ e.
       let y = runOn (stageOn x) i in
-      let short = incomplete-short (drop (y .used) i) (left-over tags takeOn (stageOn x) i (only-waiting (y .end) e)) in
+      let short = incomplete-short (drop (y .used) i) (left-over tags takeOn (stageOn x) i (only-waiting tt (y .end) e)) in
       let d = length-drop (y .used) i in
       let u = used-most tags takeOn (stageOn x) i in
       omega arith)
       (λ _ e. absurd (false≢true cc))
-    where
-      only-waiting : (e : End) → endSaid tt e ≡ wanted → e ≡ waiting
-      only-waiting waiting q = refl
-      only-waiting broken q = absurd (false≢true cc)
-      only-waiting (stopped n) q = absurd (false≢true cc)
 
 -- what ends a call leaves no trace
 pub feed-alone : (x : Laid) (i : List ℕ) → feedOf x (take (feedOf x i .used) i) .laid ≡ feedOf x i .laid

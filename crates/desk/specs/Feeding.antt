@@ -19,7 +19,7 @@ use Rattle.state.specs.State.{Memory, lent}
 use Rattle.state.specs.Refusals.{notBegun}
 use Rattle.records.specs.Stage.{Stage, takeOn, runOn, roomAfter}
 use Rattle.opening.specs.declared.Opening.{Opening}
-use Rattle.opening.specs.Answers.{Opened, opens, starts, unfinished, nothing, noTolerances, stageOf, openingOf, runOf, OpenLeft, openGround, frontOpened}
+use Rattle.opening.specs.Answers.{Opened, opens, starts, unfinished, unopened, noTolerances, stageOf, openingOf, runOf, OpenLeft, openGround, frontOpened}
 use Rattle.reading.specs.Answers.{FieldRead, startedReading, stageAt, readingOf, readGround}
 pub use Rattle.desk.specs.declared.Desk.{Desk}
 use Rattle.desk.specs.declared.Outcome.{Outcome}
@@ -86,7 +86,7 @@ abbrev pub noRun : Run
 noRun = record { track = record { seconds = 0; ends = record { first = 0; second = 0; third = 0; fourth = 0 }; tolerances = noTolerances }; progress = notBegun }
 
 abbrev pub emptyDesk : Desk
-emptyDesk = record { started = false; opening = nothing; reading = startedReading (nothing .vehicle) noRun; fields = 0 }
+emptyDesk = record { started = false; opening = unopened; reading = startedReading (unopened .vehicle) noRun; fields = 0 }
 
 -- ---- as what has been read
 

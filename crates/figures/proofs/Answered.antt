@@ -22,7 +22,7 @@ use Rattle.judge.specs.declared.TotalsAnswer.the-variants.{Summed, Refused}
 use Rattle.judge.specs.Answers.{totalsSaid, sumsOf}
 use Rattle.reading.specs.declared.Reading.{Reading}
 use Rattle.reading.specs.Answers.{readGround}
-use Rattle.figures.specs.Figured.{blank, nothing, withSums, foundOf}
+use Rattle.figures.specs.Figured.{blank, noneFound, withSums, foundOf}
 
 -- a figure that says what the closing answers
 module _ (r : Run) (a : Amounts) (b : List ℕ) (l : List ℤ) (m : List ℕ) where
@@ -43,7 +43,7 @@ module _ (r : Run) (a : Amounts) (b : List ℕ) (l : List ℤ) (m : List ℕ) wh
 
 module _ (r : Reading) (b : List ℕ) (l : List ℤ) (m : List ℕ) where
   -- a test refuses
-  pub tests-refuse : (n : ℕ) → n ≡ readGround r b l m → (n ≡ 0 → ⊥) → nothing n ≡ foundOf r b l m
+  pub tests-refuse : (n : ℕ) → n ≡ readGround r b l m → (n ≡ 0 → ⊥) → noneFound n ≡ foundOf r b l m
   tests-refuse n e h =
       let none = settled-refused (withSums (r .vehicle) (r .passed) (r .amounts) (r .run) b l m (sumsOf (r .run) l)) {b = blank} (λ z. h (e ∙ z)) in
       λ i. record { refusal = e i; figures = sym none i }

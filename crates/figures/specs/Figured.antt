@@ -37,8 +37,8 @@ blank = record {
   ac = Absent;
 }
 
-abbrev pub nothing : ℕ → Found
-nothing n = record { refusal = n; figures = blank }
+abbrev pub noneFound : ℕ → Found
+noneFound n = record { refusal = n; figures = blank }
 
 -- the sums of the run, and its closing figures
 abbrev pub withSums : List ℕ → ℕ → Amounts → Run → List ℕ → List ℤ → List ℕ → Sums → Figures

@@ -9,7 +9,7 @@ use rules::Figure;
 use rules::Figures;
 use state::Run;
 ghost use mathlib.Core.Path.{_≡_};
-ghost use Rattle.figures.specs.Figured.{blank, nothing, withSums, foundOf};
+ghost use Rattle.figures.specs.Figured.{blank, noneFound, withSums, foundOf};
 
 // The figures, or the number of a refusal, 1 or 2, beside which they are blank.
 pub struct Found {
@@ -36,7 +36,7 @@ fn blank_figures() -> Figures
 }
 
 fn refused(refusal: u32) -> Found
-    ensures { λ r. ⌜ r ≡ nothing refusal ⌝ }
+    ensures { λ r. ⌜ r ≡ noneFound refusal ⌝ }
 {
     Found {
         refusal,

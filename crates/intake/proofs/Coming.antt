@@ -29,11 +29,11 @@ use Rattle.intake.specs.declared.Turn.{Turn}
 use Rattle.intake.specs.declared.Turned.{Turned}
 use Rattle.intake.proofs.Turned.{the-type as turned}
 use Rattle.intake.specs.declared.Turned.the-variants.{On, Ended, Failed, Refused}
-use Rattle.intake.specs.Turns.{turnedBy, heldBy, bufferBy, isOn, isFailed, Goes, Came, none, part, outcomeBy, roundOf, roundAfter, stoppedAt, roundBy, onwards, Stood, textOf, textBy, intakeOf, linesOf, Recorded, Unread}
+use Rattle.intake.specs.Turns.{turnedBy, heldBy, bufferBy, isOn, isFailed, Goes, Came, none, part, turnedSaid, roundOf, roundAfter, stoppedAt, roundBy, goingOn, Stood, textOf, turnText, intakeOf, linesOf, Recorded, Unread}
 use Rattle.desk.proofs.LeftOver.{feed-used, feed-short}
 
 -- a turn that fed the desk says what the desk did
-outcome-of : (o : Said (Unit {0})) → o ≡ outcomeBy (turnedBy o)
+outcome-of : (o : Said (Unit {0})) → o ≡ turnedSaid (turnedBy o)
 outcome-of (gives _) = refl
 outcome-of (refuses k) = refl
 
@@ -86,7 +86,7 @@ goes-by got.Failed x held left b short h space rest = record { held = short; fal
 
 -- before the first turn nothing came
 pub nothing-yet : (most : ℕ) (desk : Desk) (b room : List ℕ) (l : List ℤ) (m : List ℕ) → desk ≡ emptyDesk
-    → Stood (laidOf emptyDesk room l m) most (roundOf (onwards desk 0 most) b room l m)
+    → Stood (laidOf emptyDesk room l m) most (roundOf (goingOn desk 0 most) b room l m)
 nothing-yet most desk b room l m e = record {
   bytes = [];
   rest = [];
@@ -103,16 +103,16 @@ is-on (Refused k) e = absurd (false≢true e)
 
 -- where another turn follows, it begins where the one before stood
 pub on-again : (x₀ : Laid) (most : ℕ) (t : Turn) (b room : List ℕ) (l : List ℤ) (m : List ℕ) → isOn (t .turned) ≡ true
-    → Stood x₀ most (roundOf t b room l m) → Stood x₀ most (roundOf (onwards (t .desk) (t .held) (t .left)) b room l m)
+    → Stood x₀ most (roundOf t b room l m) → Stood x₀ most (roundOf (goingOn (t .desk) (t .held) (t .left)) b room l m)
 on-again x₀ most t b room l m e s = subst (λ (z : Turned). Stood x₀ most (roundOf (record { turned = z; desk = t .desk; held = t .held; left = t .left }) b room l m)) (is-on (t .turned) e) s
 
-module _ (x₀ : Laid) (most : ℕ) (desk : Desk) (held left : ℕ) (b₀ room : List ℕ) (l : List ℤ) (m : List ℕ) (s : Stood x₀ most (roundOf (onwards desk held left) b₀ room l m))
+module _ (x₀ : Laid) (most : ℕ) (desk : Desk) (held left : ℕ) (b₀ room : List ℕ) (l : List ℤ) (m : List ℕ) (s : Stood x₀ most (roundOf (goingOn desk held left) b₀ room l m))
     (b : List ℕ) (same : take held b ≡ take held b₀) where
   rest-is : s .rest ≡ take held b
   rest-is = s .held refl .0 ∙ sym same
 
   -- nothing came
-  pub nothing-came : (t : Turned) → outcomeBy t ≡ wanted → Stood x₀ most (roundOf (record { turned = t; desk = desk; held = held; left = left }) b room l m)
+  pub nothing-came : (t : Turned) → turnedSaid t ≡ wanted → Stood x₀ most (roundOf (record { turned = t; desk = desk; held = held; left = left }) b room l m)
   nothing-came t e = record {
     bytes = s .bytes;
     rest = s .rest;
@@ -140,7 +140,7 @@ module _ (x₀ : Laid) (most : ℕ) (desk : Desk) (held left : ℕ) (b₀ room :
     used-within : fed .used ≤ held + n
     used-within = omega (arith, feed-used (laidOf desk room l m) (take (held + n) b), length-take-le (held + n) b fits)
 
-    front-held : (o : Said (Unit {0})) (u : ℕ) → u ≤ held + n → outcomeBy (turnedBy o) ≡ wanted
+    front-held : (o : Said (Unit {0})) (u : ℕ) → u ≤ held + n → turnedSaid (turnedBy o) ≡ wanted
         → (drop u (take (held + n) b) ≡ take (heldBy o u (held + n)) (bufferBy o u (held + n) b)) × (length (drop u (take (held + n) b)) ≡ heldBy o u (held + n))
     front-held (gives _) u h e = (to-the-front u (held + n) b h fits, omega (arith, length-drop u (take (held + n) b), length-take-le (held + n) b fits))
     front-held (refuses k) u h e = absurd (false≢true cc)
@@ -164,7 +164,7 @@ module _ (x₀ : Laid) (most : ℕ) (desk : Desk) (held left : ℕ) (b₀ room :
 
 -- no more is to be read of the record
 pub all-came : (x₀ : Laid) (most : ℕ) (desk : Desk) (held left : ℕ) (b room : List ℕ) (l : List ℤ) (m : List ℕ) → left ≡ 0
-    → Stood x₀ most (roundOf (onwards desk held left) b room l m) → Stood x₀ most (roundOf (record { turned = Ended; desk = desk; held = held; left = 0 }) b room l m)
+    → Stood x₀ most (roundOf (goingOn desk held left) b room l m) → Stood x₀ most (roundOf (record { turned = Ended; desk = desk; held = held; left = 0 }) b room l m)
 all-came x₀ most desk held left b room l m e s =
     subst (λ (n : ℕ). Stood x₀ most (roundOf (record { turned = Ended; desk = desk; held = held; left = n }) b room l m)) e
     (nothing-came x₀ most desk held left b room l m s b refl Ended refl)
@@ -175,7 +175,7 @@ module _ (x₀ : Laid) (most : ℕ) (out : List ℕ) (t : Turn) (b room : List �
   x = laidOf (t .desk) room l m
 
   -- what is printed with the bytes held is what is printed with the rest: of a refusal neither has a part
-  same-text : (z : Turned) → (outcomeBy z ≡ wanted → length (s .rest) ≡ t .held) → textOf (outcomeBy z) x (t .held) ≡ textOf (outcomeBy z) x (length (s .rest))
+  same-text : (z : Turned) → (turnedSaid z ≡ wanted → length (s .rest) ≡ t .held) → textOf (turnedSaid z) x (t .held) ≡ textOf (turnedSaid z) x (length (s .rest))
   same-text On h = ap (closeText x) (sym (h refl))
   same-text Ended h = ap (closeText x) (sym (h refl))
   same-text Failed h = ap (closeText x) (sym (h refl))
@@ -190,7 +190,7 @@ module _ (x₀ : Laid) (most : ℕ) (out : List ℕ) (t : Turn) (b room : List �
         desk = t .desk;
         bytes = s .bytes;
         rest = s .rest;
-        outcome = outcomeBy (t .turned);
+        outcome = turnedSaid (t .turned);
         came = s .came;
         all = s .all;
         printed = ap (λ (text : List ℕ). cond (isFailed (t .turned)) 0 (unless 0 (leb mostSheet (length out)) (length text))) same;
@@ -201,20 +201,20 @@ module _ (x₀ : Laid) (most : ℕ) (out : List ℕ) (t : Turn) (b room : List �
 pub not-printed : (t : Turn) (x : Laid) (out : List ℕ) → isFailed (t .turned) ≡ true
     → (_≡_ {A = Intake} (record { printed = 0; left = t .left; failed = true }) (intakeOf t x out)) × (out ≡ linesOf t x out)
 not-printed t x out e = (
-  (λ i. record { printed = cond (sym e i) 0 (unless 0 (leb mostSheet (length out)) (length (textBy t x))); left = t .left; failed = sym e i }),
-  (λ i. cond (sym e i) out (unless out (leb mostSheet (length out)) (overlaid out 0 (textBy t x)))),
+  (λ i. record { printed = cond (sym e i) 0 (unless 0 (leb mostSheet (length out)) (length (turnText t x))); left = t .left; failed = sym e i }),
+  (λ i. cond (sym e i) out (unless out (leb mostSheet (length out)) (overlaid out 0 (turnText t x)))),
 )
 
-pub printed-of : (t : Turn) (x : Laid) (out : List ℕ) → isFailed (t .turned) ≡ false → {n : ℕ} {after : List ℕ} → Prints (textBy t x) out n after
+pub printed-of : (t : Turn) (x : Laid) (out : List ℕ) → isFailed (t .turned) ≡ false → {n : ℕ} {after : List ℕ} → Prints (turnText t x) out n after
     → (_≡_ {A = Intake} (record { printed = n; left = t .left; failed = false }) (intakeOf t x out)) × (after ≡ linesOf t x out)
 printed-of t x out e p = (
   (λ i. record { printed = p .0 i; left = t .left; failed = false })
-      ∙ (λ i. record { printed = cond (sym e i) 0 (unless 0 (leb mostSheet (length out)) (length (textBy t x))); left = t .left; failed = sym e i }),
-  p .1 ∙ (λ i. cond (sym e i) out (unless out (leb mostSheet (length out)) (overlaid out 0 (textBy t x)))),
+      ∙ (λ i. record { printed = cond (sym e i) 0 (unless 0 (leb mostSheet (length out)) (length (turnText t x))); left = t .left; failed = sym e i }),
+  p .1 ∙ (λ i. cond (sym e i) out (unless out (leb mostSheet (length out)) (overlaid out 0 (turnText t x)))),
 )
 
 -- no field was refused
-pub not-refused : (z : Turned) → OneOf (0 ∷ 1 ∷ 2 ∷ []) (tagOf turned z) → outcomeBy z ≡ wanted
+pub not-refused : (z : Turned) → OneOf (0 ∷ 1 ∷ 2 ∷ []) (tagOf turned z) → turnedSaid z ≡ wanted
 not-refused On h = refl
 not-refused Ended h = refl
 not-refused Failed h = refl

@@ -17,7 +17,7 @@ use Rattle.desk.specs.declared.Desk.{Desk}
 use Rattle.desk.specs.Feeding.{wanted, Laid, Consumed, laidOf, emptyDesk, feedOf, deskGround, Steady}
 use Rattle.desk.proofs.Grounds.{of-opening, ground-steady, feed-refuses}
 use Rattle.desk.proofs.Arriving.{begin, Arrived, arrived-none, arrived-more, arrived-ground}
-use Rattle.intake.specs.Turns.{Came, none, part, roundOf, onwards, Stood}
+use Rattle.intake.specs.Turns.{Came, none, part, roundOf, goingOn, Stood}
 
 -- on a room that is long enough, the bytes that came have arrived at the desk
 module _ (room : List ℕ) (l : List ℤ) (m : List ℕ) (long : mostBytes ≤ length room) where
@@ -50,5 +50,5 @@ came-steady room l m {x = x} c = go (leb mostBytes (length room)) refl
 
 -- so every turn begins with a desk that needs none
 pub stood-steady : (room₀ : List ℕ) (l₀ : List ℤ) (m₀ : List ℕ) (most : ℕ) (desk : Desk) (held left : ℕ) (b room : List ℕ) (l : List ℤ) (m : List ℕ)
-    → Stood (laidOf emptyDesk room₀ l₀ m₀) most (roundOf (onwards desk held left) b room l m) → Steady (laidOf desk room l m)
+    → Stood (laidOf emptyDesk room₀ l₀ m₀) most (roundOf (goingOn desk held left) b room l m) → Steady (laidOf desk room l m)
 stood-steady room₀ l₀ m₀ most desk held left b room l m s = came-steady room₀ l₀ m₀ (s .came)

@@ -58,11 +58,11 @@ pub data Came (x₀ : Laid) : List ℕ → Laid → List ℕ → Said (Unit {0})
       → Came x₀ (w ++ new) (feedOf x (rest ++ new) .laid) (drop (feedOf x (rest ++ new) .used) (rest ++ new)) (feedOf x (rest ++ new) .outcome)
 
 -- what a turn says of the bytes: no field was refused, or one was
-abbrev pub outcomeBy : Turned → Said (Unit {0})
-outcomeBy On = wanted
-outcomeBy Ended = wanted
-outcomeBy Failed = wanted
-outcomeBy (Refused k) = refuses k
+abbrev pub turnedSaid : Turned → Said (Unit {0})
+turnedSaid On = wanted
+turnedSaid Ended = wanted
+turnedSaid Failed = wanted
+turnedSaid (Refused k) = refuses k
 
 -- a turn with its buffer and memory
 pub record Round : Type 0 where
@@ -117,15 +117,15 @@ roundBy got.Again x held left buffer = stoppedAt got.Again x held left buffer
 roundBy got.Failed x held left buffer = stoppedAt got.Failed x held left buffer
 
 -- before a turn
-abbrev pub onwards : Desk → ℕ → ℕ → Turn
-onwards desk held left = record { turned = On; desk = desk; held = held; left = left }
+abbrev pub goingOn : Desk → ℕ → ℕ → Turn
+goingOn desk held left = record { turned = On; desk = desk; held = held; left = left }
 
 -- so a record of at most so many bytes stands there: the rest of the bytes that came is held at the front of the buffer
 pub record Stood (x₀ : Laid) (most : ℕ) (p : Round) : Type 0 where
   pub bytes : List ℕ
   pub rest : List ℕ
-  pub came : Came x₀ bytes (laidAt p) rest (outcomeBy (p .turn .turned))
-  pub held : outcomeBy (p .turn .turned) ≡ wanted → (rest ≡ take (p .turn .held) (p .buffer)) × (length rest ≡ p .turn .held)
+  pub came : Came x₀ bytes (laidAt p) rest (turnedSaid (p .turn .turned))
+  pub held : turnedSaid (p .turn .turned) ≡ wanted → (rest ≡ take (p .turn .held) (p .buffer)) × (length rest ≡ p .turn .held)
   pub all : length bytes + p .turn .left ≡ most
 
 -- a turn leads from round to round: whatever record stood here stands there
@@ -140,18 +140,18 @@ textOf (gives _) x left = closeText x left
 textOf (refuses k) x left = refuseText x k
 
 -- what is answered of the last turn t, on its memory x with the lines out, and what the lines then are: nothing is printed where reading failed
-abbrev pub textBy : Turn → Laid → List ℕ
-textBy t x = textOf (outcomeBy (t .turned)) x (t .held)
+abbrev pub turnText : Turn → Laid → List ℕ
+turnText t x = textOf (turnedSaid (t .turned)) x (t .held)
 
 abbrev pub intakeOf : Turn → Laid → List ℕ → Intake
 intakeOf t x out = record {
-  printed = cond (isFailed (t .turned)) 0 (unless 0 (leb mostSheet (length out)) (length (textBy t x)));
+  printed = cond (isFailed (t .turned)) 0 (unless 0 (leb mostSheet (length out)) (length (turnText t x)));
   left = t .left;
   failed = isFailed (t .turned);
 }
 
 abbrev pub linesOf : Turn → Laid → List ℕ → List ℕ
-linesOf t x out = cond (isFailed (t .turned)) out (unless out (leb mostSheet (length out)) (overlaid out 0 (textBy t x)))
+linesOf t x out = cond (isFailed (t .turned)) out (unless out (leb mostSheet (length out)) (overlaid out 0 (turnText t x)))
 
 -- a record of at most so many bytes was read and printed to the lines out. Which bytes came, and in which parts, is the file's; all else follows from them
 pub record Recorded (x₀ : Laid) (most : ℕ) (out : List ℕ) (r : Intake) (room : List ℕ) (ledger : List ℤ) (map after : List ℕ) : Type 0 where

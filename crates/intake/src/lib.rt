@@ -16,7 +16,7 @@ ghost use Prim.Native.Nat.{_≤_, _<_};
 ghost use lib.ListN.{length};
 ghost use Rattle.desk.specs.Feeding.{laidOf, emptyDesk, longest};
 ghost use Rattle.prints.specs.Printed.{Prints};
-ghost use Rattle.intake.specs.Turns.{textBy, intakeOf, linesOf, Recorded, Unread};
+ghost use Rattle.intake.specs.Turns.{turnText, intakeOf, linesOf, Recorded, Unread};
 
 // The buffer holds the longest field: tag, length and the longest cycle.
 const LONGEST: usize = 3 + MOST_BYTES;
@@ -47,7 +47,7 @@ pub struct Intake {
 // What is printed of a record that was read, to its end or to a refused field.
 fn print_record(t: Turn, room: &[u8], ledger: &[i64], map: &[u64], lines: &mut [u8]) -> usize
     ensures { λ r. ⌜
-        Prints (textBy t (laidOf (t .desk) (now (room .entry)) (now (ledger .entry)) (now (map .entry)))) (now (lines .entry)) r (now (lines .exit))
+        Prints (turnText t (laidOf (t .desk) (now (room .entry)) (now (ledger .entry)) (now (map .entry)))) (now (lines .entry)) r (now (lines .exit))
         ⌝ }
 {
     let desk = t.desk;

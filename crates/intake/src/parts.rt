@@ -13,7 +13,7 @@ ghost use lib.ListN.{length, drop};
 ghost use lib.Seq.{paste};
 ghost use Rattle.desk.specs.Feeding.{laidOf, emptyDesk, longest, Steady};
 ghost use Rattle.edges.specs.Answers.{Within};
-ghost use Rattle.intake.specs.Turns.{isOn, isFailed, stoppedBy, roundOf, roundFed, roundBy, Goes, onwards, Stood, Leads};
+ghost use Rattle.intake.specs.Turns.{isOn, isFailed, stoppedBy, roundOf, roundFed, roundBy, Goes, goingOn, Stood, Leads};
 
 // The smaller of the two.
 pub fn at_most(space: usize, left: u64) -> usize
@@ -139,7 +139,7 @@ fn read_once(
     requires { ⌜ (held < longest) × (longest ≤ length (now buffer)) × (1 ≤ left) × Steady (laidOf desk (now room) (now ledger) (now map)) ⌝ }
     ensures { λ r. ⌜ Goes left r ⌝ }
     ensures { λ r. ⌜
-        Leads (roundOf (onwards desk held left) (now (buffer .entry)) (now (room .entry)) (now (ledger .entry)) (now (map .entry)))
+        Leads (roundOf (goingOn desk held left) (now (buffer .entry)) (now (room .entry)) (now (ledger .entry)) (now (map .entry)))
         (roundOf r (now (buffer .exit)) (now (room .exit)) (now (ledger .exit)) (now (map .exit)))
         ⌝ }
 {

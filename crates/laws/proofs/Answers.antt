@@ -8,7 +8,8 @@ use borrow.Author.Tests.{eqb-true, eqb-false}
 use Rattle.rules.specs.declared.Figure.{Figure}
 use Rattle.rules.specs.declared.Figure.the-variants.{Is, Absent, Refused}
 use Rattle.rules.specs.Closing.{figureOr}
-use Rattle.laws.specs.Answers.{Said, gives, refuses, numberOf, orRefused, Measure, is, absent, figureSaid}
+use Rattle.rules.specs.Machine.{End, waiting, broken, stopped}
+use Rattle.laws.specs.Answers.{Said, gives, refuses, numberOf, orRefused, Measure, is, absent, figureSaid, endSaid}
 
 -- what is said, by the number of a refusal
 module _ {A : Type 0} (n : ℕ) (x : Said A) where
@@ -41,6 +42,12 @@ given-refused e = false≢true cc
 
 pub given-is : {A : Type 0} {x y : A} → gives x ≡ gives y → x ≡ y
 given-is e = cc
+
+-- more bytes may go on only where nothing is refused
+pub only-waiting : {A : Type 0} (x : A) (e : End) {y : A} → endSaid x e ≡ gives y → e ≡ waiting
+only-waiting x waiting q = refl
+only-waiting x broken q = absurd (given-refused (sym q))
+only-waiting x (stopped n) q = absurd (given-refused (sym q))
 
 -- a figure by the number of a refusal says so
 pub figure-or : (n : ℕ) (f : Figure) → figureSaid (figureOr n f) ≡ orRefused n (figureSaid f)

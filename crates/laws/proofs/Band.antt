@@ -13,7 +13,7 @@ use Rattle.numbers.proofs.Tests.{both, and-mono, leb-mono}
 use Rattle.rules.specs.declared.Tolerances.{Tolerances}
 use Rattle.rules.specs.Bench.{mostSpeedTolerance, mostTimeTolerance, mostAllowance, tolerable}
 use Rattle.rules.specs.Cycle.{seconds, point, positions}
-use Rattle.rules.specs.Band.{grid20, from, upto, lo, hi, insideOf, belowOf, side, inside, verdict}
+use Rattle.rules.specs.Band.{grid20, windowFrom, windowTo, lo, hi, insideOf, belowOf, side, inside, verdict}
 use Rattle.laws.specs.Beside.{below, above}
 use Rattle.laws.specs.Claims.{Widened}
 
@@ -28,8 +28,8 @@ grid20-end b =
 -- the window holds its own position, so that lo is at most hi
 pub lo-hi : (b : List ℕ) (w p : ℕ) → p ≤ positions b → lo b w p ≤ hi b w p
 lo-hi b w p h =
-    le-trans (least-at (grid20 b) (from w p) (upto b w p) p (omega arith) (omega arith))
-    (greatest-at (grid20 b) (from w p) (upto b w p) p (omega arith) (omega arith))
+    le-trans (least-at (grid20 b) (windowFrom w p) (windowTo b w p) p (omega arith) (omega arith))
+    (greatest-at (grid20 b) (windowFrom w p) (windowTo b w p) p (omega arith) (omega arith))
 
 module _ (b : List ℕ) (t : Tolerances) (p v : ℕ) where
   -- outside is below or above
@@ -117,11 +117,11 @@ tolerated t e =
 
 pub lo-falls : (b : List ℕ) (w w′ p : ℕ) → w ≤ w′ → p ≤ positions b → lo b w′ p ≤ lo b w p
 lo-falls b w w′ p h l =
-    least-wider (grid20 b) (from w p) (upto b w p) (from w′ p) (upto b w′ p) (omega arith) (omega arith) (omega arith)
+    least-wider (grid20 b) (windowFrom w p) (windowTo b w p) (windowFrom w′ p) (windowTo b w′ p) (omega arith) (omega arith) (omega arith)
 
 pub hi-rises : (b : List ℕ) (w w′ p : ℕ) → w ≤ w′ → p ≤ positions b → hi b w p ≤ hi b w′ p
 hi-rises b w w′ p h l =
-    greatest-wider (grid20 b) (from w p) (upto b w p) (from w′ p) (upto b w′ p) (omega arith) (omega arith) (omega arith)
+    greatest-wider (grid20 b) (windowFrom w p) (windowTo b w p) (windowFrom w′ p) (windowTo b w′ p) (omega arith) (omega arith) (omega arith)
 
 -- what is inside stays inside
 pub inside-wider : (b : List ℕ) (t t′ : Tolerances) (p v : ℕ) → Widened t t′ → p ≤ positions b → T (inside b t p v) → T (inside b t′ p v)

@@ -25,8 +25,8 @@ use Rattle.opening.specs.declared.OpenAnswer.{OpenAnswer}
 use Rattle.opening.specs.declared.Opening.{Opening}
 
 -- before the first field: until field 2 the vehicle is seventeen times the character 0
-abbrev pub nothing : Opening
-nothing = record { fields = 0; vehicle = replicate 17 48; cycle = 0 }
+abbrev pub unopened : Opening
+unopened = record { fields = 0; vehicle = replicate 17 48; cycle = 0 }
 
 -- ---- as what has been read
 

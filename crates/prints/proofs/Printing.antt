@@ -27,7 +27,7 @@ use Rattle.records.proofs.Joined.{Long, Holds}
 use Rattle.reader.specs.Answers.{mayEnd, endingOf}
 use Rattle.reading.specs.declared.Reading.{Reading}
 use Rattle.reading.specs.Answers.{startedReading, readingOf, isReading, readGround}
-use Rattle.opening.specs.Answers.{nothing, runOf}
+use Rattle.opening.specs.Answers.{unopened, runOf}
 use Rattle.figures.specs.declared.Found.{Found}
 use Rattle.figures.specs.Figured.{foundOf}
 use Rattle.figures.proofs.OfRun.{figures-of-run}
@@ -94,7 +94,7 @@ module _ (lent : Lent) where
 
     in-limits : behindTolerances ≤ u .place → isReading reading ≡ true
     unfolding readGround
-    in-limits e = not-refused 0 _ _ (reads-on nothing room l m u (good room l m long w) e) .0
+    in-limits e = not-refused 0 _ _ (reads-on unopened room l m u (good room l m long w) e) .0
 
     figures-are : behindTolerances ≤ u .place → foundOn (laid w) .figures ≡ figuresTold (lists w .state)
     figures-are e =

@@ -11,7 +11,7 @@ use rules::Charge;
 use state::Run;
 ghost use mathlib.Core.Path.{_≡_};
 ghost use Rattle.state.specs.State.{left};
-ghost use Rattle.opening.specs.Answers.{nothing, openLeft, frontOpened};
+ghost use Rattle.opening.specs.Answers.{unopened, openLeft, frontOpened};
 ghost use Rattle.reading.specs.Answers.{startedReading, readGround};
 ghost use Rattle.reader.specs.Answers.{readSaid, allSaid, endingSaid, readLeft, allLeft, endingOf};
 
@@ -36,7 +36,7 @@ pub struct AllAnswer {
 
 // Before the first field: until field 2 the vehicle is seventeen times the character 0.
 pub fn blank() -> Opening
-    ensures { λ r. ⌜ r ≡ nothing ⌝ }
+    ensures { λ r. ⌜ r ≡ unopened ⌝ }
 {
     Opening {
         fields: 0,

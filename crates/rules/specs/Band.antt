@@ -14,18 +14,18 @@ unfoldable pub grid20 : List ℕ → ℕ → ℕ
 grid20 b g = (20 - g % 20) * point b (g / 20) + g % 20 * point b (g / 20 + 1)
 
 -- "the window is the grid from max(0, p-w) to min(20T, p+w)". A difference below 0 is 0
-abbrev pub from : ℕ → ℕ → ℕ
-from w p = p - w
+abbrev pub windowFrom : ℕ → ℕ → ℕ
+windowFrom w p = p - w
 
-abbrev pub upto : List ℕ → ℕ → ℕ → ℕ
-upto b w p = min (positions b) (p + w)
+abbrev pub windowTo : List ℕ → ℕ → ℕ → ℕ
+windowTo b w p = min (positions b) (p + w)
 
 -- "lo and hi .. the least and greatest value there"
 abbrev pub lo : List ℕ → ℕ → ℕ → ℕ
-lo b w p = least (grid20 b) (from w p) (upto b w p)
+lo b w p = least (grid20 b) (windowFrom w p) (windowTo b w p)
 
 abbrev pub hi : List ℕ → ℕ → ℕ → ℕ
-hi b w p = greatest (grid20 b) (from w p) (upto b w p)
+hi b w p = greatest (grid20 b) (windowFrom w p) (windowTo b w p)
 
 -- "inside when lo <= 20v + 20s and 20v <= hi + 20s", s the speed tolerance; below: where the first fails
 abbrev pub insideOf : ℕ → ℕ → ℕ → ℕ → Bool

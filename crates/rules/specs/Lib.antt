@@ -1,22 +1,31 @@
 -- Document 01 as definitions, in its order. This is what a reader must believe.
+
+-- the words that the rules are said in
 pub mod Words
+-- 'Numbers on the bench'; the cycle; 'The tolerance band', and the bench controller's question about it
 pub mod Bench
 pub mod Cycle
 pub mod Band
 pub mod Question
+-- which samples count; what a method is; phases and cycles, and when they are finished; the regular method; 'Ledger and map'
 pub mod Tally
 pub mod Course
 pub mod Parts
 pub mod Regular
 pub mod Shown
+-- 'Closing figures'
 pub mod Closing
+-- 'Record layout': the table of tags and the order; what stands at the front of bytes; the machine that takes fields; the values of fields;
+-- what each field brings, with the 'Numbered answers', and what a record tells
 pub mod Table
 pub mod Front
 pub mod Machine
 pub mod Values
 pub mod Record
+-- 'The report program': the figures of a sheet, and its text
 pub mod Figures
 pub mod Text
+-- 'Rows on the test card', and rows of our own: of the definitions above, of short records, of a sheet
 pub mod Card
 pub mod Records
 pub mod Sheets

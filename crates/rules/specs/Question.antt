@@ -11,13 +11,13 @@ use Rattle.rules.specs.Cycle.{startOr, positions}
 use Rattle.rules.specs.Band.{verdict}
 
 -- "minus a refusal"
-abbrev pub refused : ℕ → ℤ
-refused n = negℤ (pos n)
+abbrev pub minus : ℕ → ℤ
+minus n = negℤ (pos n)
 
 -- "gets 0 inside, 1 below, 2 above, or minus a refusal (2, 3, 6, 5 in that order; 6 for a position of 20T or more)"
 unfoldable pub question : List ℕ → Tolerances → ℕ → ℕ → ℤ
 question b t p v =
-    startOr refused b t
-    (unless (refused 6) (ltb p (positions b))
-    (unless (refused 5) (leb v mostSpeed)
+    startOr minus b t
+    (unless (minus 6) (ltb p (positions b))
+    (unless (minus 5) (leb v mostSpeed)
     (pos (verdict b t p v))))

@@ -11,7 +11,7 @@ use Rattle.rules.specs.Words.{fold, least, greatest}
 use Rattle.numbers.proofs.Order.{side}
 use Rattle.numbers.proofs.Extremes.{Meet, meet-min, meet-max, bound, greatest-bound, bound-at}
 use Rattle.rules.specs.Cycle.{point, positions, valid}
-use Rattle.rules.specs.Band.{grid20, from, upto, lo, hi}
+use Rattle.rules.specs.Band.{grid20, windowFrom, windowTo, lo, hi}
 use Rattle.laws.proofs.Sound.{Sound, sound}
 use Rattle.window.specs.Moving.{mostGrid, innerLeast, innerGreatest, windowOf, leastIn, greatestIn}
 use Rattle.window.proofs.Lines.{grid-whole, rises-within, falls-within, grid-most}
@@ -138,8 +138,8 @@ module _ (b : List ℕ) (o : Sound b) (a e : ℕ) (h : a ≤ e) (l : e ≤ posit
 module _ (b : List ℕ) (v : valid b ≡ true) (w p : ℕ) (h : p < positions b) where
   pub least-in : leastIn (windowOf b w p) ≡ lo b w p
   unfolding windowOf
-  least-in = sym (least-is b (sound b v) (from w p) (upto b w p) (omega arith) (omega arith))
+  least-in = sym (least-is b (sound b v) (windowFrom w p) (windowTo b w p) (omega arith) (omega arith))
 
   pub greatest-in : greatestIn (windowOf b w p) ≡ hi b w p
   unfolding windowOf
-  greatest-in = sym (greatest-is b (sound b v) (from w p) (upto b w p) (omega arith) (omega arith))
+  greatest-in = sym (greatest-is b (sound b v) (windowFrom w p) (windowTo b w p) (omega arith) (omega arith))

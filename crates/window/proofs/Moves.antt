@@ -10,7 +10,7 @@ use borrow.Author.Tests.{le-leb, lt-leb, lt-ltb, le-ltb}
 use lib.Dec.{leb}
 use Rattle.numbers.proofs.Order.{side}
 use Rattle.rules.specs.Cycle.{seconds, positions}
-use Rattle.rules.specs.Band.{grid20, from, upto}
+use Rattle.rules.specs.Band.{grid20, windowFrom, windowTo}
 use Rattle.laws.proofs.Sound.{Sound}
 use Rattle.window.specs.Moving.{Edge, Window, riseOf, edgeOf, leftMoves, rightMoves, leftSteps, untilOf, innerLeast, innerGreatest, Small, onward, shifted, windowOf}
 use Rattle.window.proofs.Lines.{grid-within, grid-next, grid-most, point-most}
@@ -56,38 +56,38 @@ goes-still b o g g′ h e = record { small = small-still b o g h; value = rw e (
 
 module _ (b : List ℕ) (o : Sound b) (w p : ℕ) (h : p + 1 < positions b) where
   -- the left end
-  left-goes : 2 ≤ leftSteps w p → Goes b (leftMoves w p) (leftMoves w (p + 1)) (from w p) (from w (p + 1)) × (leftSteps w (p + 1) ≡ leftSteps w p - 1)
+  left-goes : 2 ≤ leftSteps w p → Goes b (leftMoves w p) (leftMoves w (p + 1)) (windowFrom w p) (windowFrom w (p + 1)) × (leftSteps w (p + 1) ≡ leftSteps w p - 1)
   left-goes s =
       ⊎-elim
       (λ (l : w ≤ p).
       let u = le-leb w p l in
       let v = le-leb w (p + 1) (omega arith) in
       let k : 2 ≤ 20 - (p - w) % 20 = rw u at s in
-      rw (u, v) (goes-moving b o (from w p) (from w (p + 1)) (omega arith) (omega arith) (omega arith), omega arith))
+      rw (u, v) (goes-moving b o (windowFrom w p) (windowFrom w (p + 1)) (omega arith) (omega arith) (omega arith), omega arith))
       (λ (l : p < w).
       let u = lt-leb w p l in
       let k : 2 ≤ w - p = rw u at s in
       let v = lt-leb w (p + 1) (omega arith) in
-      rw (u, v) (goes-still b o (from w p) (from w (p + 1)) (omega arith) (omega arith), omega arith))
+      rw (u, v) (goes-still b o (windowFrom w p) (windowFrom w (p + 1)) (omega arith) (omega arith), omega arith))
       (side w p)
 
   -- the right end
   right-goes : (rightMoves (positions b) w p ≡ true → 2 ≤ 20 - (p + w) % 20)
-      → Goes b (rightMoves (positions b) w p) (rightMoves (positions b) w (p + 1)) (upto b w p) (upto b w (p + 1))
+      → Goes b (rightMoves (positions b) w p) (rightMoves (positions b) w (p + 1)) (windowTo b w p) (windowTo b w (p + 1))
   right-goes s =
       ⊎-elim
       (λ (l : positions b ≤ p + w).
       rw (le-ltb (p + w) (positions b) l, le-ltb (p + 1 + w) (positions b) (omega arith))
-      (goes-still b o (upto b w p) (upto b w (p + 1)) (omega arith) (omega arith)))
+      (goes-still b o (windowTo b w p) (windowTo b w (p + 1)) (omega arith) (omega arith)))
       (λ (l : p + w < positions b).
       let k = s (lt-ltb (p + w) (positions b) l) in
       let m : p + 1 + w < positions b = omega arith in
       rw (lt-ltb (p + w) (positions b) l, lt-ltb (p + 1 + w) (positions b) m)
-      (goes-moving b o (upto b w p) (upto b w (p + 1)) (omega arith) (omega arith) (right-within l k)))
+      (goes-moving b o (windowTo b w p) (windowTo b w (p + 1)) (omega arith) (omega arith) (right-within l k)))
       (side (positions b) (p + w))
     where
-      right-within : p + w < positions b → 2 ≤ 20 - (p + w) % 20 → upto b w p % 20 < 19
-      right-within l k = let e : upto b w p ≡ p + w = omega arith in rw e (omega arith)
+      right-within : p + w < positions b → 2 ≤ 20 - (p + w) % 20 → windowTo b w p % 20 < 19
+      right-within l k = let e : windowTo b w p ≡ p + w = omega arith in rw e (omega arith)
 
   -- ---- the window
 
@@ -130,7 +130,7 @@ module _ (b : List ℕ) (o : Sound b) (w p : ℕ) (h : p + 1 < positions b) wher
 
 -- the window, put together from its parts
 pub window-made : (b : List ℕ) (w p t a e : ℕ) (l r : Edge) (i j s : ℕ) → t ≡ seconds b → a ≡ p - w → e ≡ min (20 * t) (p + w)
-    → l ≡ edgeOf b (leftMoves w p) (from w p) → r ≡ edgeOf b (rightMoves (positions b) w p) (upto b w p)
+    → l ≡ edgeOf b (leftMoves w p) (windowFrom w p) → r ≡ edgeOf b (rightMoves (positions b) w p) (windowTo b w p)
     → i ≡ innerLeast b a e → j ≡ innerGreatest b a e → s ≡ untilOf (20 * t) w p
     → _≡_ {A = Window} (record { left = l .value; leftrise = l .rise; low = i; right = r .value; rightrise = r .rise; high = j; until = s }) (windowOf b w p)
 unfolding windowOf

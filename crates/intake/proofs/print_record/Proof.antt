@@ -4,7 +4,7 @@ use mathlib.Core.Path.{sym, ap}
 use Rattle.laws.specs.Answers.{Said}
 use Rattle.desk.specs.Feeding.{Laid, laidOf}
 use Rattle.prints.proofs.Texts.{as-text}
-use Rattle.intake.specs.Turns.{outcomeBy, textOf}
+use Rattle.intake.specs.Turns.{turnedSaid, textOf}
 use Rattle.intake.proofs.Coming.{not-refused}
 use borrow.Author.Needs.{needs}
 use Rattle.intake.proofs.print_record.Statement.{statement}
@@ -27,7 +27,7 @@ returns c =
     let line = c .before .before in
     let known = line .before .before .before in
     let s = known .before .before .before .before .before .before in
-    as-text (s .args .lines .now) (ap (λ (o : Said (Unit {0})). textOf o (laid s) (s .args .t .held)) (sym (ap outcomeBy (known .turned .given .1)))) (line .refuse .ensures)
+    as-text (s .args .lines .now) (ap (λ (o : Said (Unit {0})). textOf o (laid s) (s .args .t .held)) (sym (ap turnedSaid (known .turned .given .1)))) (line .refuse .ensures)
 
 close-requires : tie.Need-close-requires
 close-requires c κs = search needs

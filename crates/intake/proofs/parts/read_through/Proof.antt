@@ -7,7 +7,7 @@ use borrow.Author.Needs.{needs}
 use borrow.Author.Tests.{not-false}
 use lib.ListN.{length}
 use Rattle.desk.specs.Feeding.{laidOf, emptyDesk, longest}
-use Rattle.intake.specs.Turns.{roundOf, onwards, Stood}
+use Rattle.intake.specs.Turns.{roundOf, goingOn, Stood}
 use Rattle.intake.proofs.Coming.{nothing-yet, on-again, all-came}
 use Rattle.intake.proofs.Untested.{stood-steady}
 use Rattle.intake.proofs.parts.read_through.Statement.{statement}
@@ -17,7 +17,7 @@ abbrev Inv-loop : tie.InvT-loop
 Inv-loop most buffer₀ room₀ ledger₀ map₀ desk₀ held₀ left₀ buffer room ledger map desk held left =
     (held < longest)
     × ((length buffer ≡ length buffer₀) × ((length room ≡ length room₀) × ((length ledger ≡ length ledger₀) × (length map ≡ length map₀))))
-    × Stood (laidOf emptyDesk room₀ ledger₀ map₀) most (roundOf (onwards desk held left) buffer room ledger map)
+    × Stood (laidOf emptyDesk room₀ ledger₀ map₀) most (roundOf (goingOn desk held left) buffer room ledger map)
 
 abbrev μ-loop : tie.MeasureT-loop
 μ-loop most buffer₀ room₀ ledger₀ map₀ desk₀ held₀ left₀ buffer room ledger map desk held left = left
