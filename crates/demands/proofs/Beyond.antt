@@ -38,8 +38,8 @@ use Rattle.judge.specs.declared.Answer.{Answer}
 use Rattle.judge.specs.Answers.{planOf}
 use Rattle.judge.proofs.Calls.{kept-ground}
 use Rattle.judge.proofs.Promises.{Promised}
-use Rattle.demands.specs.Calls.{StartCall, SampleCall, BlockCall}
-use Rattle.demands.specs.Runs.{startLeaves, sampleLeaves, blockLeaves, Beyond}
+use Rattle.demands.specs.Calls.{StartCall, SampleCall, BlockCall, startLeaves, sampleLeaves, blockLeaves}
+use Rattle.demands.specs.Runs.{Beyond}
 use Rattle.demands.proofs.Driven.{start-promised, sample-promised, block-promised}
 
 pub untouched : {a : Memory} → Beyond a a

@@ -37,7 +37,7 @@ use Rattle.records.proofs.Later.{taken-list}
 use Rattle.laws.proofs.Places.{place-is, block-places, recharge-places}
 use Rattle.opening.specs.declared.Opening.{Opening}
 use Rattle.opening.specs.Answers.{stageOf, openGround, notOpened, openedBy, frontOpened}
-use Rattle.opening.proofs.Starting.{ground-ready}
+use Rattle.opening.proofs.Readied.{ground-ready}
 use Rattle.reading.specs.declared.Reading.{Reading}
 use Rattle.reading.specs.Answers.{ReadSaid, AllSaid, stageAt, readGround}
 use Rattle.reader.specs.Answers.{readBy, allBy, readLeft, allLeft}

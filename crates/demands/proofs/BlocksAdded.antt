@@ -6,83 +6,28 @@ use mathlib.Core.Path.{_≡_, refl, sym, ap, subst, _∙_}
 use Prim.Native.Nat.{ℕ, zero, suc, _+_, _-_, _≤_, max}
 use native.Mathlib.Omega.{arith}
 use lib.Dec.{leb, eqb}
-use lib.IntN.{ℤ}
-use lib.ListN.{length, drop, length-append, length-drop}
+use lib.ListN.{length, drop, length-append}
 use borrow.Author.Tests.{le-leb}
 use Rattle.rules.specs.Words.{unless}
-use Rattle.numbers.proofs.Tables.{length-table}
 use Rattle.rules.specs.declared.Moment.{Moment}
 use Rattle.rules.specs.Bench.{mostOffered}
 use Rattle.rules.specs.Table.{Matter, mark, number, cycle, tolerances, block, energyBefore, energyAfter, recharge, isOf, among, lengthAllowed, byRow, behindTolerances, behindBefore, behindBlock, tags}
 use Rattle.rules.specs.Front.{Field, Front, incomplete, impossible, field, bytesOf, frontOf}
-use Rattle.rules.specs.Machine.{Answer, taken, waiting, Ran, Move, on, off, moveBy, onwards, goOn, replyAt, moveAt, upto, run}
-use Rattle.rules.specs.Values.{isNumber, sameNumber, firstIn, samplesOf, momentAt, momentsIn, countIn, areSamples, blockOr}
-use Rattle.rules.specs.Record.{Told, Bring, nothing, aNumber, aCycle, theTolerances, ownSamples, before, after, charged, holding, Content, brought, foreign, wrong, blockContent, rowContent, fieldContent, contentAt, bringAt, takeField, told, sheetOf}
+use Rattle.rules.specs.Machine.{Answer, taken, waiting, Ran, Move, on, off, moveBy, onwards, goOn, replyAt, moveAt, upto}
+use Rattle.rules.specs.Values.{isNumber, sameNumber, firstIn, samplesOf, momentsIn, countIn, areSamples, blockOr}
+use Rattle.rules.specs.Record.{Told, Bring, ownSamples, after, charged, holding, Content, brought, foreign, wrong, blockContent, rowContent, fieldContent, contentAt, bringAt, takeField, told, sheetOf}
 use Rattle.laws.proofs.Carried.{Accepted}
 use Rattle.laws.proofs.Foreign.{lookup-both, unless-both}
 use Rattle.laws.proofs.Fronts.{front-allowed}
 use Rattle.laws.proofs.Moves.{moveAs, by-move}
 use Rattle.laws.proofs.Orders.{run-place}
-use Rattle.laws.proofs.Places.{place-is, block-places}
-use Rattle.laws.proofs.Prefixes.{kept}
-use Rattle.laws.proofs.Samples.{block-of}
 use Rattle.laws.proofs.Says.{movesTo}
-use Rattle.laws.proofs.Tags.{pick, sizes}
+use Rattle.laws.proofs.Tags.{pick}
 use Rattle.demands.specs.Compared.{withSamples, notBefore}
-use Rattle.demands.proofs.ToldCame.{SaysAt, answers, takes, Moved, took, went, moved}
+use Rattle.demands.proofs.ToldCame.{SaysAt, answers, takes}
 use Rattle.demands.proofs.ToldLater.{Later, later-first, later-upto, later-run, later-longer}
 use Rattle.demands.proofs.ToldLed.{Led, told-led, led-told}
-
--- ---- what is brought where a 6 before or a block stands
-
-data Late : Bring → Type 0 where
-  samples-late : (xs : List Moment) → Late (ownSamples xs)
-  after-late : (e : ℤ) → Late (after e)
-  charged-late : (w : ℕ) → Late (charged w)
-
-late : (s : Told) (f : Field) (b : Bring) → SaysAt s f b → behindBefore ≤ s .place → Late b
-late s f nothing w l = absurd (let p = place-is (s .place) 0 (w .1) in omega arith)
-late s f (aNumber v) w l = absurd (let p = place-is (s .place) 1 (w .1) in omega arith)
-late s f (aCycle v) w l = absurd (let p = place-is (s .place) 2 (w .1) in omega arith)
-late s f (theTolerances t) w l = absurd (let p = place-is (s .place) 3 (w .1) in omega arith)
-late s f (ownSamples xs) w l = samples-late xs
-late s f (before e) w l = absurd (let p = place-is (s .place) 4 (w .1) in omega arith)
-late s f (after e) w l = after-late e
-late s f (charged k) w l = charged-late k
-
--- an own block brings at least one sample
-some-samples : (s : Told) (f : Field) (xs : List Moment) → lengthAllowed tags (f .tag) (length (f .value)) ≡ true → SaysAt s f (ownSamples xs) → 1 ≤ length xs
-some-samples s f xs a w =
-    let q = samplesOf (f .value) in
-    let z = sizes (f .tag) (length (f .value)) a .block (w .0) in
-    let b = block-of (length (f .value) - 21) (z .1) in
-    let n : length xs ≡ countIn q = ap length (w .2) ∙ length-table (momentAt q) (countIn q) in
-    omega (arith, b .some, length-drop 21 (f .value))
-
--- ---- from there to a block only own blocks are taken: they leave the amounts
-
-record Blocked (s t : Told) : Type 0 where
-  pub place : behindBefore ≤ t .place
-  pub amounts : t .place ≤ behindBlock → t .holding .amounts ≡ s .holding .amounts
-
-module _ (s t : Told) (h : Blocked s t) where
-  blocked-brought : (f : Field) (b : Bring) → SaysAt t f b → Late b → Blocked s (bringAt t (movesTo b) b)
-  blocked-brought f b w (samples-late xs) = record { place = omega arith; amounts = λ _. h .amounts (block-places (t .place) (w .1) .1) }
-  blocked-brought f b w (after-late e) = record { place = omega arith; amounts = λ l. absurd (omega arith) }
-  blocked-brought f b w (charged-late k) = record { place = omega arith; amounts = λ l. absurd (omega arith) }
-
-  blocked-move : (i : List ℕ) (t′ : Told) (m : ℕ) → moveAt tags takeField t i ≡ on t′ m → Blocked s t′
-  blocked-move i t′ m e = go (moved t i t′ m e)
-    where
-      go : Moved t i t′ → Blocked s t′
-      go (took f _ _ c) = subst (Blocked s) (c .is) (blocked-brought f (c .brings) (c .says) (late t f (c .brings) (c .says) (h .place)))
-      go (went d) = subst (Blocked s) d (record { place = h .place; amounts = h .amounts })
-
-blocked-none : (s : Told) → behindBefore ≤ s .place → Blocked s s
-blocked-none s l = record { place = l; amounts = λ _. refl }
-
-blocked-run : (s : Told) (i : List ℕ) → behindBefore ≤ s .place → Blocked s (run tags takeField s i .state)
-blocked-run s i l = kept tags takeField (Blocked s) (λ t j t′ m e h. blocked-move s t h j t′ m e) (length i) s i (blocked-none s l)
+use Rattle.demands.proofs.Blocked.{Late, samples-late, after-late, charged-late, late, some-samples, Blocked, blocked-run, blocked-move, blocked-none}
 
 -- ---- a field behind the blocks, where the samples ys are told
 

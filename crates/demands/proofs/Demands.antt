@@ -10,7 +10,7 @@ use Rattle.state.specs.declared.Run.{Run}
 use Rattle.judge.proofs.Runs as runs
 use Rattle.intake.proofs.Told as intake
 use Rattle.demands.specs.Demand1.{Demand1}
-use Rattle.demands.specs.Demand2.{Demand2}
+use Rattle.demands.specs.Demand2.{Demand2, RunHolds}
 use Rattle.demands.specs.Demand3.{Demand3}
 use Rattle.demands.specs.Runs.{Driven}
 use Rattle.demands.proofs.Takes.{takes-every-input}
@@ -23,7 +23,7 @@ use Rattle.demands.proofs.OfRun.{run-shows, run-answers, weighted-holds
 use Rattle.demands.proofs.NeverRefused.{never-refused}
 use Rattle.demands.proofs.Verdict.{verdict-is-the-judges}
 use Rattle.demands.proofs.ShutOut.{shuts-out, shuts-out-always}
-use Rattle.demands.proofs.SomeRecord.{speaks}
+use Rattle.demands.proofs.SomeRecord.{some-between, speaks}
 use Rattle.demands.proofs.ForeignBlocks.{foreign-changes-nothing, read-passes-over}
 use Rattle.demands.proofs.Arrivals.{before-all, prints}
 use Rattle.demands.proofs.WiderRuns.{wider-run, longer-run}
@@ -35,6 +35,16 @@ use Rattle.demands.proofs.Records.{field-four-alone, wider-record, long
 pub demand-1 : {M : Type 1} → Demand1 M
 demand-1 = record { takes = takes-every-input; numbers = has-its-number; listed = in-the-list; refused = refused-changes-nothing; lines = lines-stay; beyond = beyond-stays }
 
+run-holds : {p : Plan} {l₀ : List ℤ} {m₀ : List ℕ} {xs : List Moment} {r : Run} {l : List ℤ} {m : List ℕ} → Driven p l₀ m₀ xs r l m → RunHolds p l₀ m₀ xs r l m
+run-holds h = record {
+  shows = run-shows h;
+  answers = run-answers h;
+  weighted = weighted-holds h;
+  never-refused-1-or-2 = never-refused h;
+  verdict-is-the-judges = verdict-is-the-judges h;
+  shuts-out = shuts-out h;
+}
+
 -- "The same accepted samples cut into other blocks give the same run."
 same-run : {p : Plan} {l₀ : List ℤ} {m₀ : List ℕ} {xs : List Moment} {r r′ : Run} {l l′ : List ℤ} {m m′ : List ℕ}
     → Driven p l₀ m₀ xs r l m → Driven p l₀ m₀ xs r′ l′ m′ → (r ≡ r′) × (l ≡ l′) × (m ≡ m′)
@@ -42,13 +52,8 @@ same-run {p} {l₀} {m₀} h g = runs.cut-otherwise-same-run p l₀ m₀ (driven
 
 pub demand-2 : Demand2
 demand-2 = record {
-  shows = run-shows;
-  answers = run-answers;
-  weighted = weighted-holds;
-  never-refused-1-or-2 = never-refused;
+  runs = run-holds;
   cut-otherwise-same-run = same-run;
-  verdict-is-the-judges = verdict-is-the-judges;
-  shuts-out = shuts-out;
   shuts-out-always = shuts-out-always;
   speaks = speaks;
   foreign = foreign-changes-nothing;
@@ -71,4 +76,5 @@ demand-3 = record {
   longer-told = longer-told;
   ended-stays = ended-stays;
   blocks-added-between = blocks-added-between;
+  some-between = some-between;
 }

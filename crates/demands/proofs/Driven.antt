@@ -21,8 +21,8 @@ use Rattle.judge.proofs.Runs.{Reached}
 use Rattle.judge.proofs.start
 use Rattle.judge.proofs.sample
 use Rattle.judge.proofs.block
-use Rattle.demands.specs.Calls.{StartCall, SampleCall, BlockCall}
-use Rattle.demands.specs.Runs.{StartOn, SampleOn, BlockOn, sampleIn, bytesIn, startLeaves, sampleLeaves, blockLeaves, Driven, begins, takes, takes-block, refuses, refuses-block}
+use Rattle.demands.specs.Calls.{StartCall, SampleCall, BlockCall, startLeaves, sampleLeaves, blockLeaves}
+use Rattle.demands.specs.Runs.{StartOn, SampleOn, BlockOn, sampleIn, bytesIn, Driven, begins, takes, takes-block, refuses, refuses-block}
 
 -- ---- what they promise
 

@@ -19,7 +19,8 @@ use Rattle.figures.proofs.figures_of
 use Rattle.reader.proofs.read
 use Rattle.reader.proofs.read_all
 use Rattle.demands.specs.Calls.{ShownCall, TotalsCall, WeightedCall, RangeCall, RechargeCall, FiguresCall}
-use Rattle.demands.specs.Runs.{ShownOn, TotalsOn, WeightedOn, RangeOn, RechargeOn, FiguresOn, weightedAmounts, rangeAmounts, rechargeAmounts, figuresReading}
+use Rattle.demands.specs.Runs.{ShownOn, TotalsOn, WeightedOn, RangeOn, RechargeOn, FiguresOn, weightedAmounts, rangeAmounts, rechargeAmounts}
+use Rattle.demands.specs.Runs.{figuresReading}
 
 module _ {r : Run} {b : List ℕ} {l : List ℤ} {m : List ℕ} where
   pub shown-kept : (c : ShownCall) → ShownOn r b l m c → shownSaid (c .answer) ≡ orRefused (ground r b l m 0) (gives (countsOf r b l m))

@@ -5,6 +5,7 @@ pub mod Takes
 pub mod Numbers
 pub mod ReaderNumbers
 pub mod HasItsNumber
+pub mod Proper
 pub mod InTheList
 pub mod Unchanged
 pub mod Driven
@@ -25,6 +26,7 @@ pub mod ToldLed
 pub mod FieldFour
 pub mod Splits
 pub mod ToldLaws
+pub mod Blocked
 pub mod BlocksAdded
 pub mod Lines
 pub mod ForeignBlocks

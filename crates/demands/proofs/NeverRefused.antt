@@ -37,9 +37,9 @@ use Rattle.reading.specs.declared.Step.the-variants as step
 use Rattle.reading.specs.Answers.{stepSaid, isReading, readGround}
 use Rattle.figures.specs.declared.Found.{Found}
 use Rattle.demands.specs.Calls.{SampleCall, BlockCall}
-use Rattle.demands.specs.Cases.{Neither1Nor2, orElse}
 use Rattle.demands.specs.Demand2.{NeverRefused}
 use Rattle.demands.specs.Runs.{On, SampleOn, BlockOn, Driven, rechargeAmounts}
+use Rattle.demands.specs.Cases.{Neither1Nor2, orElse}
 use Rattle.demands.proofs.Numbers.{or-else-number}
 use Rattle.demands.proofs.HasItsNumber.{has-its-number}
 use Rattle.demands.proofs.Driven.{driven-reached}

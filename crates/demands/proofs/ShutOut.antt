@@ -46,9 +46,9 @@ use Rattle.judge.proofs.Promises.{Promised}
 use Rattle.judge.proofs.Runs as runs
 use Rattle.rules.specs.Question.{question}
 use Rattle.demands.specs.Calls.{StartCall, SampleCall, BlockCall, VerdictCall}
-use Rattle.demands.specs.Demand2.{Asks, WorkedThrough, ShutsOut, ShutsOutAlways}
-use Rattle.demands.specs.Rows.{risen, noTime, ofSpeed, eleven, level, allowsThree, fourFast, momentsOf}
+use Rattle.demands.specs.ShutOut.{ShutsOut, Asks, WorkedThrough, ShutsOutAlways}
 use Rattle.demands.specs.Runs.{StartOn, SampleOn, BlockOn, sampleIn, bytesIn, Driven, takes-block}
+use Rattle.demands.specs.Rows.{risen, noTime, ofSpeed, eleven, level, allowsThree, fourFast, momentsOf}
 use Rattle.demands.proofs.Driven.{start-kept, sample-kept, block-kept, driven-reached, sample-promised}
 use Rattle.demands.proofs.LastJudged.{outsides-are}
 use Rattle.demands.proofs.OfRun.{run-shows}
@@ -224,7 +224,7 @@ no-judge-that-never-stops h go-on = go-on (stops-by-the-rules h refl)
 
 -- ---- together
 
-pub shuts-out : {p : Plan} {l₀ : List ℤ} {m₀ : List ℕ} {xs : List Moment} {r : Run} {l : List ℤ} {m : List ℕ} → Driven p l₀ m₀ xs r l m → ShutsOut p l₀ m₀ xs r l m
+pub shuts-out : {p : Plan} {l₀ : List ℤ} {m₀ : List ℕ} {xs : List Moment} {r : Run} {l : List ℤ} {m : List ℕ} → Driven p l₀ m₀ xs r l m → ShutsOut p xs r l m
 shuts-out h = record {
   sample-not-refused = sample-not-refused h;
   block-not-refused = block-not-refused h;

@@ -26,8 +26,8 @@ use Rattle.judge.specs.Answers.{afterSample}
 use Rattle.judge.proofs.Calls.{taken}
 use Rattle.judge.proofs.Runs as runs
 use Rattle.demands.specs.Calls.{StartCall, SampleCall}
-use Rattle.demands.specs.Rows.{momentsOf}
 use Rattle.demands.specs.Runs.{SomeRun, begins, takes}
+use Rattle.demands.specs.Rows.{momentsOf}
 use Rattle.demands.proofs.Driven.{driven-reached}
 use Rattle.demands.proofs.OfRun.{run-shows}
 

@@ -4,6 +4,8 @@ use mathlib.Core.Path.{_≡_}
 use contract.Lifetimes.{Lfts}
 use denote.Triple.Clauses.{Ended, Lasts, AtExit, atExit}
 use borrow.Fn.World.{ArgsD, ResD}
+use denote.Ref.{now}
+use Rattle.state.specs.State.{Memory, lent}
 use Rattle.judge.proofs.start
 use Rattle.judge.proofs.sample
 use Rattle.judge.proofs.block
@@ -126,3 +128,60 @@ RefuseCall = Call refuse.ended refuse.Reads.Learnt
 
 abbrev pub VerdictCall : Type 0
 VerdictCall = Call paperwhelk_verdict.ended paperwhelk_verdict.Reads.Learnt
+
+-- ---- the memory that it is lent and leaves: ledger and map together
+
+abbrev pub startLent : StartCall → Memory
+startLent c = lent (now (c .args .1 .1 .0)) (now (c .args .1 .1 .1 .0))
+
+abbrev pub startLeaves : StartCall → Memory
+startLeaves c = lent (c .lasts .1 .1 .0) (c .lasts .1 .1 .1 .0)
+
+abbrev pub sampleLent : SampleCall → Memory
+sampleLent c = lent (now (c .args .1 .1 .0)) (now (c .args .1 .1 .1 .0))
+
+abbrev pub sampleLeaves : SampleCall → Memory
+sampleLeaves c = lent (c .lasts .1 .1 .0) (c .lasts .1 .1 .1 .0)
+
+abbrev pub blockLent : BlockCall → Memory
+blockLent c = lent (now (c .args .1 .1 .0)) (now (c .args .1 .1 .1 .0))
+
+abbrev pub blockLeaves : BlockCall → Memory
+blockLeaves c = lent (c .lasts .1 .1 .0) (c .lasts .1 .1 .1 .0)
+
+abbrev pub openLent : OpenCall → Memory
+openLent c = lent (now (c .args .1 .1 .1 .0)) (now (c .args .1 .1 .1 .1 .0))
+
+abbrev pub openLeaves : OpenCall → Memory
+openLeaves c = lent (c .lasts .1 .1 .1 .0) (c .lasts .1 .1 .1 .1 .0)
+
+abbrev pub readLent : ReadCall → Memory
+readLent c = lent (now (c .args .1 .1 .1 .0)) (now (c .args .1 .1 .1 .1 .0))
+
+abbrev pub readLeaves : ReadCall → Memory
+readLeaves c = lent (c .lasts .1 .1 .1 .0) (c .lasts .1 .1 .1 .1 .0)
+
+abbrev pub allLent : AllCall → Memory
+allLent c = lent (now (c .args .1 .1 .1 .0)) (now (c .args .1 .1 .1 .1 .0))
+
+abbrev pub allLeaves : AllCall → Memory
+allLeaves c = lent (c .lasts .1 .1 .1 .0) (c .lasts .1 .1 .1 .1 .0)
+
+abbrev pub feedLent : FeedCall → Memory
+feedLent c = lent (now (c .args .1 .1 .1 .0)) (now (c .args .1 .1 .1 .1 .0))
+
+abbrev pub feedLeaves : FeedCall → Memory
+feedLeaves c = lent (c .lasts .1 .1 .1 .0) (c .lasts .1 .1 .1 .1 .0)
+
+-- the call changed nothing: the state that it answers, and all that it is lent
+abbrev pub OpenStayed : OpenCall → Type 0
+OpenStayed c = (c .answer .opening ≡ c .args .0) × (left c ≡ c .args)
+
+abbrev pub ReadStayed : ReadCall → Type 0
+ReadStayed c = (c .answer .reading ≡ c .args .0) × (left c ≡ c .args)
+
+abbrev pub AllStayed : AllCall → Type 0
+AllStayed c = (c .answer .reading ≡ c .args .0) × (left c ≡ c .args)
+
+abbrev pub FeedStayed : FeedCall → Type 0
+FeedStayed c = (c .answer .desk ≡ c .args .0) × (left c ≡ c .args)

@@ -16,7 +16,7 @@ use Rattle.rules.specs.Record.{refusedAt, sheetOf}
 use Rattle.rules.specs.Table.{tags}
 use Rattle.rules.specs.Front.{frontOf}
 use Rattle.laws.specs.Answers.{numberOf, figureSaid}
-use Rattle.state.specs.State.{lent, ground}
+use Rattle.state.specs.State.{ground}
 use Rattle.state.specs.Refusals.{startRefusal, sampleRefusal}
 use Rattle.blocks.specs.Blocks.{blockRefusal}
 use Rattle.judge.specs.declared.Answer.the-variants as answer
@@ -58,8 +58,12 @@ use Rattle.desk.proofs.feed
 use Rattle.prints.proofs.refuse
 use Rattle.prints.proofs.close
 use Rattle.bench.proofs.paperwhelk_verdict
-use Rattle.demands.specs.Calls.{AsksNothing, left, StartCall, SampleCall, BlockCall, ShownCall, TotalsCall, WeightedCall, RangeCall, RechargeCall, RechargedCall, FrontCall, ContentCall, OpenCall, ReadCall, AllCall, EndedCall, FiguresCall, SheetCall, RefusalCall, FeedCall, CloseCall, RefuseCall}
-use Rattle.demands.specs.Runs.{startLeaves, sampleLeaves, blockLeaves, Beyond, Shorter}
+use Rattle.demands.specs.Calls.{AsksNothing, left, StartCall, SampleCall, BlockCall, ShownCall, TotalsCall, WeightedCall, RangeCall}
+use Rattle.demands.specs.Calls.{RechargeCall, RechargedCall, FrontCall, ContentCall, OpenCall, ReadCall, AllCall, EndedCall, FiguresCall}
+use Rattle.demands.specs.Calls.{SheetCall, RefusalCall, FeedCall, CloseCall, RefuseCall, startLent, startLeaves, sampleLent, sampleLeaves}
+use Rattle.demands.specs.Calls.{blockLent, blockLeaves, openLent, openLeaves, readLent, readLeaves, allLent, allLeaves, feedLent, feedLeaves}
+use Rattle.demands.specs.Calls.{OpenStayed, ReadStayed, AllStayed, FeedStayed}
+use Rattle.demands.specs.Runs.{Beyond, Shorter}
 use Rattle.demands.specs.Cases.{wrongNumber, orElse, rechargeNumber, openingNumber, nextNumber, readingNumber, Listed}
 
 -- ---- "Reader and judge take every input, broken ones included, and end."
@@ -165,16 +169,18 @@ pub record RefusedChangesNothing : Type 0 where
   pub sample-refused-changes-nothing : (c : SampleCall) (n : ℕ) → c .answer ≡ answer.Refused n → left c ≡ c .args
   pub block-refused-changes-nothing : (c : BlockCall) (n : ℕ) → c .answer ≡ answer.Refused n → left c ≡ c .args
   -- the reader; and of its answer to an unfinished field: "That answer changes nothing."
-  pub open-refused-changes-nothing : (c : OpenCall) (n : ℕ) → c .answer .step ≡ opening.Refused n → (c .answer .opening ≡ c .args .0) × (left c ≡ c .args)
-  pub open-incomplete-changes-nothing : (c : OpenCall) → c .answer .step ≡ opening.Incomplete → (c .answer .opening ≡ c .args .0) × (left c ≡ c .args)
-  pub read-refused-changes-nothing : (c : ReadCall) (n : ℕ) → c .answer .step ≡ step.Refused n → (c .answer .reading ≡ c .args .0) × (left c ≡ c .args)
-  pub read-incomplete-changes-nothing : (c : ReadCall) → c .answer .step ≡ step.Incomplete → (c .answer .reading ≡ c .args .0) × (left c ≡ c .args)
+  pub open-refused-changes-nothing : (c : OpenCall) (n : ℕ) → c .answer .step ≡ opening.Refused n → OpenStayed c
+  pub open-incomplete-changes-nothing : (c : OpenCall) → c .answer .step ≡ opening.Incomplete → OpenStayed c
+  pub read-refused-changes-nothing : (c : ReadCall) (n : ℕ) → c .answer .step ≡ step.Refused n → ReadStayed c
+  pub read-incomplete-changes-nothing : (c : ReadCall) → c .answer .step ≡ step.Incomplete → ReadStayed c
   -- `read_all` and `feed` take field after field. Where none was accepted, all is as it was; and what ends the call, a refusal or an unfinished field,
   -- leaves no trace: a call on the bytes of the accepted fields alone leaves the same
-  pub read-all-none-accepted-changes-nothing : (c : AllCall) → c .answer .fields ≡ 0 → (c .answer .reading ≡ c .args .0) × (left c ≡ c .args)
-  pub read-all-refused-leaves-no-trace : (c d : AllCall) → Shorter (c .answer .used) (c .args) (d .args) → (d .answer .reading ≡ c .answer .reading) × (d .lasts ≡ c .lasts)
-  pub feed-none-accepted-changes-nothing : (c : FeedCall) → c .answer .used ≡ 0 → (c .answer .desk ≡ c .args .0) × (left c ≡ c .args)
-  pub feed-refused-leaves-no-trace : (c d : FeedCall) → Shorter (c .answer .used) (c .args) (d .args) → (d .answer .desk ≡ c .answer .desk) × (d .lasts ≡ c .lasts)
+  pub read-all-none-accepted-changes-nothing : (c : AllCall) → c .answer .fields ≡ 0 → AllStayed c
+  pub read-all-refused-leaves-no-trace : (c d : AllCall) → Shorter (c .answer .used) (c .args) (d .args)
+      → (d .answer .reading ≡ c .answer .reading) × (d .lasts ≡ c .lasts)
+  pub feed-none-accepted-changes-nothing : (c : FeedCall) → c .answer .used ≡ 0 → FeedStayed c
+  pub feed-refused-leaves-no-trace : (c d : FeedCall) → Shorter (c .answer .used) (c .args) (d .args)
+      → (d .answer .desk ≡ c .answer .desk) × (d .lasts ≡ c .lasts)
   -- "no figure"
   pub figures-of-refused-has-no-figure : (c : FiguresCall) → (c .answer .refusal ≡ 0 → ⊥) → c .answer .figures ≡ noFigures
 
@@ -193,13 +199,13 @@ pub record LinesStay : Type 0 where
 -- ---- "what lies beyond is never touched": of every single call, on any state and memory
 
 pub record BeyondStays : Type 0 where
-  pub start-beyond : (c : StartCall) → Beyond (lent (now (c .args .1 .1 .0)) (now (c .args .1 .1 .1 .0))) (startLeaves c)
-  pub sample-beyond : (c : SampleCall) → Beyond (lent (now (c .args .1 .1 .0)) (now (c .args .1 .1 .1 .0))) (sampleLeaves c)
-  pub block-beyond : (c : BlockCall) → Beyond (lent (now (c .args .1 .1 .0)) (now (c .args .1 .1 .1 .0))) (blockLeaves c)
-  pub open-beyond : (c : OpenCall) → Beyond (lent (now (c .args .1 .1 .1 .0)) (now (c .args .1 .1 .1 .1 .0))) (lent (c .lasts .1 .1 .1 .0) (c .lasts .1 .1 .1 .1 .0))
-  pub read-beyond : (c : ReadCall) → Beyond (lent (now (c .args .1 .1 .1 .0)) (now (c .args .1 .1 .1 .1 .0))) (lent (c .lasts .1 .1 .1 .0) (c .lasts .1 .1 .1 .1 .0))
-  pub read-all-beyond : (c : AllCall) → Beyond (lent (now (c .args .1 .1 .1 .0)) (now (c .args .1 .1 .1 .1 .0))) (lent (c .lasts .1 .1 .1 .0) (c .lasts .1 .1 .1 .1 .0))
-  pub feed-beyond : (c : FeedCall) → Beyond (lent (now (c .args .1 .1 .1 .0)) (now (c .args .1 .1 .1 .1 .0))) (lent (c .lasts .1 .1 .1 .0) (c .lasts .1 .1 .1 .1 .0))
+  pub start-beyond : (c : StartCall) → Beyond (startLent c) (startLeaves c)
+  pub sample-beyond : (c : SampleCall) → Beyond (sampleLent c) (sampleLeaves c)
+  pub block-beyond : (c : BlockCall) → Beyond (blockLent c) (blockLeaves c)
+  pub open-beyond : (c : OpenCall) → Beyond (openLent c) (openLeaves c)
+  pub read-beyond : (c : ReadCall) → Beyond (readLent c) (readLeaves c)
+  pub read-all-beyond : (c : AllCall) → Beyond (allLent c) (allLeaves c)
+  pub feed-beyond : (c : FeedCall) → Beyond (feedLent c) (feedLeaves c)
 
 -- ---- together
 

@@ -1,48 +1,43 @@
 -- Demand 2: "Every figure equals the rules of document 01. Blocks of another vehicle change nothing but the passed-over count (and the field number of a later
 -- refusal). The ledger's energies add up to the energy of the samples counted."
--- Stated here, over all that is known by the contracts; proved in proofs/ (`demand-2`).
+-- Stated here, over all that is known by the contracts, with the judges that it shuts out in ShutOut.antt; proved in proofs/ (`demand-2`).
 -- Assumes nothing.
-use mathlib.Core.Bool.{Bool, true, false, not}
+use mathlib.Core.Bool.{true, false, not}
 use mathlib.Core.List.{List, _++_}
 use mathlib.Core.Path.{_≡_}
 use Prim.Native.Nat.{ℕ, suc, _+_, _*_, _≤_, _<_}
 use lib.Dec.{eqb}
 use lib.IntN.{ℤ, pos}
 use lib.ListN.{length, take, drop}
-use denote.Ref.{now}
 use Rattle.rules.specs.Words.{every, up}
-use Rattle.rules.specs.declared.End.the-variants.{None as none, Stop as stop}
+use Rattle.rules.specs.declared.End.the-variants.{None as none}
 use Rattle.rules.specs.declared.Figure.the-variants as figure
 use Rattle.rules.specs.declared.Moment.{Moment}
 use Rattle.rules.specs.declared.Sample.{Sample}
-use Rattle.rules.specs.declared.Tolerances.{Tolerances}
-use Rattle.rules.specs.Bench.{isSample, tolerable, mostSpeed, mostCycles, mostPhases, mostPositions, mostOffered, mostPassed}
-use Rattle.rules.specs.Cycle.{phases, positions, valid}
+use Rattle.rules.specs.Bench.{isSample, tolerable, mostCycles, mostPhases, mostPositions, mostOffered, mostPassed}
+use Rattle.rules.specs.Cycle.{phases, valid}
 use Rattle.rules.specs.Band.{verdict}
 use Rattle.rules.specs.Course.{Course, outside, counted, judged, closed, ending}
 use Rattle.rules.specs.Parts.{phasePart, partEnergy, partDistance, energy}
-use Rattle.rules.specs.Regular.{positionOf, Plan, plan, courseOf, momentIn}
+use Rattle.rules.specs.Regular.{positionOf, Plan, courseOf, momentIn}
 use Rattle.rules.specs.Shown.{ledgerNumbers, mapWords, figure as figureAt, shownRow, marked}
 use Rattle.rules.specs.Closing.{weight, weighing, rateOf, wholeEnergy, weightedBy, rangeBy, rechargeBy}
 use Rattle.rules.specs.Table.{tags}
 use Rattle.rules.specs.Machine.{run}
-use Rattle.rules.specs.Values.{countIn, areSamples, momentsIn}
 use Rattle.rules.specs.Record.{Told, morePassed, takeField, untold, told, refusedAt, sheetOf}
 use Rattle.rules.specs.Figures.{energies, distances, cyclesIn, outsideTotal, figuresBy, figuresTold}
 use Rattle.rules.specs.Text.{refusalText, printed}
 use Rattle.laws.specs.Answers.{refuses, numberOf}
-use Rattle.laws.specs.Beside.{isBlock, stopped, Unrounded}
+use Rattle.laws.specs.Beside.{Unrounded}
 use Rattle.laws.specs.Claims.{ForeignBlock, oneMore}
 use Rattle.values.specs.Limits.{areAmounts}
-use Rattle.ledger.specs.Row.{at, outsideIn, energyAll}
+use Rattle.ledger.specs.Row.{at, energyAll}
 use Rattle.map.specs.Map.{isSet, onesOf}
 use Rattle.state.specs.declared.Run.{Run}
 use Rattle.state.specs.State.{lent}
-use Rattle.step.specs.Step.{withProgress}
 use Rattle.judge.specs.declared.Answer.the-variants as answer
 use Rattle.judge.specs.declared.ShownAnswer.the-variants as counts
 use Rattle.judge.specs.declared.TotalsAnswer.the-variants as sums
-use Rattle.judge.specs.Answers.{afterBlock}
 use Rattle.reading.specs.declared.Step.the-variants as step
 use Rattle.reading.specs.Answers.{isReading}
 use Rattle.sheet.specs.Overlaid.{mostSheet}
@@ -51,11 +46,15 @@ use Rattle.desk.specs.Feeding.{wanted, outcomeSaid, Laid, Lent, laidOf, emptyDe
 use Rattle.prints.specs.Printed.{nextField}
 use Rattle.intake.specs.declared.Intake.{Intake}
 use Rattle.intake.specs.Turns.{Recorded, Unread}
-use Rattle.demands.specs.Calls.{left, StartCall, SampleCall, BlockCall, ShownCall, TotalsCall, WeightedCall, RangeCall, RechargeCall, FiguresCall, ReadCall, AllCall, FeedCall, CloseCall, RefuseCall, VerdictCall}
-use Rattle.demands.specs.Runs.{StartOn, SampleOn, BlockOn, ShownOn, TotalsOn, WeightedOn, RangeOn, RechargeOn, FiguresOn, ReadOn, AllOn, sampleIn, bytesIn, weightedAmounts, rangeAmounts, rechargeAmounts, Driven, FeedOn, laidBy, FedIn, CloseOn, RefuseOn, closedTo, refusedTo, AskedOn, SomeRun, SomeClose}
+use Rattle.demands.specs.Calls.{left, SampleCall, BlockCall, ShownCall, TotalsCall, WeightedCall, RangeCall, RechargeCall}
+use Rattle.demands.specs.Calls.{FiguresCall, ReadCall, AllCall, FeedCall, CloseCall, RefuseCall, VerdictCall}
+use Rattle.demands.specs.Runs.{SampleOn, BlockOn, ShownOn, TotalsOn, WeightedOn, RangeOn, RechargeOn, FiguresOn, ReadOn, AllOn}
+use Rattle.demands.specs.Runs.{sampleIn, weightedAmounts, rangeAmounts, rechargeAmounts, Driven, FeedOn, laidBy, FedIn, CloseOn}
+use Rattle.demands.specs.Runs.{RefuseOn, closedTo, refusedTo, AskedOn, SomeRun, SomeClose}
 use Rattle.demands.specs.Cases.{Neither1Nor2}
 use Rattle.demands.specs.Compared.{OneMorePassed, withPassed, onePassed}
-use Rattle.demands.specs.Rows.{risen, noTime, eleven, level, allowsThree, fourFast, momentsOf}
+use Rattle.demands.specs.Rows.{momentsOf}
+use Rattle.demands.specs.ShutOut.{ShutsOut, ShutsOutAlways}
 
 -- ---- a whole run of the samples xs by the plan p, with the state r, the ledger l and the map m
 
@@ -74,12 +73,14 @@ module _ (p : Plan) (l₀ : List ℤ) (m₀ : List ℕ) (xs : List Moment) (r : 
     pub state-shows : (r .progress .offered ≡ n) × (r .progress .counted ≡ counted y s n) × (r .progress .end ≡ ending y s n)
     -- "Cycle c owns the nine numbers that start at 9 × c (c from 0): four phase energies, four phase distances, the outside count."
     pub ledger-shows : (i : ℕ) → i < ledgerNumbers → at l i ≡ figureAt y s n i
-    pub phase-energies : (c k : ℕ) → c < mostCycles → k < mostPhases → at l (9 * c + k) ≡ partEnergy (y .share) s (phasePart (y .layout) c k) (closed y s n)
+    pub phase-energies : (c k : ℕ) → c < mostCycles → k < mostPhases
+        → at l (9 * c + k) ≡ partEnergy (y .share) s (phasePart (y .layout) c k) (closed y s n)
     pub phase-distances : (c k : ℕ) → c < mostCycles → k < mostPhases
         → at l (9 * c + (4 + k)) ≡ pos (partDistance (y .share) s (phasePart (y .layout) c k) (closed y s n))
     pub outside-counts : (c : ℕ) → c < mostCycles → at l (9 * c + 8) ≡ pos (outside y s c (judged y s n))
     -- "Phases that do not exist hold 0."
-    pub no-phase-holds-0 : (c k : ℕ) → c < mostCycles → phases (p .cycle) ≤ k → k < mostPhases → (at l (9 * c + k) ≡ pos 0) × (at l (9 * c + (4 + k)) ≡ pos 0)
+    pub no-phase-holds-0 : (c k : ℕ) → c < mostCycles → phases (p .cycle) ≤ k → k < mostPhases
+        → (at l (9 * c + k) ≡ pos 0) × (at l (9 * c + (4 + k)) ≡ pos 0)
     -- "The map shows the cycle last judged: position p is bit p mod 64 of word p div 64, set when outside."
     pub map-shows : (q : ℕ) → q < mostPositions → isSet m q ≡ marked y s (judged y s n) q
     -- "The count of ones in the map equals the outside count of that cycle."
@@ -122,11 +123,13 @@ module _ (p : Plan) (l₀ : List ℤ) (m₀ : List ℕ) (xs : List Moment) (r : 
   -- a call of `weighted` that answers W
   pub record WeightedHolds : Type 0 where
     -- W lies between the least and the greatest q_c, so it is never 0
-    pub weighted-between : (c : WeightedCall) → WeightedOn r (p .cycle) l m c → areAmounts (weightedAmounts c) ≡ true → (W : ℕ) → c .answer ≡ figure.Is W
-        → (a z : ℕ) → ((k : ℕ) → k < cyclesIn p xs → (a ≤ rateOf (energies p xs) (distances p xs) k) × (rateOf (energies p xs) (distances p xs) k ≤ z)) → (a ≤ W) × (W ≤ z)
+    pub weighted-between : (c : WeightedCall) → WeightedOn r (p .cycle) l m c → areAmounts (weightedAmounts c) ≡ true
+        → (W : ℕ) → c .answer ≡ figure.Is W → (a z : ℕ)
+        → ((k : ℕ) → k < cyclesIn p xs → (a ≤ rateOf (energies p xs) (distances p xs) k) × (rateOf (energies p xs) (distances p xs) k ≤ z))
+        → (a ≤ W) × (W ≤ z)
     -- "It is never above the same weighting of the unrounded 100 e_c / d_c and less than 2 below it.": with the rates u c over the denominator k
-    pub weighted-close : (c : WeightedCall) → WeightedOn r (p .cycle) l m c → areAmounts (weightedAmounts c) ≡ true → (W : ℕ) → c .answer ≡ figure.Is W
-        → (let whole = up (E (weightedAmounts c .before)) in
+    pub weighted-close : (c : WeightedCall) → WeightedOn r (p .cycle) l m c → areAmounts (weightedAmounts c) ≡ true
+        → (W : ℕ) → c .answer ≡ figure.Is W → (let whole = up (E (weightedAmounts c .before)) in
         let e : ℕ → ℕ = λ j. up (energies p xs j) in
         (k : ℕ) (u : ℕ → ℕ) → 0 < k → Unrounded k (cyclesIn p xs) e (λ j. up (distances p xs j)) u
         → (W * (k * weight whole (cyclesIn p xs)) ≤ weighing whole (cyclesIn p xs) e u)
@@ -156,62 +159,23 @@ module _ (p : Plan) (l₀ : List ℤ) (m₀ : List ℕ) (xs : List Moment) (r : 
       → (let v = verdict (p .cycle) (p .tolerances) (positionOf (p .cycle) n) (sampleIn c .speed) in
       (q .answer ≡ pos v) × (isSet (c .lasts .1 .1 .1 .0) (positionOf (p .cycle) n) ≡ not (eqb v 0)))
 
-  -- ---- "Demand 2 shuts out a judge that ..": the judges that document 01 names, each of which breaks a contract
-
-  pub record ShutsOut : Type 0 where
-    -- "a judge that refuses everything": a sample within its limits, and a block of such, in a run that has room for them
-    pub sample-not-refused : (c : SampleCall) → SampleOn r (p .cycle) l m c → isSample (sampleIn c) ≡ true → r .progress .offered < mostOffered → (k : ℕ) → c .answer ≡ answer.Refused k → ⊥
-    pub block-not-refused : (c : BlockCall) → BlockOn r (p .cycle) l m c → (let q = bytesIn c in
-        isBlock (length q) ≡ true → c .args .1 .1 .1 .1 .0 ≡ r .progress .offered → r .progress .offered + countIn q ≤ mostOffered → areSamples q (countIn q) ≡ true
-        → (k : ℕ) → c .answer ≡ answer.Refused k → ⊥)
-    -- "one that works through the first block and lets later ones slide by": after a later block the ledger shows its samples behind those before
-    pub later-block-shows : (c : BlockCall) → BlockOn r (p .cycle) l m c → {r′ : Run} → c .answer ≡ answer.Taken r′
-        → (let ys = xs ++ momentsIn (bytesIn c) in
-        (i : ℕ) → i < ledgerNumbers → at (c .lasts .1 .1 .0) i ≡ figureAt y (momentIn ys) (length ys) i)
-    -- "and one whose outside count is invented: count and map are both tied to the band": of the samples judged, those of cycle c that the band has outside;
-    -- the count in the ledger is no other number, nor are the ones in the map for the cycle last judged
-    pub no-invented-count : (c : ℕ) → c < mostCycles → (k : ℕ) → (k ≡ outside y s c (judged y s n) → ⊥) → outsideIn l c ≡ pos k → ⊥
-    pub no-invented-map : (k : ℕ) → (k ≡ outside y s (shownRow (y .layout) (judged y s n)) (judged y s n) → ⊥) → onesOf m ≡ k → ⊥
-    -- and one that never stops: "Demand 3 alone would admit a judge that never stops, so it is stated over demand 2's definition."
-    pub stops-by-the-rules : stopped y s n ≡ true → r .progress .end ≡ stop
-    pub stops-only-by-the-rules : r .progress .end ≡ stop → stopped y s n ≡ true
-
--- a question that breaks no rule
-pub record Asks (c : VerdictCall) : Type 0 where
-  pub cycle : valid (now (c .args .0)) ≡ true
-  pub tolerated : tolerable (record { speed = c .args .1 .0; time = c .args .1 .1 .0; allowance = c .args .1 .1 .1 .0 }) ≡ true
-  pub position : c .args .1 .1 .1 .1 .0 < positions (now (c .args .0))
-  pub speed : c .args .1 .1 .1 .1 .1 .0 ≤ mostSpeed
-
--- a block that is taken, first or later, has samples, and each of them is taken by the rules
-pub record WorkedThrough (r : Run) (b : List ℕ) (l : List ℤ) (m q : List ℕ) (r′ : Run) (l′ : List ℤ) (m′ : List ℕ) : Type 0 where
-  pub some : 1 ≤ countIn q
-  pub offered : r′ .progress .offered ≡ r .progress .offered + countIn q
-  pub run : r′ ≡ withProgress r (afterBlock r b l m q .progress)
-  pub memory : lent l′ m′ ≡ afterBlock r b l m q .memory
-
-pub record ShutsOutAlways : Type 0 where
-  -- a start on memory that is long enough, with a cycle and tolerances that break no rule, is not refused
-  pub start-not-refused : {b : List ℕ} {t : Tolerances} {l : List ℤ} {m : List ℕ} (c : StartCall) → StartOn b t l m c → ledgerNumbers ≤ length l → mapWords ≤ length m
-      → valid b ≡ true → tolerable t ≡ true → (k : ℕ) → c .answer ≡ answer.Refused k → ⊥
-  -- "one with a constant verdict": no number is the answer to every question that breaks no rule; nor is the mark that the judge leaves constant, after
-  -- eleven samples of which the last has the speed 20 or 19
-  pub no-constant-verdict : (v : ℤ) → ((c : VerdictCall) → Asks c → c .answer ≡ v) → ⊥
-  pub no-constant-mark : (l₀ : List ℤ) (m₀ : List ℕ) → ledgerNumbers ≤ length l₀ → mapWords ≤ length m₀ → (y : Bool)
-      → ((v : ℕ) (r : Run) (l : List ℤ) (m : List ℕ) → Driven (plan risen noTime) l₀ m₀ (momentsOf (eleven v)) r l m → isSet m 10 ≡ y) → ⊥
-  -- "one that does nothing": a sample that is taken raises the number offered
-  pub sample-is-offered : (c : SampleCall) {r′ : Run} → c .answer ≡ answer.Taken r′ → r′ .progress .offered ≡ suc (c .args .0 .progress .offered)
-  pub every-block-is-worked-through : {r : Run} {b : List ℕ} {l : List ℤ} {m : List ℕ} (c : BlockCall) → BlockOn r b l m c → {r′ : Run} → c .answer ≡ answer.Taken r′
-      → WorkedThrough r b l m (bytesIn c) r′ (c .lasts .1 .1 .0) (c .lasts .1 .1 .1 .0)
-  -- the row of the test card: a run of its four samples that goes on is no run of a judge that keeps its promises
-  pub no-judge-that-never-stops : {l₀ : List ℤ} {m₀ : List ℕ} {r : Run} {l : List ℤ} {m : List ℕ} → Driven (plan level allowsThree) l₀ m₀ (momentsOf fourFast) r l m
-      → (r .progress .end ≡ stop → ⊥) → ⊥
+  -- what is promised of a whole run
+  pub record RunHolds : Type 0 where
+    pub shows : RunShows
+    pub answers : RunAnswers
+    pub weighted : WeightedHolds
+    -- "such a call is never refused 1 or 2"
+    pub never-refused-1-or-2 : NeverRefused
+    pub verdict-is-the-judges : VerdictIsTheJudges
+    -- "Demand 2 shuts out a judge that .."
+    pub shuts-out : ShutsOut p xs r l m
 
 -- ---- what is said of runs and records speaks of something
 
 pub record Speaks : Type 0 where
   -- there is a run of every list of samples within their limits, 4,000,000 at most
-  pub some-run : (p : Plan) (l₀ : List ℤ) (m₀ : List ℕ) → ledgerNumbers ≤ length l₀ → mapWords ≤ length m₀ → valid (p .cycle) ≡ true → tolerable (p .tolerances) ≡ true
+  pub some-run : (p : Plan) (l₀ : List ℤ) (m₀ : List ℕ) → ledgerNumbers ≤ length l₀ → mapWords ≤ length m₀
+      → valid (p .cycle) ≡ true → tolerable (p .tolerances) ≡ true
       → (xs : List Sample) → every isSample xs ≡ true → length xs ≤ mostOffered → SomeRun p l₀ m₀ (momentsOf xs)
   -- every record of which no field is refused is fed, in any parts, and closed
   pub some-part : (lent : Lent) {w rest : List ℕ} {x : Laid} → FedIn lent w x rest → (new : List ℕ) → (let y = feedOf x (rest ++ new) in
@@ -263,27 +227,21 @@ pub record ProgramPrints (lent : Lent) : Type 0 where
       (c : Recorded (laidOf emptyDesk (lent .room₀) (lent .l₀) (lent .m₀)) most out r room l m after)
       → r .failed ≡ false → mostSheet ≤ length out → take (r .printed) after ≡ printed (sheetOf (c .bytes))
   pub short-buffer-prints : {most : ℕ} {out room after : List ℕ} {l : List ℤ} {m : List ℕ} {r : Intake}
-      → Unread (laidOf emptyDesk (lent .room₀) (lent .l₀) (lent .m₀)) most out r room l m after → mostSheet ≤ length out → take (r .printed) after ≡ printed (refusedAt 1 1)
+      → Unread (laidOf emptyDesk (lent .room₀) (lent .l₀) (lent .m₀)) most out r room l m after → mostSheet ≤ length out
+      → take (r .printed) after ≡ printed (refusedAt 1 1)
 
 -- ---- together
 
 pub record Demand2 : Type 0 where
-  pub shows : {p : Plan} {l₀ : List ℤ} {m₀ : List ℕ} {xs : List Moment} {r : Run} {l : List ℤ} {m : List ℕ} → Driven p l₀ m₀ xs r l m → RunShows p l₀ m₀ xs r l m
-  pub answers : {p : Plan} {l₀ : List ℤ} {m₀ : List ℕ} {xs : List Moment} {r : Run} {l : List ℤ} {m : List ℕ} → Driven p l₀ m₀ xs r l m → RunAnswers p l₀ m₀ xs r l m
-  pub weighted : {p : Plan} {l₀ : List ℤ} {m₀ : List ℕ} {xs : List Moment} {r : Run} {l : List ℤ} {m : List ℕ} → Driven p l₀ m₀ xs r l m → WeightedHolds p l₀ m₀ xs r l m
-  -- "such a call is never refused 1 or 2"
-  pub never-refused-1-or-2 : {p : Plan} {l₀ : List ℤ} {m₀ : List ℕ} {xs : List Moment} {r : Run} {l : List ℤ} {m : List ℕ} → Driven p l₀ m₀ xs r l m
-      → NeverRefused p l₀ m₀ xs r l m
+  pub runs : {p : Plan} {l₀ : List ℤ} {m₀ : List ℕ} {xs : List Moment} {r : Run} {l : List ℤ} {m : List ℕ} → Driven p l₀ m₀ xs r l m
+      → RunHolds p l₀ m₀ xs r l m
   -- "The same accepted samples cut into other blocks give the same run."
   pub cut-otherwise-same-run : {p : Plan} {l₀ : List ℤ} {m₀ : List ℕ} {xs : List Moment} {r r′ : Run} {l l′ : List ℤ} {m m′ : List ℕ}
       → Driven p l₀ m₀ xs r l m → Driven p l₀ m₀ xs r′ l′ m′ → (r ≡ r′) × (l ≡ l′) × (m ≡ m′)
-  pub verdict-is-the-judges : {p : Plan} {l₀ : List ℤ} {m₀ : List ℕ} {xs : List Moment} {r : Run} {l : List ℤ} {m : List ℕ} → Driven p l₀ m₀ xs r l m
-      → VerdictIsTheJudges p l₀ m₀ xs r l m
-  pub shuts-out : {p : Plan} {l₀ : List ℤ} {m₀ : List ℕ} {xs : List Moment} {r : Run} {l : List ℤ} {m : List ℕ} → Driven p l₀ m₀ xs r l m → ShutsOut p l₀ m₀ xs r l m
   pub shuts-out-always : ShutsOutAlways
   pub speaks : Speaks
-  pub foreign : (p f v q : List ℕ) (x : Told) → sheetOf p ≡ told x → ForeignBlock x f v → run tags takeField untold (p ++ q) .state .passed + 1 ≤ mostPassed
-      → ForeignChangesNothing p f q
+  pub foreign : (p f v q : List ℕ) (x : Told) → sheetOf p ≡ told x → ForeignBlock x f v
+      → run tags takeField untold (p ++ q) .state .passed + 1 ≤ mostPassed → ForeignChangesNothing p f q
   pub read-passes-over : ReadPassesOver
   pub prints : (lent : Lent) {w rest : List ℕ} {x : Laid} → FedIn lent w x rest → Prints w rest x
   pub before-all : (x : Laid) → (deskGround x ≡ 0 → ⊥) → BeforeAll x

@@ -21,6 +21,7 @@ use Rattle.rules.specs.Regular.{own, regularLayout, regular, plan}
 use Rattle.rules.specs.Table.{behindBefore, behindBlock}
 use Rattle.rules.specs.Values.{tolerancesIn}
 use Rattle.rules.specs.Record.{Told, told, sheetOf}
+use Rattle.rules.specs.Records.{me, four, sample, block, charge}
 use Rattle.rules.specs.Figures.{figuresTold}
 use Rattle.rules.specs.Text.{printed}
 use Rattle.laws.specs.Beside.{isOpen, stopped}
@@ -30,7 +31,8 @@ use Rattle.state.specs.declared.Run.{Run}
 use Rattle.state.specs.Refusals.{closedBy}
 use Rattle.figures.specs.Compared.{NoEarlier}
 use Rattle.demands.specs.Runs.{Driven}
-use Rattle.demands.specs.Compared.{withFour, FirstThree, HasFour, withTolerances, retold, withSamples, notBefore, Grown, momentsTold, closedTold, outsideTold, NoMoreOutside}
+use Rattle.demands.specs.Compared.{withFour, FirstThree, HasFour, withTolerances, retold, withSamples, notBefore, Grown, momentsTold, closedTold}
+use Rattle.demands.specs.Compared.{outsideTold, NoMoreOutside}
 
 -- ---- over runs: of any samples s, n are offered
 
@@ -49,7 +51,8 @@ module _ (b : List ℕ) (t t′ : Tolerances) (s : ℕ → Moment) (n : ℕ) whe
     pub wider-finishes-phases : (c k : ℕ) → T (finished (phasePart (regularLayout b) c k) (closed y s n))
         → PartKept own (phasePart (regularLayout b) c k) s s (closed y s n) (closed y′ s n)
     pub wider-finishes-cycles : (c : ℕ) → T (finished (rowPart (regularLayout b) c) (closed y s n))
-        → PartKept own (rowPart (regularLayout b) c) s s (closed y s n) (closed y′ s n) × (outside y′ s c (judged y′ s n) ≤ outside y s c (judged y s n))
+        → PartKept own (rowPart (regularLayout b) c) s s (closed y s n) (closed y′ s n)
+        × (outside y′ s c (judged y′ s n) ≤ outside y s c (judged y s n))
 
 -- n samples of s, and n′ of s′ that begin with them
 module _ (b : List ℕ) (t : Tolerances) (s s′ : ℕ → Moment) (n n′ : ℕ) where
@@ -86,7 +89,8 @@ module _ (b : List ℕ) (r r′ : Run) (l l′ : List ℤ) where
     pub wider-run-never-stops-earlier : (r .progress .counted ≤ r′ .progress .counted) × (r′ .progress .end ≡ stop → r .progress .end ≡ stop)
     -- "What the narrower run finished, the wider finished too, with equal energies and distances and no higher outside count."
     pub wider-run-finishes-phases : (c k : ℕ) → T (finished (phasePart (regularLayout b) c k) (closedBy r)) → PhaseStays c k
-    pub wider-run-finishes-cycles : (c : ℕ) → T (finished (rowPart (regularLayout b) c) (closedBy r)) → CycleStays c × (leZ (outsideIn l′ c) (outsideIn l c) ≡ true)
+    pub wider-run-finishes-cycles : (c : ℕ) → T (finished (rowPart (regularLayout b) c) (closedBy r))
+        → CycleStays c × (leZ (outsideIn l′ c) (outsideIn l c) ≡ true)
 
   -- the second with samples added at the end
   pub record LongerCalls : Type 0 where
@@ -102,7 +106,9 @@ module _ (b : List ℕ) (r r′ : Run) (l l′ : List ℤ) where
 module _ (p q v v′ : List ℕ) where
   -- both are refused alike, or tell the same but for the tolerances
   abbrev pub FieldFourAlone : Type 0
-  FieldFourAlone = tolerable (tolerancesIn v) ≡ true → tolerable (tolerancesIn v′) ≡ true → sheetOf (withFour p q v′) ≡ retold (tolerancesIn v′) (sheetOf (withFour p q v))
+  FieldFourAlone =
+      tolerable (tolerancesIn v) ≡ true → tolerable (tolerancesIn v′) ≡ true
+      → sheetOf (withFour p q v′) ≡ retold (tolerancesIn v′) (sheetOf (withFour p q v))
 
   -- the first tells x, and the second has tolerances of which each is kept or widened
   pub record WiderRecord (x : Told) : Type 0 where
@@ -133,8 +139,8 @@ pub record EndedStays (x x′ : Told) : Type 0 where
   pub ended-told : figuresTold x′ ≡ figuresTold x
   pub ended-prints : (i i′ : List ℕ) → sheetOf i ≡ told x → sheetOf i′ ≡ told x′ → printed (sheetOf i′) ≡ printed (sheetOf i)
 
--- a is a record up to its blocks (a 6 before or a block stands in it), more are own blocks added there, and z are the fields that stood behind: 6 after, 7, blocks
--- passed over
+-- a is a record up to its blocks (a 6 before or a block stands in it), more are own blocks added there, and z are the fields that stood behind: 6 after, 7,
+-- blocks passed over
 pub record BlocksBetween (a more z : List ℕ) (s y x : Told) : Type 0 where
   pub first : sheetOf a ≡ told s
   pub behind : behindBefore ≤ s .place
@@ -143,6 +149,13 @@ pub record BlocksBetween (a more z : List ℕ) (s y x : Told) : Type 0 where
   pub own : y .passed ≡ s .passed
   pub rest : sheetOf (a ++ z) ≡ told x
   pub none : x .holding .samples ≡ s .holding .samples
+
+-- there are such: a record of one sample, one more, and a field 7
+pub record SomeBetween : Type 0 where
+  pub first : Told
+  pub added : Told
+  pub rest : Told
+  pub between : BlocksBetween (four ++ block me 0 sample) (block me 1 sample) (charge 15) first added rest
 
 -- from bytes to bytes
 module _ (a more z : List ℕ) (y x : Told) where
@@ -160,20 +173,25 @@ module _ (a more z : List ℕ) (y x : Told) where
 
 pub record Demand3 : Type 0 where
   pub wider-runs : (b : List ℕ) (t t′ : Tolerances) (s : ℕ → Moment) (n : ℕ) → valid b ≡ true → Widened t t′ → WiderRun b t t′ s n
-  pub longer-runs : (b : List ℕ) (t : Tolerances) (s s′ : ℕ → Moment) (n n′ : ℕ) → n ≤ n′ → ((j : ℕ) → j < n → s′ j ≡ s j) → LongerRun b t s s′ n n′
-  pub wider-calls : {b : List ℕ} {t t′ : Tolerances} {l₀ k₀ : List ℤ} {m₀ n₀ : List ℕ} {xs : List Moment} {r r′ : Run} {l l′ : List ℤ} {m m′ : List ℕ}
+  pub longer-runs : (b : List ℕ) (t : Tolerances) (s s′ : ℕ → Moment) (n n′ : ℕ) → n ≤ n′ → ((j : ℕ) → j < n → s′ j ≡ s j)
+      → LongerRun b t s s′ n n′
+  pub wider-calls : {b : List ℕ} {t t′ : Tolerances} {l₀ k₀ : List ℤ} {m₀ n₀ : List ℕ} {xs : List Moment}
+      {r r′ : Run} {l l′ : List ℤ} {m m′ : List ℕ}
       → Driven (plan b t) l₀ m₀ xs r l m → Driven (plan b t′) k₀ n₀ xs r′ l′ m′ → Widened t t′ → WiderCalls b r r′ l l′
-  pub longer-calls : {b : List ℕ} {t : Tolerances} {l₀ k₀ : List ℤ} {m₀ n₀ : List ℕ} {xs : List Moment} (ys : List Moment) {r r′ : Run} {l l′ : List ℤ} {m m′ : List ℕ}
+  pub longer-calls : {b : List ℕ} {t : Tolerances} {l₀ k₀ : List ℤ} {m₀ n₀ : List ℕ} {xs : List Moment} (ys : List Moment)
+      {r r′ : Run} {l l′ : List ℤ} {m m′ : List ℕ}
       → Driven (plan b t) l₀ m₀ xs r l m → Driven (plan b t) k₀ n₀ (xs ++ ys) r′ l′ m′ → LongerCalls b r r′ l l′
   -- every record that is told is one with a field 4
   pub told-has-four : (i : List ℕ) (x : Told) → sheetOf i ≡ told x → HasFour i
   pub field-four-alone : (p q v v′ : List ℕ) → FirstThree p → length v ≡ 6 → length v′ ≡ 6 → FieldFourAlone p q v v′
-  pub wider-records : (p q v v′ : List ℕ) → FirstThree p → length v ≡ 6 → length v′ ≡ 6 → tolerable (tolerancesIn v′) ≡ true → Widened (tolerancesIn v) (tolerancesIn v′)
-      → (x : Told) → sheetOf (withFour p q v) ≡ told x → WiderRecord p q v v′ x
+  pub wider-records : (p q v v′ : List ℕ) → FirstThree p → length v ≡ 6 → length v′ ≡ 6 → tolerable (tolerancesIn v′) ≡ true
+      → Widened (tolerancesIn v) (tolerancesIn v′) → (x : Told) → sheetOf (withFour p q v) ≡ told x → WiderRecord p q v v′ x
   -- a record that is read on tells the same vehicle, cycle and tolerances, and its samples with others behind them
-  pub longer-record : (p q : List ℕ) (x x′ : Told) → sheetOf p ≡ told x → sheetOf (p ++ q) ≡ told x′ → (x′ .holding .vehicle ≡ x .holding .vehicle) × Grown x x′
+  pub longer-record : (p q : List ℕ) (x x′ : Told) → sheetOf p ≡ told x → sheetOf (p ++ q) ≡ told x′
+      → (x′ .holding .vehicle ≡ x .holding .vehicle) × Grown x x′
   -- any two records, of which the second tells the samples of the first with others behind them
   pub longer-told : (x x′ : Told) → Grown x x′ → (i : List ℕ) → sheetOf i ≡ told x → Unmoved x x′
-  pub ended-stays : (x x′ : Told) → Grown x x′ → isOpen (figuresTold x .end) ≡ false → x′ .holding .vehicle ≡ x .holding .vehicle → x′ .passed ≡ x .passed
-      → x′ .holding .amounts ≡ x .holding .amounts → EndedStays x x′
+  pub ended-stays : (x x′ : Told) → Grown x x′ → isOpen (figuresTold x .end) ≡ false
+      → x′ .holding .vehicle ≡ x .holding .vehicle → x′ .passed ≡ x .passed → x′ .holding .amounts ≡ x .holding .amounts → EndedStays x x′
   pub blocks-added-between : (a more z : List ℕ) (s y x : Told) → BlocksBetween a more z s y x → BlocksAddedStay a more z y x
+  pub some-between : SomeBetween

@@ -7,3 +7,4 @@ pub mod Runs
 pub mod Cases
 pub mod Compared
 pub mod Rows
+pub mod ShutOut

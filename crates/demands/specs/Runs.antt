@@ -21,7 +21,9 @@ use Rattle.reading.specs.declared.Reading.{Reading}
 use Rattle.sheet.specs.Overlaid.{mostSheet}
 use Rattle.desk.specs.declared.Outcome.the-variants.{More}
 use Rattle.desk.specs.Feeding.{Laid, Lent, laidOf, emptyDesk}
-use Rattle.demands.specs.Calls.{StartCall, SampleCall, BlockCall, ShownCall, TotalsCall, WeightedCall, RangeCall, RechargeCall, FiguresCall, ReadCall, AllCall, FeedCall, CloseCall, RefuseCall, VerdictCall}
+use Rattle.demands.specs.Calls.{left, StartCall, SampleCall, BlockCall, ShownCall, TotalsCall, WeightedCall, RangeCall, RechargeCall}
+use Rattle.demands.specs.Calls.{FiguresCall, ReadCall, AllCall, FeedCall, CloseCall, RefuseCall, VerdictCall, startLeaves, sampleLeaves}
+use Rattle.demands.specs.Calls.{blockLeaves}
 
 -- ---- what a call is lent
 
@@ -33,7 +35,8 @@ pub record StartOn (b : List ℕ) (t : Tolerances) (l : List ℤ) (m : List ℕ)
   pub map : now (c .args .1 .1 .1 .0) ≡ m
 
 -- a later call: this run, this cycle and this memory
-pub record On (r : Run) (b : List ℕ) (l : List ℤ) (m : List ℕ) (run : Run) (cycle : RefT (List ℕ)) (ledger : RefT (List ℤ)) (map : RefT (List ℕ)) : Type 0 where
+pub record On (r : Run) (b : List ℕ) (l : List ℤ) (m : List ℕ) (run : Run) (cycle : RefT (List ℕ)) (ledger : RefT (List ℤ)) (map : RefT (List ℕ))
+    : Type 0 where
   pub run-is : run ≡ r
   pub cycle-is : now cycle ≡ b
   pub ledger-is : now ledger ≡ l
@@ -92,17 +95,6 @@ figuresReading c r =
     let y = c .args .0 in
     record { vehicle = y .vehicle; place = y .place; passed = y .passed; amounts = y .amounts; run = r }
 
--- ---- what it leaves: ledger and map together are its memory
-
-abbrev pub startLeaves : StartCall → Memory
-startLeaves c = lent (c .lasts .1 .1 .0) (c .lasts .1 .1 .1 .0)
-
-abbrev pub sampleLeaves : SampleCall → Memory
-sampleLeaves c = lent (c .lasts .1 .1 .0) (c .lasts .1 .1 .1 .0)
-
-abbrev pub blockLeaves : BlockCall → Memory
-blockLeaves c = lent (c .lasts .1 .1 .0) (c .lasts .1 .1 .1 .0)
-
 -- "what lies beyond is never touched": beyond their 576 numbers and 750 words ledger and map are as they were
 pub record Beyond (a c : Memory) : Type 0 where
   pub in-ledger : drop ledgerNumbers (c .ledger) ≡ drop ledgerNumbers (a .ledger)
@@ -112,15 +104,20 @@ pub record Beyond (a c : Memory) : Type 0 where
 
 -- a run, its ledger and its map, after a start and calls that took the samples of the list, one by one or in blocks, or refused
 pub data Driven (p : Plan) (l₀ : List ℤ) (m₀ : List ℕ) : List Moment → Run → List ℤ → List ℕ → Type 0 where
-  begins : (c : StartCall) → StartOn (p .cycle) (p .tolerances) l₀ m₀ c → {r : Run} → c .answer ≡ Taken r → Driven p l₀ m₀ [] r (c .lasts .1 .1 .0) (c .lasts .1 .1 .1 .0)
-  takes : {xs : List Moment} {r : Run} {l : List ℤ} {m : List ℕ} → Driven p l₀ m₀ xs r l m → (c : SampleCall) → SampleOn r (p .cycle) l m c → {r′ : Run} → c .answer ≡ Taken r′
-      → Driven p l₀ m₀ (xs ++ momentOf (sampleIn c) ∷ []) r′ (c .lasts .1 .1 .0) (c .lasts .1 .1 .1 .0)
-  takes-block : {xs : List Moment} {r : Run} {l : List ℤ} {m : List ℕ} → Driven p l₀ m₀ xs r l m → (c : BlockCall) → BlockOn r (p .cycle) l m c → {r′ : Run} → c .answer ≡ Taken r′
-      → Driven p l₀ m₀ (xs ++ momentsIn (bytesIn c)) r′ (c .lasts .1 .1 .0) (c .lasts .1 .1 .1 .0)
-  refuses : {xs : List Moment} {r : Run} {l : List ℤ} {m : List ℕ} → Driven p l₀ m₀ xs r l m → (c : SampleCall) → SampleOn r (p .cycle) l m c → (k : ℕ) → c .answer ≡ Refused k
-      → Driven p l₀ m₀ xs r (c .lasts .1 .1 .0) (c .lasts .1 .1 .1 .0)
-  refuses-block : {xs : List Moment} {r : Run} {l : List ℤ} {m : List ℕ} → Driven p l₀ m₀ xs r l m → (c : BlockCall) → BlockOn r (p .cycle) l m c → (k : ℕ) → c .answer ≡ Refused k
-      → Driven p l₀ m₀ xs r (c .lasts .1 .1 .0) (c .lasts .1 .1 .1 .0)
+  begins : (c : StartCall) → StartOn (p .cycle) (p .tolerances) l₀ m₀ c → {r : Run} → c .answer ≡ Taken r
+      → Driven p l₀ m₀ [] r (startLeaves c .ledger) (startLeaves c .map)
+  takes : {xs : List Moment} {r : Run} {l : List ℤ} {m : List ℕ} → Driven p l₀ m₀ xs r l m
+      → (c : SampleCall) → SampleOn r (p .cycle) l m c → {r′ : Run} → c .answer ≡ Taken r′
+      → Driven p l₀ m₀ (xs ++ momentOf (sampleIn c) ∷ []) r′ (sampleLeaves c .ledger) (sampleLeaves c .map)
+  takes-block : {xs : List Moment} {r : Run} {l : List ℤ} {m : List ℕ} → Driven p l₀ m₀ xs r l m
+      → (c : BlockCall) → BlockOn r (p .cycle) l m c → {r′ : Run} → c .answer ≡ Taken r′
+      → Driven p l₀ m₀ (xs ++ momentsIn (bytesIn c)) r′ (blockLeaves c .ledger) (blockLeaves c .map)
+  refuses : {xs : List Moment} {r : Run} {l : List ℤ} {m : List ℕ} → Driven p l₀ m₀ xs r l m
+      → (c : SampleCall) → SampleOn r (p .cycle) l m c → (k : ℕ) → c .answer ≡ Refused k
+      → Driven p l₀ m₀ xs r (sampleLeaves c .ledger) (sampleLeaves c .map)
+  refuses-block : {xs : List Moment} {r : Run} {l : List ℤ} {m : List ℕ} → Driven p l₀ m₀ xs r l m
+      → (c : BlockCall) → BlockOn r (p .cycle) l m c → (k : ℕ) → c .answer ≡ Refused k
+      → Driven p l₀ m₀ xs r (blockLeaves c .ledger) (blockLeaves c .map)
 
 -- there is such a run
 pub record SomeRun (p : Plan) (l₀ : List ℤ) (m₀ : List ℕ) (xs : List Moment) : Type 0 where

@@ -29,7 +29,7 @@ use Rattle.records.proofs.Joined.{Long, Holds}
 use Rattle.records.proofs.Joined as lists
 use Rattle.records.proofs.Weighs.{fields-weigh}
 use Rattle.opening.specs.Answers.{unopened, stageOf, openingOf, runOf, openGround}
-use Rattle.opening.proofs.Starting.{Ready}
+use Rattle.opening.proofs.Readied.{Ready}
 use Rattle.reading.specs.Answers.{startedReading, readingOf}
 use Rattle.desk.specs.Feeding.{Desk, Laid, laidOf, wanted, emptyDesk, Consumed, stageOn, startedOpening, laidAfter, fedBy, feedOf, startedGround, deskGround, mostFields}
 use Rattle.desk.proofs.Good.{Good, good-upto, opens-on, begun-ground, few-offered}

@@ -31,7 +31,7 @@ use Rattle.records.proofs.Limits.{InLimits, limits-move}
 use Rattle.opening.specs.declared.Opening.{Opening}
 use Rattle.opening.specs.Answers.{noTolerances, stageOf, openingOf, runOf, openGround}
 use Rattle.opening.proofs.Next.{Next, waits, begins, next-move}
-use Rattle.opening.proofs.Starting.{Ready, ready-ground}
+use Rattle.opening.proofs.Readied.{Ready, ready-ground}
 use Rattle.reading.specs.declared.Reading.{Reading}
 use Rattle.reading.specs.Answers.{startedReading, readingOf, isReading, readGround}
 use Rattle.desk.specs.Feeding.{startedOpening, startedGround}

@@ -21,7 +21,7 @@ use Rattle.laws.proofs.Prefixes.{accepted-alone, left-over, none-used}
 use Rattle.laws.proofs.Tags.{sizes}
 use Rattle.records.specs.Stage.{takeOn, runOn}
 use Rattle.opening.specs.Answers.{openGround}
-use Rattle.opening.proofs.Starting.{ground-ready}
+use Rattle.opening.proofs.Readied.{ground-ready}
 use Rattle.desk.specs.Feeding.{wanted, Laid, Consumed, stageOn, laidAfter, stops, fedBy, feedOf, mostFields, startedGround, deskGround, longest}
 use Rattle.desk.proofs.Grounds.{feed-refuses, feeds}
 use Rattle.desk.proofs.Staged.{none-opened, none-read}

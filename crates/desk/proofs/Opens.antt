@@ -24,7 +24,7 @@ use Rattle.records.proofs.Came.{gone, moved}
 use Rattle.opening.specs.declared.Opening.{Opening}
 use Rattle.opening.specs.Answers.{opens, starts, stageOf, openingOf, runOf, openedBy, openGround, frontOpened}
 use Rattle.opening.proofs.Next.{Next, waits, begins, next-move}
-use Rattle.opening.proofs.Starting.{Ready, ground-ready}
+use Rattle.opening.proofs.Readied.{Ready, ground-ready}
 use Rattle.reading.specs.declared.Reading.{Reading}
 use Rattle.reading.specs.Answers.{startedReading, readingOf}
 use Rattle.desk.specs.Feeding.{wanted, Laid, Consumed, startedOpening, laidAfter, stops, behind, fedBy, opensTo, openOne, openRest, openAll}

@@ -20,7 +20,7 @@ use Rattle.records.specs.Stage.{Stage, written, roomAfter}
 use Rattle.records.proofs.After.{After}
 use Rattle.opening.specs.declared.Opening.{Opening}
 use Rattle.opening.specs.Answers.{stageOf, openingOf, runOf}
-use Rattle.opening.proofs.Starting.{Ready}
+use Rattle.opening.proofs.Readied.{Ready}
 use Rattle.reading.specs.declared.Reading.{Reading}
 use Rattle.reading.specs.Answers.{startedReading, stageAt, readingOf}
 use Rattle.reading.proofs.Taking.{from-start}

@@ -83,7 +83,10 @@ pub record Lent : Type 0 where
 
 -- no run: until the start the reading holds it
 abbrev pub noRun : Run
-noRun = record { track = record { seconds = 0; ends = record { first = 0; second = 0; third = 0; fourth = 0 }; tolerances = noTolerances }; progress = notBegun }
+noRun = record {
+  track = record { seconds = 0; ends = record { first = 0; second = 0; third = 0; fourth = 0 }; tolerances = noTolerances };
+  progress = notBegun;
+}
 
 abbrev pub emptyDesk : Desk
 emptyDesk = record { started = false; opening = unopened; reading = startedReading (unopened .vehicle) noRun; fields = 0 }

@@ -1,10 +1,11 @@
 // A record's bytes as they arrive: every whole field goes to the reader, what is left over waits for more.
-use opening::OpenAnswer;
-use opening::OpenStep;
+mod beginning;
+
+use beginning::open_all;
+use beginning::stopped;
 use opening::Opening;
 use opening::open_refusal;
 use reader::blank;
-use reader::open;
 use reader::read_fields;
 use reader::reading_of;
 use reading::Reading;
@@ -22,9 +23,8 @@ ghost use mathlib.Core.Path.{_≡_};
 ghost use Prim.Native.Nat.{_+_, _≤_};
 ghost use mathlib.Core.Bool.{true};
 ghost use Rattle.records.specs.Stage.{runOn};
-ghost use Rattle.opening.specs.Answers.{openStepSaid};
 ghost use Rattle.reading.specs.Answers.{stepSaid};
-ghost use Rattle.desk.specs.Feeding.{outcomeSaid, fedSaid, emptyDesk, laidOf, fedLeft, stageOn, fedBy, outcomeBy, opensAs, openOne, openAll, feedOf};
+ghost use Rattle.desk.specs.Feeding.{outcomeSaid, emptyDesk, laidOf, fedLeft, stageOn, fedBy, outcomeBy, feedOf};
 ghost use Rattle.desk.specs.Feeding.{mostFields, startedGround, deskGround, Steady};
 
 // A record as far as it was read: until the start the opening, after it the reading; and how many fields were accepted.
@@ -82,104 +82,6 @@ pub fn empty() -> Desk
         opening,
         reading: reading_of(opening, run),
         fields: 0,
-    }
-}
-
-// Nothing was taken.
-fn stopped(desk: Desk, outcome: Outcome) -> Fed
-    ensures { λ r. ⌜ fedSaid r ≡ record { outcome = outcomeSaid outcome; used = 0; desk = desk } ⌝ }
-{
-    Fed {
-        outcome,
-        used: 0,
-        desk,
-    }
-}
-
-// The answer to a field until the start.
-fn opened(desk: Desk, answer: OpenAnswer) -> Fed
-    requires { ⌜ desk .fields ≤ mostFields + 4 ⌝ }
-    ensures { λ r. ⌜ fedSaid r ≡ opensAs desk (openStepSaid (answer .step)) (answer .opening) ⌝ }
-{
-    let step = answer.step;
-    let opening = answer.opening;
-    let reading = desk.reading;
-    match step {
-        OpenStep::Taken(n) => Fed {
-            outcome: Outcome::More,
-            used: n,
-            desk: Desk {
-                started: false,
-                opening,
-                reading,
-                fields: desk.fields + 1,
-            },
-        },
-        OpenStep::Started(n, run) => Fed {
-            outcome: Outcome::More,
-            used: n,
-            desk: Desk {
-                started: true,
-                opening,
-                reading: reading_of(opening, run),
-                fields: desk.fields + 1,
-            },
-        },
-        OpenStep::Incomplete => stopped(desk, Outcome::More),
-        OpenStep::Refused(number) => stopped(desk, Outcome::Refused(number)),
-    }
-}
-
-// The field at the front of the input, until the start.
-fn open_one(desk: Desk, input: &[u8], room: &mut [u8], ledger: &mut [i64], map: &mut [u64]) -> Fed
-    requires { ⌜ desk .fields ≤ mostFields + 4 ⌝ }
-    ensures { λ r. ⌜
-        fedLeft r (now (room .exit)) (now (ledger .exit)) (now (map .exit))
-        ≡ openOne (laidOf desk (now (room .entry)) (now (ledger .entry)) (now (map .entry))) (now (input .entry))
-        ⌝ }
-{
-    let opening = desk.opening;
-    let answer = open(opening, input, &mut *room, &mut *ledger, &mut *map);
-    opened(desk, answer)
-}
-
-// The fields until the start, of which there are at most four.
-fn open_all(desk: Desk, input: &[u8], room: &mut [u8], ledger: &mut [i64], map: &mut [u64]) -> Fed
-    requires { ⌜ desk .fields ≤ mostFields ⌝ }
-    ensures { λ r. ⌜
-        fedLeft r (now (room .exit)) (now (ledger .exit)) (now (map .exit))
-        ≡ openAll (laidOf desk (now (room .entry)) (now (ledger .entry)) (now (map .entry))) (now (input .entry))
-        ⌝ }
-{
-    let mut on = desk;
-    let mut used = 0;
-    let mut left: u32 = 4;
-    while left != 0 {
-        if on.started {
-            return Fed {
-                outcome: Outcome::More,
-                used,
-                desk: on,
-            };
-        }
-        let x = open_one(on, &input[used..], &mut *room, &mut *ledger, &mut *map);
-        on = x.desk;
-        let outcome = x.outcome;
-        let n = x.used;
-        used += n;
-        left -= 1;
-        if n == 0 {
-            return Fed {
-                outcome,
-                used,
-                desk: on,
-            };
-        }
-    }
-    Fed {
-        outcome: Outcome::More,
-        used,
-        desk: on,
     }
 }
 

@@ -1,4 +1,4 @@
--- 'Numbered answers': what an answer says, whatever enum of the code it is. Beside each enum stands a definition of what its cases say, and the promises use it.
+-- 'Numbered answers': what an answer says, whatever enum of the code it is. Beside each enum a definition says it of its cases; the promises use it.
 -- Assumes nothing.
 use Prim.Native.Nat.{ℕ}
 use Rattle.rules.specs.Words.{settled}

@@ -25,7 +25,7 @@ use Rattle.records.specs.Stage.{Stage, isLong, bringOn, written, roomAfter}
 use Rattle.records.proofs.Came.{Enough, Moved, took, went}
 use Rattle.opening.specs.declared.Opening.{Opening}
 use Rattle.opening.specs.Answers.{stageOf, openingOf}
-use Rattle.opening.proofs.Starting.{Ready}
+use Rattle.opening.proofs.Readied.{Ready}
 
 -- the room keeps its length, and holds the cycle
 length-written : (room v : List ℕ) → length v ≤ length room → length (written room v) ≡ length room

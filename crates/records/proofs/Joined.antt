@@ -15,7 +15,7 @@ use Rattle.rules.specs.declared.Moment.{Moment}
 use Rattle.rules.specs.declared.Tolerances.{Tolerances}
 use Rattle.rules.specs.Bench.{tolerable}
 use Rattle.rules.specs.Cycle.{valid}
-use Rattle.rules.specs.Regular.{plan, courseOf, momentIn}
+use Rattle.rules.specs.Regular.{plan, courseOf}
 use Rattle.rules.specs.Shown.{ledgerNumbers, mapWords}
 use Rattle.rules.specs.Table.{Row, Matter, number, cycle, tolerances, block, energyBefore, energyAfter, recharge, among, lengthAllowed, tags, behindTolerances}
 use Rattle.rules.specs.Front.{Field, Front, incomplete, impossible, field, bytesOf, frontOf}
@@ -33,10 +33,10 @@ use Rattle.laws.proofs.Tags.{sizes}
 use Rattle.state.specs.declared.Run.{Run}
 use Rattle.state.specs.State.{lent, ground}
 use Rattle.state.specs.Refusals.{notBegun, startRefusal, started}
-use Rattle.step.specs.Step.{State, samplesTaken, startOf, withProgress}
+use Rattle.step.specs.Step.{State, startOf, withProgress}
 use Rattle.blocks.proofs.Accepted.{accepted-by}
 use Rattle.judge.proofs.Runs.{Reached, run-shows, never-refused}
-use Rattle.records.specs.Stage.{Stage, withAmounts, isLong, contentOn, bringOn, passOn, takeOn, runOn}
+use Rattle.records.specs.Stage.{Stage, withAmounts, isLong, contentOn, bringOn, passOn, takeOn, runOn, stageAs, takenOn}
 use Rattle.records.proofs.Later.{taken-list}
 
 -- ledger and map that are long enough for a start
@@ -76,16 +76,12 @@ module _ (l₀ : List ℤ) (m₀ : List ℕ) (long : Long l₀ m₀) where
 
   -- ---- a field brings the same to both
 
-  contents-same : (s : Told) (x : Stage) → Holds s x → (m : Matter) (v : List ℕ)
-      → contentAt s m v ≡ contentOf (x .passed) (x .vehicle) (x .cycle) (x .run .progress .offered) m v
-  contents-same s x h m v = λ k. contentOf (h .passed k) (h .vehicle k) (h .cycle k) (offered-is s x h k) m v
-
   same-content : (s : Told) (x : Stage) → Holds s x → (f : Field) → fieldContent (s .place) (contentAt s) f ≡ fieldContent (s .place) (contentOn x) f
   unfolding unless
   same-content s x h f = same-rows (s .place) (contentAt s) (contentOn x) f (λ q i _ a. go q i a)
     where
       same : (m : Matter) → contentAt s m (f .value) ≡ contentOf (x .passed) (x .vehicle) (x .cycle) (x .run .progress .offered) m (f .value)
-      same m = contents-same s x h m (f .value)
+      same m = λ k. contentOf (h .passed k) (h .vehicle k) (h .cycle k) (offered-is s x h k) m (f .value)
 
       long-enough : among (s .place) (3 ∷ []) ≡ true → true ≡ isLong (x .run .memory)
       long-enough a =
@@ -112,6 +108,25 @@ module _ (l₀ : List ℤ) (m₀ : List ℕ) (long : Long l₀ m₀) where
     unfolding startRefusal
     granted t v g = sym (pass 1 (le-leb _ _ (long .ledger)) (pass 1 (le-leb _ _ (long .map)) (pass 2 v (pass 3 g refl))))
 
+    -- a field that may stand at the place k only and moves on to n, before the start: vehicle and cycle are as they are told
+    early : (v v′ b b′ : List ℕ) (k n : ℕ) → k ≤ 3 → n ≤ 3 → among (s .place) (k ∷ []) ≡ true → v ≡ v′ → b ≡ b′
+        → Holds (record { place = n; passed = s .passed; holding = holding v b (s .holding .tolerances) (s .holding .samples) (s .holding .amounts) })
+        (stageAs x n v′ b′ (x .tolerances) (x .amounts) (x .run))
+    early v v′ b b′ k n low next stands same-vehicle same-cycle =
+        let p = place-is (s .place) k stands in
+        let l : x .place ≤ 3 = omega (arith, h .place) in
+        record {
+          place = refl;
+          passed = h .passed;
+          vehicle = same-vehicle;
+          cycle = same-cycle;
+          tolerances = h .tolerances;
+          amounts = h .amounts;
+          empty = λ _. h .empty l;
+          waits = λ _. h .waits l;
+          reached = λ e. absurd (omega arith);
+        }
+
     -- an amount, at the place n
     abbrev withTold : Amounts → ℕ → Told
     withTold b n = record { place = n; passed = s .passed; holding = holding (s .holding .vehicle) (s .holding .cycle) (s .holding .tolerances) (s .holding .samples) b }
@@ -130,48 +145,9 @@ module _ (l₀ : List ℤ) (m₀ : List ℕ) (long : Long l₀ m₀) where
     }
 
     held : (b : Bring) → Here b → Holds (bringAt s (movesTo b) b) (bringOn x (movesTo b) b)
-    held nothing z =
-        let p = place-is (s .place) 0 (z .1) in
-        let l : x .place ≤ 3 = omega (arith, h .place) in
-        record {
-          place = refl;
-          passed = h .passed;
-          vehicle = h .vehicle;
-          cycle = h .cycle;
-          tolerances = h .tolerances;
-          amounts = h .amounts;
-          empty = λ _. h .empty l;
-          waits = λ _. h .waits l;
-          reached = λ e. absurd (omega arith);
-        }
-    held (aNumber v) z =
-        let p = place-is (s .place) 1 (z .1) in
-        let l : x .place ≤ 3 = omega (arith, h .place) in
-        record {
-          place = refl;
-          passed = h .passed;
-          vehicle = refl;
-          cycle = h .cycle;
-          tolerances = h .tolerances;
-          amounts = h .amounts;
-          empty = λ _. h .empty l;
-          waits = λ _. h .waits l;
-          reached = λ e. absurd (omega arith);
-        }
-    held (aCycle v) z =
-        let p = place-is (s .place) 2 (z .1) in
-        let l : x .place ≤ 3 = omega (arith, h .place) in
-        record {
-          place = refl;
-          passed = h .passed;
-          vehicle = h .vehicle;
-          cycle = refl;
-          tolerances = h .tolerances;
-          amounts = h .amounts;
-          empty = λ _. h .empty l;
-          waits = λ _. h .waits l;
-          reached = λ e. absurd (omega arith);
-        }
+    held nothing z = early (s .holding .vehicle) (x .vehicle) (s .holding .cycle) (x .cycle) 0 1 (omega arith) (omega arith) (z .1) (h .vehicle) (h .cycle)
+    held (aNumber v) z = early v v (s .holding .cycle) (x .cycle) 1 2 (omega arith) (omega arith) (z .1) refl (h .cycle)
+    held (aCycle v) z = early (s .holding .vehicle) (x .vehicle) v v 2 3 (omega arith) (omega arith) (z .1) (h .vehicle) refl
     held (theTolerances t) z =
         let p = place-is (s .place) 3 (z .1) in
         let l : x .place ≤ 3 = omega (arith, h .place) in
@@ -212,8 +188,8 @@ module _ (l₀ : List ℤ) (m₀ : List ℕ) (long : Long l₀ m₀) where
           empty = λ e. absurd (omega arith);
           waits = λ e. absurd (omega arith);
           reached = λ _.
-              subst (λ (ys : List Moment). Reached p l₀ m₀ (s .holding .samples ++ ys) (withProgress (started (x .cycle) (x .tolerances)) (samplesTaken (courseOf p) (x .run) (momentIn ys) (length ys) .progress))
-              (samplesTaken (courseOf p) (x .run) (momentIn ys) (length ys) .memory .ledger) (samplesTaken (courseOf p) (x .run) (momentIn ys) (length ys) .memory .map)) (sym (z .2))
+              subst (λ (ys : List Moment). let y = takenOn x ys in
+              Reached p l₀ m₀ (s .holding .samples ++ ys) (withProgress (started (x .cycle) (x .tolerances)) (y .progress)) (y .memory .ledger) (y .memory .map)) (sym (z .2))
               (subst (λ (y : State). Reached p l₀ m₀ (s .holding .samples ++ momentsIn q) (withProgress (started (x .cycle) (x .tolerances)) (y .progress)) (y .memory .ledger) (y .memory .map))
               (taken-list (courseOf p) (x .run) (momentAt q) (countIn q)) r);
         }

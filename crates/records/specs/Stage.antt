@@ -7,13 +7,15 @@ use lib.Dec.{leb}
 use lib.ListN.{length, drop}
 use Rattle.rules.specs.Words.{unless}
 use Rattle.rules.specs.declared.Amounts.{Amounts}
+use Rattle.rules.specs.declared.Moment.{Moment}
 use Rattle.rules.specs.declared.Tolerances.{Tolerances}
 use Rattle.rules.specs.Regular.{Plan, plan, courseOf, momentIn}
 use Rattle.rules.specs.Shown.{ledgerNumbers, mapWords}
 use Rattle.rules.specs.Table.{Matter, mark, number, cycle, tolerances, block, energyBefore, energyAfter, recharge, behindNumber, behindCycle, tags}
 use Rattle.rules.specs.Front.{Field}
 use Rattle.rules.specs.Machine.{Answer, taken, passed, refused, Reply, toField, notYet, noField, Ran, replyAt, run}
-use Rattle.rules.specs.Record.{Bring, nothing, aNumber, aCycle, theTolerances, ownSamples, before, after, charged, Content, wrong, contentOf, fieldAnswer, withBefore, withAfter, withCharge}
+use Rattle.rules.specs.Record.{Bring, nothing, aNumber, aCycle, theTolerances, ownSamples, before, after, charged, Content, wrong, contentOf, fieldAnswer}
+use Rattle.rules.specs.Record.{withBefore, withAfter, withCharge}
 use Rattle.state.specs.State.{Memory}
 use Rattle.step.specs.Step.{State, samplesTaken, startOf}
 
@@ -56,41 +58,25 @@ contentOn x m v =
     unless (wrong 1) (cond (starts m) (isLong (x .run .memory)) true)
     (contentOf (x .passed) (x .vehicle) (x .cycle) (x .run .progress .offered) m v)
 
--- an amount is brought, at the place m
-abbrev pub withAmounts : Stage → ℕ → Amounts → Stage
-withAmounts x m a = record { place = m; passed = x .passed; vehicle = x .vehicle; cycle = x .cycle; tolerances = x .tolerances; amounts = a; run = x .run }
+-- x at the place m, with this vehicle, cycle, tolerances, amounts and run
+abbrev pub stageAs : Stage → ℕ → List ℕ → List ℕ → Tolerances → Amounts → State → Stage
+stageAs x m v b t a r = record { place = m; passed = x .passed; vehicle = v; cycle = b; tolerances = t; amounts = a; run = r }
 
--- with what a field brings, at the place m that it moves to: a start sets ledger and map to zero, samples are taken by the judge
+-- an amount is brought
+abbrev pub withAmounts : Stage → ℕ → Amounts → Stage
+withAmounts x m a = stageAs x m (x .vehicle) (x .cycle) (x .tolerances) a (x .run)
+
+-- samples are taken by the judge
+abbrev pub takenOn : Stage → List Moment → State
+takenOn x xs = samplesTaken (courseOf (planOn x)) (x .run) (momentIn xs) (length xs)
+
+-- with what a field brings, at the place m that it moves to: a start sets ledger and map to zero
 abbrev pub bringOn : Stage → ℕ → Bring → Stage
-bringOn x m nothing = record { place = m; passed = x .passed; vehicle = x .vehicle; cycle = x .cycle; tolerances = x .tolerances; amounts = x .amounts; run = x .run }
-bringOn x m (aNumber v) = record { place = m; passed = x .passed; vehicle = v; cycle = x .cycle; tolerances = x .tolerances; amounts = x .amounts; run = x .run }
-bringOn x m (aCycle v) = record {
-  place = m;
-  passed = x .passed;
-  vehicle = x .vehicle;
-  cycle = v;
-  tolerances = x .tolerances;
-  amounts = x .amounts;
-  run = x .run;
-}
-bringOn x m (theTolerances t) = record {
-  place = m;
-  passed = x .passed;
-  vehicle = x .vehicle;
-  cycle = x .cycle;
-  tolerances = t;
-  amounts = x .amounts;
-  run = startOf (x .run .memory .ledger) (x .run .memory .map);
-}
-bringOn x m (ownSamples xs) = record {
-  place = m;
-  passed = x .passed;
-  vehicle = x .vehicle;
-  cycle = x .cycle;
-  tolerances = x .tolerances;
-  amounts = x .amounts;
-  run = samplesTaken (courseOf (planOn x)) (x .run) (momentIn xs) (length xs);
-}
+bringOn x m nothing = stageAs x m (x .vehicle) (x .cycle) (x .tolerances) (x .amounts) (x .run)
+bringOn x m (aNumber v) = stageAs x m v (x .cycle) (x .tolerances) (x .amounts) (x .run)
+bringOn x m (aCycle v) = stageAs x m (x .vehicle) v (x .tolerances) (x .amounts) (x .run)
+bringOn x m (theTolerances t) = stageAs x m (x .vehicle) (x .cycle) t (x .amounts) (startOf (x .run .memory .ledger) (x .run .memory .map))
+bringOn x m (ownSamples xs) = stageAs x m (x .vehicle) (x .cycle) (x .tolerances) (x .amounts) (takenOn x xs)
 bringOn x m (before e) = withAmounts x m (withBefore (x .amounts) e)
 bringOn x m (after e) = withAmounts x m (withAfter (x .amounts) e)
 bringOn x m (charged w) = withAmounts x m (withCharge (x .amounts) w)

@@ -10,7 +10,8 @@ use Rattle.rules.specs.Words.{unless}
 use Rattle.rules.specs.Bench.{Moment, Tolerances, mostPassed}
 use Rattle.rules.specs.Cycle.{valid, startOr}
 use Rattle.rules.specs.Closing.{Amounts, absent, wh, isTransfer, isCharge}
-use Rattle.rules.specs.Table.{Row, Matter, mark, number, cycle, tolerances, block, energyBefore, energyAfter, recharge, among, byRow, placeAfter, atFirst, behindTolerances, tags}
+use Rattle.rules.specs.Table.{Row, Matter, mark, number, cycle, tolerances, block, energyBefore, energyAfter, recharge, among, byRow, placeAfter}
+use Rattle.rules.specs.Table.{atFirst, behindTolerances, tags}
 use Rattle.rules.specs.Front.{Field}
 use Rattle.rules.specs.Machine.{Answer, taken, passed, refused, End, waiting, broken, stopped, run}
 use Rattle.rules.specs.Values.{isNumber, sameNumber, tolerancesIn, firstIn, samplesOf, momentsIn, blockOr, transferIn, rechargeIn}

@@ -132,7 +132,8 @@ records =
     ∷ line four (4 ∷ 0 ∷ 0 ∷ 0 ∷ 9 ∷ [])
     ∷ line (four ++ (block me 0 (sample ++ sample) ++ charge 15)) (8 ∷ 0 ∷ 2 ∷ 15 ∷ 9 ∷ [])
     ∷ line (four ++ (block me 0 sample ++ (block me 1 sample ++ charge 15))) (8 ∷ 0 ∷ 2 ∷ 15 ∷ 9 ∷ [])
-    ∷ line (four ++ (block other 0 sample ++ (energy 0 1 ++ (block other 0 sample ++ (block me 0 sample ++ (block other 0 sample ++ (energy 1 1 ++ charge 200)))))))
+    ∷ line
+    (four ++ (block other 0 sample ++ (energy 0 1 ++ (block other 0 sample ++ (block me 0 sample ++ (block other 0 sample ++ (energy 1 1 ++ charge 200)))))))
     (8 ∷ 3 ∷ 1 ∷ 200 ∷ 9 ∷ [])
     ∷ []
 

@@ -35,12 +35,17 @@ figures end counted cycles outside passed drawn weighted range ac = record {
   ac = ac;
 }
 
+-- run LTESTVEH000000001
+abbrev pub runLine : List ℕ
+runLine =
+    let number : List ℕ = 76 ∷ 84 ∷ 69 ∷ 83 ∷ 84 ∷ 86 ∷ 69 ∷ 72 ∷ 48 ∷ 48 ∷ 48 ∷ 48 ∷ 48 ∷ 48 ∷ 48 ∷ 48 ∷ 49 ∷ [] in
+    (114 ∷ 117 ∷ 110 ∷ 32 ∷ []) ++ (number ++ 10 ∷ [])
+
 unfoldable pub rows : List Row
 unfolding figures
 rows =
     sheet (figures none 120 3 0 0 (pos 86_400_000) (Is 720_000) (Is 16) (Is 937_500)) (
-    -- run LTESTVEH000000001
-    (114 ∷ 117 ∷ 110 ∷ 32 ∷ 76 ∷ 84 ∷ 69 ∷ 83 ∷ 84 ∷ 86 ∷ 69 ∷ 72 ∷ 48 ∷ 48 ∷ 48 ∷ 48 ∷ 48 ∷ 48 ∷ 48 ∷ 48 ∷ 49 ∷ 10 ∷ [])
+    runLine
     -- end none 120
     ∷ (101 ∷ 110 ∷ 100 ∷ 32 ∷ 110 ∷ 111 ∷ 110 ∷ 101 ∷ 32 ∷ 49 ∷ 50 ∷ 48 ∷ 10 ∷ [])
     -- cycles 3
@@ -59,8 +64,7 @@ rows =
     ∷ (97 ∷ 99 ∷ 32 ∷ 57 ∷ 51 ∷ 55 ∷ 53 ∷ 48 ∷ 48 ∷ 10 ∷ [])
     ∷ [])
     ∷ sheet (figures stop 79 1 40 2 (negℤ (pos 720_000)) (Is 1) (Is 2_000_000) Absent) (
-    -- run LTESTVEH000000001
-    (114 ∷ 117 ∷ 110 ∷ 32 ∷ 76 ∷ 84 ∷ 69 ∷ 83 ∷ 84 ∷ 86 ∷ 69 ∷ 72 ∷ 48 ∷ 48 ∷ 48 ∷ 48 ∷ 48 ∷ 48 ∷ 48 ∷ 48 ∷ 49 ∷ 10 ∷ [])
+    runLine
     -- end stop 79
     ∷ (101 ∷ 110 ∷ 100 ∷ 32 ∷ 115 ∷ 116 ∷ 111 ∷ 112 ∷ 32 ∷ 55 ∷ 57 ∷ 10 ∷ [])
     -- cycles 1
@@ -79,8 +83,7 @@ rows =
     ∷ (97 ∷ 99 ∷ 32 ∷ 45 ∷ 10 ∷ [])
     ∷ [])
     ∷ sheet (figures none 80 2 0 10 (pos 1) (Refused 10) (Refused 10) (Refused 10)) (
-    -- run LTESTVEH000000001
-    (114 ∷ 117 ∷ 110 ∷ 32 ∷ 76 ∷ 84 ∷ 69 ∷ 83 ∷ 84 ∷ 86 ∷ 69 ∷ 72 ∷ 48 ∷ 48 ∷ 48 ∷ 48 ∷ 48 ∷ 48 ∷ 48 ∷ 48 ∷ 49 ∷ 10 ∷ [])
+    runLine
     -- end none 80
     ∷ (101 ∷ 110 ∷ 100 ∷ 32 ∷ 110 ∷ 111 ∷ 110 ∷ 101 ∷ 32 ∷ 56 ∷ 48 ∷ 10 ∷ [])
     -- cycles 2
@@ -95,8 +98,7 @@ rows =
     ∷ (114 ∷ 101 ∷ 102 ∷ 117 ∷ 115 ∷ 101 ∷ 100 ∷ 32 ∷ 49 ∷ 48 ∷ 10 ∷ [])
     ∷ [])
     ∷ sheet (figures limit 2_560 64 9 0 (pos 99) (Is 5) (Is 6) (Refused 14)) (
-    -- run LTESTVEH000000001
-    (114 ∷ 117 ∷ 110 ∷ 32 ∷ 76 ∷ 84 ∷ 69 ∷ 83 ∷ 84 ∷ 86 ∷ 69 ∷ 72 ∷ 48 ∷ 48 ∷ 48 ∷ 48 ∷ 48 ∷ 48 ∷ 48 ∷ 48 ∷ 49 ∷ 10 ∷ [])
+    runLine
     -- end limit 2560
     ∷ (101 ∷ 110 ∷ 100 ∷ 32 ∷ 108 ∷ 105 ∷ 109 ∷ 105 ∷ 116 ∷ 32 ∷ 50 ∷ 53 ∷ 54 ∷ 48 ∷ 10 ∷ [])
     -- cycles 64

@@ -5,7 +5,7 @@ use Rattle.opening.proofs.open_refusal
 use Rattle.opening.proofs.refused_at
 use Rattle.opening.proofs.open_whole
 use Rattle.opening.specs.Answers.{OpenLeft}
-use Rattle.opening.proofs.Starting.{same-opened}
+use Rattle.opening.proofs.Readied.{same-opened}
 use Rattle.demands.specs.Calls.{AsksNothing, OneAnswer}
 use Rattle.demands.proofs.NoDoubt.{same}
 

@@ -10,7 +10,7 @@ use Rattle.reader.proofs.read_all
 use Rattle.reader.proofs.ended
 use Rattle.state.specs.State.{Left}
 use Rattle.opening.specs.Answers.{OpenLeft}
-use Rattle.opening.proofs.Starting.{same-opened}
+use Rattle.opening.proofs.Readied.{same-opened}
 use Rattle.reading.specs.declared.Reading.{Reading}
 use Rattle.reading.specs.Answers.{ReadSaid, AllSaid}
 use Rattle.reader.proofs.Endings.{same-read, same-all, same-ending}

@@ -9,7 +9,8 @@ use Prim.Native.Nat.{_≤_}
 use lib.ListN.{length}
 use Rattle.laws.proofs.Tags.{Sizes, sizes}
 use Rattle.fields.specs.Fields.{hasRow}
-use Rattle.opening.proofs.Starting.{Ready, ground-ready, no-row, out-of-order, number-opens, cycle-opens, start-opens, mark-opens}
+use Rattle.opening.proofs.Readied.{Ready, ground-ready}
+use Rattle.opening.proofs.Starting.{no-row, out-of-order, number-opens, cycle-opens, start-opens, mark-opens}
 use Rattle.opening.proofs.open_whole.Statement.{statement}
 use Rattle.opening.proofs.open_whole.Tie as tie
 

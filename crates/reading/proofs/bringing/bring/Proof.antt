@@ -1,4 +1,4 @@
--- `reading::bring` meets its contract: samples are taken by the judge, and an amount leaves the run as it is.
+-- `reading::bringing::bring` meets its contract: samples are taken by the judge, and an amount leaves the run as it is.
 -- Assumes nothing.
 use mathlib.Core.List.{List}
 use mathlib.Core.Path.{ap, subst⁻¹, _∙_}
@@ -11,8 +11,8 @@ use Rattle.numbers.proofs.Lists.{part-rest}
 use Rattle.rules.specs.Bench.{mostOffered}
 use Rattle.rules.specs.Values.{countIn, areSamples}
 use Rattle.reading.proofs.Taking.{by-bring, samples-taken, amount-taken, as-held}
-use Rattle.reading.proofs.bring.Statement.{statement}
-use Rattle.reading.proofs.bring.Tie as tie
+use Rattle.reading.proofs.bringing.bring.Statement.{statement}
+use Rattle.reading.proofs.bringing.bring.Tie as tie
 
 abbrev entry : tie.After-amounts → tie.Start
 entry c = c .before .before .before .before .before

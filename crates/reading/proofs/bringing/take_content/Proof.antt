@@ -1,11 +1,11 @@
--- `reading::take_content` meets its contract: what is brought is taken, and all else leaves the run as it is.
+-- `reading::bringing::take_content` meets its contract: what is brought is taken, and all else leaves the run as it is.
 -- Assumes nothing.
 use mathlib.Core.List.{[]}
 use borrow.Author.Needs.{needs}
 use Rattle.laws.specs.Answers.{refuses}
 use Rattle.reading.proofs.Taking.{by-content, brought-taken, passed-taken, unmoved}
-use Rattle.reading.proofs.take_content.Statement.{statement}
-use Rattle.reading.proofs.take_content.Tie as tie
+use Rattle.reading.proofs.bringing.take_content.Statement.{statement}
+use Rattle.reading.proofs.bringing.take_content.Tie as tie
 
 abbrev entry : tie.After-shared-slice-known2 → tie.Start
 entry c = c .before .before .before

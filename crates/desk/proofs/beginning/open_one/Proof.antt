@@ -1,10 +1,10 @@
--- `desk::open_one` meets its contract: the reader opens, and the desk goes on with its answer.
+-- `desk::beginning::open_one` meets its contract: the reader opens, and the desk goes on with its answer.
 -- Assumes nothing.
 use borrow.Author.Needs.{needs}
 use Rattle.desk.specs.Feeding.{laidOf}
 use Rattle.desk.proofs.Turns.{one-left}
-use Rattle.desk.proofs.open_one.Statement.{statement}
-use Rattle.desk.proofs.open_one.Tie as tie
+use Rattle.desk.proofs.beginning.open_one.Statement.{statement}
+use Rattle.desk.proofs.beginning.open_one.Tie as tie
 
 open-requires : tie.Need-open-requires
 open-requires c κs = search needs

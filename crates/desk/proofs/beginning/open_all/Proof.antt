@@ -1,4 +1,4 @@
--- `desk::open_all` meets its contract. The loop's invariant: what is left to open is what the desk, as it is now, has to open of the rest.
+-- `desk::beginning::open_all` meets its contract. The loop's invariant: what is left to open is what the desk, as it is now, has to open of the rest.
 -- Assumes nothing.
 use mathlib.Core.Bool.{Bool, true, false}
 use mathlib.Core.Logic.{_⊎_, inl, inr, ⊎-elim}
@@ -9,8 +9,8 @@ use borrow.Author.Needs.{needs}
 use lib.ListN.{length, drop}
 use Rattle.desk.specs.Feeding.{Desk, Laid, laidOf, behind, openAll, mostFields}
 use Rattle.desk.proofs.Turns.{before-all, turn, turn-end, turn-size, turn-started}
-use Rattle.desk.proofs.open_all.Statement.{statement}
-use Rattle.desk.proofs.open_all.Tie as tie
+use Rattle.desk.proofs.beginning.open_all.Statement.{statement}
+use Rattle.desk.proofs.beginning.open_all.Tie as tie
 
 -- a desk that has not started is at the first turn, or at the turn of its fields
 abbrev InTurn : Desk → ℕ → Type 0

@@ -1,4 +1,4 @@
--- `desk::opened` meets its contract: by the answer.
+-- `desk::beginning::opened` meets its contract: by the answer.
 -- Assumes nothing.
 use mathlib.Core.Bool.{true}
 use mathlib.Core.Path.{refl}
@@ -6,8 +6,8 @@ use Prim.Native.Nat.{_+_}
 use borrow.Author.Needs.{needs}
 use Rattle.desk.specs.Feeding.{wanted}
 use Rattle.desk.proofs.Turns.{opens-by}
-use Rattle.desk.proofs.opened.Statement.{statement}
-use Rattle.desk.proofs.opened.Tie as tie
+use Rattle.desk.proofs.beginning.opened.Statement.{statement}
+use Rattle.desk.proofs.beginning.opened.Tie as tie
 
 enum-known-step : tie.Need-enum-known-step
 enum-known-step c = search needs
