@@ -1,2 +1,2 @@
--- The closing operations of a started run.
+-- The closing of a started run.
 pub mod Answers

@@ -1,50 +1,46 @@
-// The closing figures of a started run: weighted consumption, range and recharge figure.
+// The closing of a started run: weighted consumption, range and recharge figure, together or refused together.
 use rules::Amounts;
-use rules::Charge;
-use rules::Figure;
+use rules::ClosingAnswer;
 use state::Run;
+use state::cycles_of;
+use state::ground_refusal;
+use values::are_amounts;
 ghost use mathlib.Core.Path.{_≡_};
-ghost use Rattle.laws.specs.Answers.{figureSaid};
-ghost use Rattle.closing.specs.Answers.{weightedAnswer, rangeAnswer, rechargeAnswer};
+ghost use mathlib.Core.Bool.{true};
+ghost use Rattle.values.specs.Limits.{areAmounts};
+ghost use Rattle.laws.specs.Answers.{closingSaid};
+ghost use Rattle.ledger.specs.Row.{bounded};
+ghost use Rattle.state.specs.State.{isRun};
+ghost use Rattle.state.specs.Refusals.{cyclesBy};
+ghost use Rattle.consumption.specs.Figures.{closingOn};
+ghost use Rattle.closing.specs.Answers.{grounds, closingAnswer};
 
-pub mod checks;
-
-// Weighted consumption, in mWh/km.
-pub fn weighted(run: Run, amounts: Amounts, cycle: &[u8], ledger: &[i64], map: &[u64]) -> Figure
-    ensures { λ r. ⌜ figureSaid r ≡ weightedAnswer run amounts (now (cycle .entry)) (now (ledger .entry)) (now (map .entry)) ⌝ }
+// 1 or 2, or 0 where the closing may go on.
+fn grounds_refusal(run: Run, a: Amounts, cycle: &[u8], ledger: &[i64], map: &[u64]) -> u32
+    ensures { λ r. ⌜ r ≡ grounds run a (now (cycle .entry)) (now (ledger .entry)) (now (map .entry)) 0 ⌝ }
 {
-    let c = checks::closing_of(run, amounts, cycle, ledger, map);
-    if c.refusal != 0 {
-        return Figure::Refused(c.refusal);
+    if !are_amounts(a) {
+        return 1;
     }
-    Figure::Is(c.weighted)
+    ground_refusal(run, cycle, ledger, map)
 }
 
-// Range, in metres.
-pub fn range(run: Run, amounts: Amounts, cycle: &[u8], ledger: &[i64], map: &[u64]) -> Figure
-    ensures { λ r. ⌜ figureSaid r ≡ rangeAnswer run amounts (now (cycle .entry)) (now (ledger .entry)) (now (map .entry)) ⌝ }
+// The closing of a run, amounts and a ledger without 1: 10, 11, 12, 13, or the figures together.
+pub fn close_on(run: Run, amounts: Amounts, ledger: &[i64]) -> ClosingAnswer
+    requires { ⌜ (isRun run ≡ true) × (areAmounts amounts ≡ true) × (bounded (now ledger) ≡ true) ⌝ }
+    ensures { λ r. ⌜ closingSaid r ≡ closingSaid (closingOn (now (ledger .entry)) (cyclesBy run) amounts) ⌝ }
 {
-    let c = checks::closing_of(run, amounts, cycle, ledger, map);
-    if c.refusal != 0 {
-        return Figure::Refused(c.refusal);
-    }
-    Figure::Is(c.range)
+    let n = cycles_of(run) as usize;
+    consumption::close(ledger, n, amounts)
 }
 
-// Recharge figure, in mWh/km.
-pub fn recharge(run: Run, amounts: Amounts, cycle: &[u8], ledger: &[i64], map: &[u64]) -> Figure
-    ensures { λ r. ⌜ figureSaid r ≡ rechargeAnswer run amounts (now (cycle .entry)) (now (ledger .entry)) (now (map .entry)) ⌝ }
+// The closing: 1, 2, 10, 11, 12, 13, or weighted consumption and range with the recharge figure, absent, or its refusal 14, 12.
+pub fn close(run: Run, amounts: Amounts, cycle: &[u8], ledger: &[i64], map: &[u64]) -> ClosingAnswer
+    ensures { λ r. ⌜ closingSaid r ≡ closingAnswer run amounts (now (cycle .entry)) (now (ledger .entry)) (now (map .entry)) ⌝ }
 {
-    let closing = checks::closing_of(run, amounts, cycle, ledger, map);
-    if closing.refusal != 0 {
-        return Figure::Refused(closing.refusal);
+    let refusal = grounds_refusal(run, amounts, cycle, ledger, map);
+    if refusal != 0 {
+        return ClosingAnswer::Refused(refusal);
     }
-    let charge = amounts.charge;
-    match charge {
-        Charge::Absent => Figure::Absent,
-        Charge::Wh(wh) => {
-            let total = amounts.before + ledger::totals::energy_all(ledger);
-            consumption::recharged(closing.range, total, amounts.after, wh)
-        }
-    }
+    close_on(run, amounts, ledger)
 }

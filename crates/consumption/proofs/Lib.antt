@@ -1,2 +1,3 @@
--- The laws of rates and weights.
+-- The laws of rates, weights and one pass over a ledger.
 pub mod Weights
+pub mod Gathers

@@ -1,51 +1,30 @@
--- What the tests of a closing tell: an energy that is drawn is a natural number, a rate lies within its limits, W is neither 0 nor over, and which
--- answer the chain of refusals gives.
+-- Numbers as the closing meets them: a cast of a signed number that is not below 0, amounts within their limits, energy and rate of one cycle.
 -- Assumes nothing.
-use mathlib.Core.Bool.{Bool, true, false, not, false≢true}
+use mathlib.Core.Bool.{true, false, _&&_, false≢true}
 use mathlib.Core.List.{List}
 use mathlib.Core.Path.{_≡_, refl, sym, ap, subst, _∙_}
-use Prim.Native.Nat.{ℕ, suc, _+_, _*_, _^_, _≤_, _<_}
-use native.Mathlib.Nat.{lt-of-le-of-lt, mul-le-mul}
+use Prim.Native.Nat.{ℕ, zero, suc, _*_, _/_, _^_, _≤_, _<_}
+use native.Mathlib.Nat.{lt-of-le-of-lt, mul-le-mul, div-le-self, div-zero}
 use native.Mathlib.Omega.{arith}
-use borrow.Author.Tests.{leb-true, le-leb, ltb-true}
+use borrow.Author.Tests.{leb-true, lt-ltb, ltb-true}
 use lib.Dec.{T, leb, ltb, ltb→lt}
-use lib.IntN.{ℤ, pos, negsuc, natAbs, _+ℤ_}
+use lib.IntN.{ℤ, pos, negsuc, natAbs}
 use lib.Signed.{leZ, ltZ, nonNeg}
 use mir.Syntax.{w64}
-use mir.Val.{Fits, toZ, ofZ}
-use Rattle.rules.specs.Words.{allBelow, unless, settled, up}
-use Rattle.numbers.specs.Whole.{down, Sized}
-use Rattle.numbers.proofs.Tests.{both, all-more, all-fails, all-at, refuted, pass, settled-taken, settled-refused}
-use Rattle.numbers.proofs.Whole.{sum-is, le-up, up-le, le-not, sized-upto}
-use Rattle.rules.specs.Closing.{mostRate, isRate, rateOf, weighing, weight, weightedFigure, rangeFigure, closingRefusal}
-use Rattle.laws.proofs.Weighing.{greatest-rate, weight-pos, weighted-at-least-one}
+use mir.Val.{Fits, SFits, toZ, ofZ}
+use Rattle.rules.specs.Words.{up}
+use Rattle.numbers.specs.Whole.{Sized}
+use Rattle.numbers.proofs.Signed.{sized-fits}
+use Rattle.numbers.proofs.Tests.{both}
+use Rattle.numbers.proofs.Whole.{abs-is, sized-between}
+use Rattle.values.specs.Limits.{areAmounts}
+use Rattle.rules.specs.declared.Amounts.{Amounts}
+use Rattle.rules.specs.Closing.{mostTransfer, isTransfer, isCharge, mostRate, isRate, rateOf}
+use Rattle.laws.specs.Answers.{is}
 use Rattle.rules.specs.Bench.{mostPhases, mostCycles}
-use Rattle.rules.specs.Shown.{mostEnergy, mostDistance}
-use Rattle.wide.specs.declared.Ratio.the-variants.{Over}
-use Rattle.wide.specs.Ratio.{ratio}
-use Rattle.wide.proofs.Answers.{over-quotient}
+use Rattle.rules.specs.Shown.{mostEnergy}
 use Rattle.ledger.specs.Row.{bounded, energyIn, distanceIn}
-use Rattle.ledger.proofs.Bounded.{energy-sized, distance-natural}
-use Rattle.consumption.specs.declared.Closed.{Closed}
-use Rattle.consumption.specs.Figures.{closingIn, Closable}
-
--- ---- tests
-
--- the strict test of order, where the code has the other
-pub lt-not : (a b : ℤ) → ltZ a b ≡ not (leZ b a)
-lt-not a b = go (ltZ a b) ∙ ap not (sym (le-not a b))
-  where
-    go : (t : Bool) → t ≡ not (not t)
-    go true = refl
-    go false = refl
-
--- a loop tests f at k, and what it finds is t: it ends, or goes on
-module _ (f : ℕ → Bool) (k : ℕ) {t : Bool} (tested : f k ≡ not t) where
-  pub loop-ends : (n : ℕ) → k < n → t ≡ true → false ≡ allBelow n f
-  loop-ends n l e = sym (all-fails n k f l (tested ∙ ap not e))
-
-  pub loop-goes : t ≡ false → allBelow k f ≡ true → allBelow (k + 1) f ≡ true
-  loop-goes e p = all-more k f p (tested ∙ ap not e)
+use Rattle.ledger.proofs.Bounded.{energy-sized}
 
 -- ---- numbers
 
@@ -80,118 +59,62 @@ cast {n} {y} {z} t e p = record { fits = (subst (λ (x : ℤ). T (nonNeg x)) (sy
     small : Fits w64 (natAbs y)
     small = record { fits = rw is (lt-of-le-of-lt (p .most) (ltb→lt n (2 ^ 64) t)) }
 
+-- likewise a natural z
+pub below-none : (z : ℤ) → ltZ z (pos 0) ≡ true → 0 ≡ up z
+below-none (pos m) e = absurd (omega (arith, ltb-true m 0 e))
+below-none (negsuc m) e = refl
+
+pub natural : {y : ℤ} (z : ℤ) → SFits w64 z → y ≡ z → ltZ y (pos 0) ≡ false → Cast y z
+natural {y} z fits e h = subst (λ (x : ℤ). Cast x z) (sym e) (go z (sized-fits fits .size) (ap (λ (x : ℤ). ltZ x (pos 0)) (sym e) ∙ h))
+  where
+    go : (z : ℤ) → natAbs z ≤ 2 ^ 63 → ltZ z (pos 0) ≡ false → Cast z z
+    go (pos m) s h = record { fits = (tt, record { fits = omega arith }); is = refl }
+    go (negsuc m) s h = absurd (false≢true (sym h))
+
 -- the machine's reading of a number that fits
 abbrev pub machine : ℤ → ℤ
 machine r = toZ w64 (ofZ w64 r)
 
-positive-one : (z : ℤ) → ltZ (pos 0) z ≡ true → leZ (pos 1) z ≡ true
-positive-one (pos m) e = le-leb 1 m (ltb-true 0 m e)
-positive-one (negsuc m) e = e
+-- amounts within their limits
+pub record InLimits (a : Amounts) : Type 0 where
+  pub before : Sized mostTransfer (a .before)
+  pub after : Sized mostTransfer (a .after)
+  pub charge : isCharge (a .charge) ≡ true
+
+pub in-limits : (a : Amounts) → areAmounts a ≡ true → InLimits a
+unfolding areAmounts
+in-limits a e =
+    let (transfers, charge) = both (isTransfer (a .before) && isTransfer (a .after)) _ e in
+    let (before, after) = both (isTransfer (a .before)) _ transfers in
+    record { before = sized-between mostTransfer (a .before) before; after = sized-between mostTransfer (a .after) after; charge = charge }
 
 -- ---- one cycle
 
 abbrev pub mostDrawn : ℕ
 mostDrawn = mostPhases * mostEnergy
 
-abbrev pub mostMoved : ℕ
-mostMoved = mostPhases * mostDistance
-
-module _ (l : List ℤ) (b : bounded l ≡ true) (c : ℕ) (h : c < mostCycles) where
-  pub energy-positive : leZ (pos 1) (energyIn l c) ≡ true → Positive mostDrawn (energyIn l c)
-  energy-positive e = positive mostDrawn (energyIn l c) (energy-sized l b c h) e
-
-  pub distance-positive : ltZ (pos 0) (distanceIn l c) ≡ true → Positive mostMoved (distanceIn l c)
-  distance-positive e =
-      positive mostMoved (distanceIn l c) (sized-upto mostMoved (distanceIn l c) (distance-natural l b c h)) (positive-one (distanceIn l c) e)
+-- an energy that is drawn, by its natural part
+pub drawn-up : (z : ℤ) → leb 1 (up z) ≡ leZ (pos 1) z
+drawn-up (pos m) = refl
+drawn-up (negsuc m) = refl
 
 -- a rate within its limits
-rate-within : (q : ℕ) → isRate q ≡ true → (1 ≤ q) × (q ≤ mostRate)
+pub rate-within : (q : ℕ) → isRate q ≡ true → (1 ≤ q) × (q ≤ mostRate)
 rate-within q e = let (a, b) = both (leb 1 q) (leb q mostRate) e in (leb-true 1 q a, leb-true q mostRate b)
 
-pub rate-not : (q : ℕ) → ((1 ≤ q) × (q ≤ mostRate) → ⊥) → isRate q ≡ false
-rate-not q h = refuted (isRate q) (λ e. h (rate-within q e))
+-- a cycle that has a rate has moved
+pub moved-at : (e d : ℤ) → isRate (100 * up e / up d) ≡ true → ltZ (pos 0) d ≡ true
+moved-at e (pos m) h = lt-ltb 0 m (moved m (rate-within _ h .0))
+  where
+    moved : (m : ℕ) → 1 ≤ 100 * up e / m → 0 < m
+    moved zero l = absurd (omega (arith, div-zero (100 * up e)))
+    moved (suc m) l = omega arith
+moved-at e (negsuc m) h = absurd (omega (arith, div-zero (100 * up e), rate-within (100 * up e / 0) h .0))
 
-pub rate-by : (q : ℕ) → 1 ≤ q → q ≤ mostRate → isRate q ≡ true
-rate-by q a b = rw (le-leb 1 q a, le-leb q mostRate b)
+module _ (l : List ℤ) (b : bounded l ≡ true) (c : ℕ) (h : c < mostCycles) where
+  -- neither e_c nor q_c is large
+  pub energy-most : up (energyIn l c) ≤ mostDrawn
+  energy-most = omega (arith, abs-is (energyIn l c), energy-sized l b c h .size)
 
--- ---- all cycles, where no rule up to 12 is broken
-
-module _ (l : List ℤ) (n : ℕ) (g : Closable l n) where
-  module _ (c : ℕ) (h : c < n) where
-    drawn-at : leZ (pos 1) (energyIn l c) ≡ true
-    drawn-at = all-at n (λ k. leZ (pos 1) (energyIn l k)) (g .drawn) c h
-
-    -- what `energy_in` and `rate_in` ask
-    pub cycle-at : (bounded l ≡ true) × (c < mostCycles) × (leZ (pos 1) (energyIn l c) ≡ true) × (ltZ (pos 0) (distanceIn l c) ≡ true)
-    cycle-at = (g .bounded, omega (arith, g .most), drawn-at, all-at n (λ k. ltZ (pos 0) (distanceIn l k)) (g .moved) c h)
-
-    pub energy-at : Positive mostDrawn (energyIn l c)
-    energy-at = energy-positive l (g .bounded) c (omega (arith, g .most)) drawn-at
-
-    pub rate-at : (1 ≤ rateOf (energyIn l) (distanceIn l) c) × (rateOf (energyIn l) (distanceIn l) c ≤ mostRate)
-    rate-at = rate-within _ (all-at n (λ k. isRate (rateOf (energyIn l) (distanceIn l) k)) (g .rated) c h)
-
-  module _ (E : ℤ) (fits : leZ (energyIn l 0 +ℤ energyIn l 1) E ≡ true) where
-    parts : up (energyIn l 0) + up (energyIn l 1) + down E ≤ up E
-    parts =
-        let one = ap down (sym (energy-at 0 (omega (arith, g .three)) .is)) in
-        let two = ap down (sym (energy-at 1 (omega (arith, g .three)) .is)) in
-        omega (arith, le-up (energyIn l 0 +ℤ energyIn l 1) E fits, sum-is (energyIn l 0) (energyIn l 1), one, two)
-
-    -- what `weigh` asks, and that there is energy
-    pub fits-in : up (energyIn l 0) + up (energyIn l 1) ≤ up E
-    fits-in = omega (arith, parts)
-
-    above : 1 + down E ≤ up E
-    above = omega (arith, parts, energy-at 0 (omega (arith, g .three)) .least)
-
-    pub some : leZ (pos 1) E ≡ true
-    some = up-le (pos 1) E (omega (arith, above))
-
-    -- W
-    pub at-least : 1 ≤ weightedFigure E n (energyIn l) (distanceIn l)
-    at-least =
-        weighted-at-least-one (up E) n (λ c. up (energyIn l c)) (rateOf (energyIn l) (distanceIn l)) fits-in (omega (arith, above)) (g .three) (λ c h. rate-at c h .0)
-
-    pub at-most : weightedFigure E n (energyIn l) (distanceIn l) ≤ mostRate
-    at-most =
-        greatest-rate (up E) n (λ c. up (energyIn l c)) (rateOf (energyIn l) (distanceIn l)) fits-in (omega (arith, above)) (g .three) mostRate (λ c h. rate-at c h .1)
-
-    pub not-over : up E < 2 ^ 51 → Over ≡ ratio (weighing (up E) n (λ c. up (energyIn l c)) (rateOf (energyIn l) (distanceIn l))) (weight (up E) n) → ⊥
-    not-over small none =
-        let size : weight (up E) n ≤ 2 ^ 51 * 62 = mul-le-mul {n₂ = 2 ^ 51} {m₂ = 62} (omega (arith, small)) (omega (arith, g .most)) in
-        let large = over-quotient _ _ (weight-pos (up E) n (omega (arith, above)) (g .three)) (omega (arith, size)) none in
-        omega (arith, at-most, large)
-
-    -- only 13 is left to refuse
-    pub only-range : closingRefusal E n (energyIn l) (distanceIn l) ≡ unless 13 (leb 1 (rangeFigure E n (energyIn l) (distanceIn l))) 0
-    unfolding closingRefusal
-    only-range = sym (pass 10 (le-leb 3 n (g .three)) (pass 11 (g .drawn) (pass 11 fits (pass 12 (g .moved) (pass 12 (g .rated) refl)))))
-
--- ---- the answer
-
-module _ (l : List ℤ) (n : ℕ) (E : ℤ) where
-  abbrev refusal : ℕ
-  refusal = closingRefusal E n (energyIn l) (distanceIn l)
-
-  abbrev W : ℕ
-  W = weightedFigure E n (energyIn l) (distanceIn l)
-
-  abbrev R : ℕ
-  R = rangeFigure E n (energyIn l) (distanceIn l)
-
-  pub closed-refused : (k : ℕ) → suc k ≡ closingRefusal E n (energyIn l) (distanceIn l)
-      → _≡_ {A = Closed} (record { refusal = suc k; weighted = 0; range = 0 }) (closingIn l n E)
-  unfolding closingIn
-  closed-refused k e =
-      let none : (x : ℕ) → 0 ≡ settled refusal x 0 = λ x. sym (settled-refused x (λ (z : refusal ≡ 0). omega arith)) in
-      λ i. record { refusal = e i; weighted = none W i; range = none R i }
-
-  pub closed-taken : closingRefusal E n (energyIn l) (distanceIn l) ≡ 0
-      → _≡_ {A = Closed}
-      (record { refusal = 0; weighted = weightedFigure E n (energyIn l) (distanceIn l); range = rangeFigure E n (energyIn l) (distanceIn l) })
-      (closingIn l n E)
-  unfolding closingIn
-  closed-taken e =
-      let is : (x : ℕ) → x ≡ settled refusal x 0 = λ x. sym (settled-taken 0 e) in
-      λ i. record { refusal = sym e i; weighted = is W i; range = is R i }
+  pub rate-most : rateOf (energyIn l) (distanceIn l) c ≤ 100 * mostDrawn
+  rate-most = omega (arith, div-le-self (100 * up (energyIn l c)) (up (distanceIn l c)), energy-most)

@@ -1,41 +1,100 @@
--- The figures of n finished cycles, read off a ledger.
+-- The closing of n finished cycles, read off a ledger, and what one pass over the ledger gathers for it.
 -- Assumes nothing.
-use mathlib.Core.Bool.{true}
+use mathlib.Core.Bool.{_&&_}
 use mathlib.Core.List.{List}
-use mathlib.Core.Path.{_≡_}
-use Prim.Native.Nat.{ℕ, _≤_}
+use Prim.Native.Nat.{ℕ, _+_, _-_, _*_, _/_, _^_, _≤_, _<_}
 use lib.Dec.{leb}
 use lib.IntN.{ℤ, pos, _+ℤ_}
-use lib.Signed.{leZ, ltZ}
-use Rattle.rules.specs.Words.{allBelow, unless, settled, up}
-use Rattle.rules.specs.Closing.{mostRate, isRate, rateOf, recharge, weightedFigure, rangeFigure, closingRefusal}
+use lib.Signed.{leZ}
+use Rattle.rules.specs.Words.{allBelow, sum, unless, up}
+use Rattle.rules.specs.declared.Amounts.{Amounts}
+use Rattle.rules.specs.declared.Charge.{Charge}
+use Rattle.rules.specs.declared.Charge.the-variants as charge
+use Rattle.rules.specs.declared.ClosingAnswer.{ClosingAnswer}
+use Rattle.rules.specs.Closing.{mostRate, isRate, rateOf, weight, range, recharge, closingBy}
 use Rattle.rules.specs.Bench.{mostCycles}
-use Rattle.laws.specs.Answers.{Said, gives, refuses, Measure, is}
-use Rattle.ledger.specs.Row.{bounded, energyIn, distanceIn}
-use Rattle.consumption.specs.declared.Closed.{Closed}
+use Rattle.laws.specs.Answers.{Said, gives, refuses, Measure, is, absent, Figured}
+use Rattle.ledger.specs.Row.{energyIn, distanceIn, energyAll}
+use Rattle.consumption.specs.declared.Rated.{Rated}
+use Rattle.consumption.specs.declared.Gathered.{Gathered}
 
--- the two figures of n finished cycles with the whole energy E, or the number of the refusal
-unfoldable pub closingIn : List ℤ → ℕ → ℤ → Closed
-closingIn l n E =
-    let refusal = closingRefusal E n (energyIn l) (distanceIn l) in
-    record {
-      refusal = refusal;
-      weighted = settled refusal (weightedFigure E n (energyIn l) (distanceIn l)) 0;
-      range = settled refusal (rangeFigure E n (energyIn l) (distanceIn l)) 0;
-    }
+-- the closing by the rules, of n finished cycles and these amounts
+abbrev pub closingOn : List ℤ → ℕ → Amounts → ClosingAnswer
+closingOn l n a = closingBy (a .before +ℤ energyAll l) n (energyIn l) (distanceIn l) (a .after) (a .charge)
+
+-- ---- what one pass gathers
+
+-- e_c and q_c
+abbrev pub ratedIn : List ℤ → ℕ → Rated
+ratedIn l c = record { energy = up (energyIn l c); rate = rateOf (energyIn l) (distanceIn l) c }
+
+-- of two cycles, and with one more
+abbrev pub firstTwo : Rated → Rated → Gathered
+firstTwo a b = record {
+  first = a;
+  second = b;
+  rates = 0;
+  energy = a .energy + b .energy;
+  drawn = leb 1 (a .energy) && leb 1 (b .energy);
+  rated = isRate (a .rate) && isRate (b .rate);
+}
+
+abbrev pub withCycle : Gathered → Rated → Gathered
+withCycle g x = record {
+  first = g .first;
+  second = g .second;
+  rates = g .rates + x .rate;
+  energy = g .energy + x .energy;
+  drawn = g .drawn && leb 1 (x .energy);
+  rated = g .rated && isRate (x .rate);
+}
+
+-- of n cycles: the first two, q_3 + .. + q_n, e_1 + .. + e_n, whether each has drawn energy, and whether each rate is within its limits
+abbrev pub gatheredIn : List ℤ → ℕ → Gathered
+gatheredIn l n = record {
+  first = ratedIn l 0;
+  second = ratedIn l 1;
+  rates = sum (λ c. rateOf (energyIn l) (distanceIn l) (2 + c)) (n - 2);
+  energy = sum (λ c. up (energyIn l c)) n;
+  drawn = allBelow n (λ c. leZ (pos 1) (energyIn l c));
+  rated = allBelow n (λ c. isRate (rateOf (energyIn l) (distanceIn l) c));
+}
+
+-- ---- the figures of what is gathered, with the whole energy E
+
+-- W
+abbrev pub weighedBy : Gathered → ℕ → ℕ → ℕ
+weighedBy g n E =
+    ((n - 2) * (g .first .rate * g .first .energy + g .second .rate * g .second .energy) + (E - g .first .energy - g .second .energy) * g .rates)
+    / weight E n
 
 -- what the tests up to 12 leave
-pub record Closable (l : List ℤ) (n : ℕ) : Type 0 where
-  pub bounded : bounded l ≡ true
-  pub most : n ≤ mostCycles
+pub record Weighable (g : Gathered) (n E : ℕ) : Type 0 where
   pub three : 3 ≤ n
-  pub drawn : allBelow n (λ c. leZ (pos 1) (energyIn l c)) ≡ true
-  pub moved : allBelow n (λ c. ltZ (pos 0) (distanceIn l c)) ≡ true
-  pub rated : allBelow n (λ c. isRate (rateOf (energyIn l) (distanceIn l) c)) ≡ true
+  pub most : n ≤ mostCycles
+  pub some : 1 ≤ E
+  pub small : E < 2 ^ 51
+  pub parts : g .first .energy + g .second .energy ≤ E
+  pub first : g .first .rate ≤ mostRate
+  pub second : g .second .rate ≤ mostRate
+  pub least : 1 ≤ weighedBy g n E
+  pub greatest : weighedBy g n E ≤ mostRate
 
--- 14, 12, or the recharge figure, of the range, the whole energy E, F and A
+-- 14, 12, or the recharge figure, of the range, E, F and A
 unfoldable pub rechargedBy : ℕ → ℤ → ℤ → ℕ → Said Measure
 rechargedBy range E F A =
     unless (refuses 14) (leZ (pos 1) (E +ℤ F))
     (unless (refuses 12) (leb (recharge (up E) (up (E +ℤ F)) A range) mostRate)
     (gives (is (recharge (up E) (up (E +ℤ F)) A range))))
+
+-- or "absent"
+abbrev pub chargedBy : ℕ → ℤ → ℤ → Charge → Said Measure
+chargedBy range E F charge.Absent = gives absent
+chargedBy range E F (charge.Wh A) = rechargedBy range E F A
+
+-- 13, or the figures
+unfoldable pub finishedBy : Gathered → ℕ → ℤ → ℤ → Charge → Said Figured
+finishedBy g n E F charge =
+    let W = weighedBy g n (up E) in
+    let R = range (up E) W in
+    unless (refuses 13) (leb 1 R) (gives (record { weighted = W; range = R; recharge = chargedBy R E F charge }))

@@ -14,6 +14,7 @@ use lib.ListN.{length}
 use lib.Signed.{leZ}
 use Rattle.numbers.proofs.Order.{side}
 use Rattle.numbers.proofs.Tests.{true-T, T-true}
+use Rattle.rules.specs.declared.Amounts.{Amounts}
 use Rattle.rules.specs.declared.Moment.{Moment}
 use Rattle.rules.specs.declared.Tolerances.{Tolerances}
 use Rattle.rules.specs.Bench.{mostCycles, mostPhases}
@@ -23,16 +24,20 @@ use Rattle.rules.specs.Parts.{Part, rowPart, phasePart, finished}
 use Rattle.rules.specs.Regular.{own, regularLayout, regular, Plan, plan, courseOf, momentIn}
 use Rattle.laws.proofs.Sound.{Sound, sound, rising, real}
 use Rattle.laws.specs.Claims.{Widened, PartKept}
+use Rattle.laws.proofs.Answers.{same-closing}
 use Rattle.laws.proofs.Gathered.{closed-most}
 use Rattle.laws.proofs.Longer.{more-samples, same-samples}
 use Rattle.state.specs.declared.Run.{Run}
 use Rattle.state.specs.Refusals.{closedBy}
 use Rattle.state.proofs.Checked.{start-passed}
 use Rattle.judge.proofs.Runs as runs
+use Rattle.closing.specs.Answers.{closingAnswer}
+use Rattle.closing.proofs.Joined as closing
 use Rattle.demands.specs.Demand3.{WiderRun, LongerRun, PhaseStays, CycleStays, WiderCalls, LongerCalls}
-use Rattle.demands.specs.Runs.{Driven}
+use Rattle.demands.specs.Runs.{Driven, closingAmounts}
 use Rattle.demands.proofs.Driven.{driven-reached}
 use Rattle.demands.proofs.LastJudged.{outsides-are}
+use Rattle.demands.proofs.LaterCalls.{closing-kept}
 use Rattle.demands.proofs.OfRun.{run-shows}
 use Rattle.demands.proofs.ShutOut.{stops-by-the-rules, stops-only-by-the-rules}
 use Rattle.demands.proofs.WiderRuns.{wider-run, longer-run}
@@ -138,7 +143,7 @@ module _ {b : List ℕ} {t : Tolerances} {l₀ k₀ : List ℤ} {m₀ n₀ : Lis
   as-defined : LongerRun b t (momentIn xs) (momentIn (xs ++ ys)) (length xs) (length (xs ++ ys))
   as-defined = longer-run b t (momentIn xs) (momentIn (xs ++ ys)) (length xs) (length (xs ++ ys)) (more-samples xs ys) (same-samples xs ys)
 
-  pub longer-calls : LongerCalls b r r′ l l′
+  pub longer-calls : LongerCalls b r r′ l l′ m m′
   longer-calls = record {
     longer-run-moves-no-stop = λ e.
         let (stopped-too, same) = as-defined .longer-moves-no-stop (true-T (stops-only-by-the-rules h e)) in
@@ -150,4 +155,9 @@ module _ {b : List ℕ} {t : Tolerances} {l₀ k₀ : List ℤ} {m₀ n₀ : Lis
           cycle-stays h h′ c f kept,
           outsides-are _ k₀ n₀ (driven-reached _ k₀ n₀ h′) c c<64 ∙ ap pos same ∙ sym (outsides-are _ l₀ m₀ (driven-reached _ l₀ m₀ h) c c<64),
         );
+    closing-stays = λ ended c c′ on on′ ok same.
+        same-closing _ _
+        (closing-kept c′ on′ ∙ ap (λ (a : Amounts). closingAnswer r′ a b l′ m′) same
+        ∙ closing.closing-stays _ l₀ k₀ m₀ n₀ xs ys (driven-reached _ l₀ m₀ h) (driven-reached _ k₀ n₀ h′) ended (closingAmounts c) ok
+        ∙ sym (closing-kept c on));
   }

@@ -19,7 +19,7 @@ use Rattle.demands.proofs.InTheList.{in-the-list}
 use Rattle.demands.proofs.Unchanged.{refused-changes-nothing, lines-stay}
 use Rattle.demands.proofs.BeyondDesk.{beyond-stays}
 use Rattle.demands.proofs.Driven.{driven-reached}
-use Rattle.demands.proofs.OfRun.{run-shows, run-answers, weighted-holds}
+use Rattle.demands.proofs.OfRun.{run-shows, run-answers, closed-holds}
 use Rattle.demands.proofs.NeverRefused.{never-refused}
 use Rattle.demands.proofs.Verdict.{verdict-is-the-judges}
 use Rattle.demands.proofs.ShutOut.{shuts-out, shuts-out-always}
@@ -39,7 +39,7 @@ run-holds : {p : Plan} {l₀ : List ℤ} {m₀ : List ℕ} {xs : List Moment} {r
 run-holds h = record {
   shows = run-shows h;
   answers = run-answers h;
-  weighted = weighted-holds h;
+  closed = closed-holds h;
   never-refused-1-or-2 = never-refused h;
   verdict-is-the-judges = verdict-is-the-judges h;
   shuts-out = shuts-out h;

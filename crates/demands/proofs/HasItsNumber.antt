@@ -1,39 +1,48 @@
 -- "Each refusal has a number": over the contracts, that of document 01's order for the call.
 -- Assumes nothing.
 use mathlib.Core.Path.{_≡_, refl, sym, ap, _∙_}
-use lib.Dec.{leb, eqb}
-use lib.IntN.{pos, _+ℤ_}
+use Prim.Native.Nat.{ℕ}
+use lib.Dec.{eqb}
+use lib.IntN.{ℤ}
 use lib.ListN.{drop}
-use lib.Signed.{leZ}
 use denote.Ref.{now}
-use Rattle.rules.specs.Words.{unless, up}
-use Rattle.rules.specs.Closing.{mostRate, recharge as rechargeBy}
-use Rattle.laws.specs.Answers.{Said, refuses, numberOf, figureSaid}
-use Rattle.laws.proofs.Answers.{number-said}
+use Rattle.rules.specs.Words.{unless}
+use Rattle.rules.specs.declared.Charge.{Charge}
+use Rattle.rules.specs.declared.Charge.the-variants.{Absent as absent, Wh as wh}
+use Rattle.rules.specs.declared.Closing.{Closing}
+use Rattle.rules.specs.declared.ClosingAnswer.the-variants.{Closed}
+use Rattle.rules.specs.declared.Figure.the-variants.{Is}
+use Rattle.rules.specs.Closing.{rechargeFigure, rechargeRefusal, rechargeBy}
+use Rattle.laws.specs.Answers.{Said, numberOf, figureSaid, figuredSaid, closingSaid}
+use Rattle.laws.proofs.Answers.{number-said, was-given, given-is, figure-or, same-figured}
+use Rattle.ledger.specs.Row.{energyIn, distanceIn}
 use Rattle.state.specs.declared.Run.{Run}
 use Rattle.state.specs.State.{Left}
-use Rattle.consumption.specs.Figures.{rechargedBy}
-use Rattle.closing.specs.Answers.{refusalOf}
+use Rattle.state.specs.Refusals.{cyclesBy}
+use Rattle.closing.specs.Answers.{whole, refusalOf, closedFigures}
 use Rattle.opening.specs.Answers.{OpenLeft}
 use Rattle.reading.specs.declared.Reading.{Reading}
 use Rattle.reading.specs.Answers.{ReadSaid, AllSaid, readGround}
 use Rattle.reader.specs.Answers.{endingSaid, endingOf}
 use Rattle.figures.specs.declared.Found.{Found}
-use Rattle.demands.specs.Calls.{RechargedCall, EndedCall}
-use Rattle.demands.specs.Cases.{wrongNumber, orElse, nextNumber}
+use Rattle.demands.specs.Calls.{ClosingCall, EndedCall}
+use Rattle.demands.specs.Cases.{wrongNumber, orElse, rechargeNumber, nextNumber}
 use Rattle.demands.specs.Demand1.{HasItsNumber}
-use Rattle.demands.proofs.Numbers.{unless-number, or-else-number}
+use Rattle.demands.proofs.Numbers.{unless-number}
 use Rattle.demands.proofs.ReaderNumbers.{open-of-number, read-of-number, read-all-of-number}
 
--- "14, 12"
-recharged : (c : RechargedCall) → (let (range, (E, (F, (A, _)))) = c .args in
-    numberOf (figureSaid (c .answer)) ≡ unless 14 (leZ (pos 1) (E +ℤ F)) (unless 12 (leb (rechargeBy (up E) (up (E +ℤ F)) A range) mostRate) 0))
-unfolding rechargedBy
-recharged c =
-    let (range, (E, (F, (A, _)))) = c .args in
-    ap numberOf (c .kept)
-    ∙ unless-number numberOf (refuses 14) (leZ (pos 1) (E +ℤ F)) _
-    ∙ ap (unless 14 (leZ (pos 1) (E +ℤ F))) (unless-number numberOf (refuses 12) (leb (rechargeBy (up E) (up (E +ℤ F)) A range) mostRate) _)
+-- "then absent, 14, 12"
+recharge-has : (E : ℤ) (n : ℕ) (e d : ℕ → ℤ) (F : ℤ) (charge : Charge) → numberOf (figureSaid (rechargeBy E n e d F charge)) ≡ rechargeNumber E n e d F charge
+recharge-has E n e d F absent = refl
+recharge-has E n e d F (wh A) =
+    ap numberOf (figure-or (rechargeRefusal E n e d F A) (Is (rechargeFigure E n e d F A))) ∙ number-said (rechargeRefusal E n e d F A) _ refl
+
+-- the figures that a call of `close` answers
+pub closed-by : (c : ClosingCall) (x : Closing) → c .answer ≡ Closed x → (let (r, (a, (b, (l, (m, _))))) = c .args in
+    closedFigures r a (now b) (now l) (now m) ≡ x)
+closed-by c x is =
+    let (r, (a, (b, (l, (m, _))))) = c .args in
+    same-figured _ x (given-is (was-given (refusalOf r a (now b) (now l) (now m)) _ (figuredSaid x) (sym (c .kept) ∙ ap closingSaid is) .1))
 
 -- 15
 ends : (c : EndedCall) → (let (started, (left, _)) = c .args in
@@ -48,12 +57,11 @@ has-its-number = record {
   block-number = λ c. ap (λ (y : Left (Said Run)). numberOf (y .answer)) (c .kept) ∙ number-said _ _ refl;
   shown-number = λ c. ap numberOf (c .kept) ∙ number-said _ _ refl;
   totals-number = λ c. ap numberOf (c .kept) ∙ number-said _ _ refl;
-  weighted-number = λ c. ap numberOf (c .kept) ∙ number-said _ _ refl;
-  range-number = λ c. ap numberOf (c .kept) ∙ number-said _ _ refl;
-  recharge-number = λ c.
+  closing-number = λ c. ap numberOf (c .kept) ∙ number-said _ _ refl;
+  recharge-number = λ c x is.
       let (r, (a, (b, (l, (m, _))))) = c .args in
-      ap numberOf (c .kept) ∙ or-else-number (refusalOf r a (now b) (now l) (now m)) _;
-  recharged-number = recharged;
+      ap (λ (y : Closing). numberOf (figureSaid (y .recharge))) (sym (closed-by c x is))
+      ∙ recharge-has (whole r a (now b) (now l) (now m)) (cyclesBy r) (energyIn (now l)) (distanceIn (now l)) (a .after) (a .charge);
   figures-of-number = λ c. ap (λ (x : Found). x .refusal) (c .kept);
   front-of-number = λ c. ap numberOf (c .kept);
   content-of-number = λ c. ap wrongNumber (c .kept);

@@ -7,28 +7,28 @@ use Prim.Native.Nat.{ℕ, suc, _+_, _-_, zero-le}
 use native.Mathlib.Omega.{arith}
 use borrow.Author.Tests.{eqb-false}
 use lib.Dec.{leb, eqb}
-use lib.IntN.{ℤ, _+ℤ_}
+use lib.IntN.{ℤ}
 use lib.ListN.{length}
 use denote.Ref.{now}
 use Rattle.rules.specs.Words.{unless}
 use Rattle.rules.specs.declared.Amounts.{Amounts}
 use Rattle.rules.specs.declared.Charge.{Charge}
 use Rattle.rules.specs.declared.Charge.the-variants.{Absent as absent, Wh as wh}
+use Rattle.rules.specs.declared.Closing.{Closing}
 use Rattle.rules.specs.declared.Figure.the-variants.{Is}
-use Rattle.rules.specs.Closing.{rechargeFigure, rechargeRefusal, chargedBy}
+use Rattle.rules.specs.Closing.{rechargeFigure, rechargeRefusal, rechargeBy}
 use Rattle.rules.specs.Table.{Matter, cycle, behindTolerances, tags}
 use Rattle.rules.specs.Machine.{Reply, toField, notYet, noField, taken, passed, refused, End, waiting, broken, stopped, Ran, run}
 use Rattle.rules.specs.Record.{Told, contentAt, bringAt, morePassed, takeField, untold, told, refusedAt, sheetBy, sheetOf}
-use Rattle.laws.specs.Answers.{Said, gives, refuses, is, figureSaid, endSaid}
+use Rattle.laws.specs.Answers.{Said, gives, refuses, is, figureSaid, closingSaid, endSaid}
 use Rattle.laws.proofs.Answers.{given-refused, figure-or}
 use Rattle.state.specs.State.{Left, left}
-use Rattle.ledger.specs.Row.{energyIn, distanceIn, energyAll}
+use Rattle.ledger.specs.Row.{energyIn, distanceIn}
 use Rattle.state.specs.declared.Run.{Run}
 use Rattle.state.specs.Refusals.{startRefusal, sampleRefusal, cyclesBy}
 use Rattle.blocks.specs.Blocks.{blockRefusal}
 use Rattle.judge.specs.Answers.{answerSaid, shownSaid, totalsSaid}
-use Rattle.consumption.specs.Figures.{closingIn}
-use Rattle.closing.specs.Answers.{refusalOf}
+use Rattle.closing.specs.Answers.{whole, refusalOf}
 use Rattle.records.specs.Stage.{Stage, replyOn, runOn}
 use Rattle.opening.specs.declared.Opening.{Opening}
 use Rattle.opening.specs.Answers.{opens, starts, openStepSaid, OpenLeft, stageOf, runOf, openGround, notOpened, openedBy, frontOpened}
@@ -39,7 +39,8 @@ use Rattle.desk.specs.Feeding.{outcomeSaid, Laid, Consumed, laidOf, stageOn, de
 use Rattle.desk.proofs.LeftOver.{by-feed}
 use Rattle.demands.specs.Cases.{Listed}
 use Rattle.demands.specs.Demand1.{InTheList}
-use Rattle.demands.proofs.Proper.{Few, few-unless, few-ground, few-closing, few-reading, few-opening, few-desk, listed, said-listed, given-listed, Proper, at, content-proper, end-proper, reply-listed, run-listed}
+use Rattle.demands.proofs.HasItsNumber.{closed-by}
+use Rattle.demands.proofs.Proper.{Few, few-unless, few-ground, few-closing, few-reading, few-opening, few-desk, listed, given-listed, Proper, at, content-proper, end-proper, reply-listed, run-listed}
 
 -- ---- the answers
 
@@ -146,17 +147,18 @@ sheet-listed i n k = by (run tags takeField untold i .end) refl
         let d : j ≡ n = cc e in
         subst Listed d (end-proper (λ s. s .place) contentAt bringAt morePassed at-proper untold i j q)
 
--- a figure
-charge-listed : (E : ℤ) (N : ℕ) (e d : ℕ → ℤ) (F : ℤ) (y : Charge) (n : ℕ) → figureSaid (chargedBy E N e d F y) ≡ refuses n → Listed n
+-- the recharge figure beside a closing
+recharge-listed : (E : ℤ) (N : ℕ) (e d : ℕ → ℤ) (F : ℤ) (y : Charge) (n : ℕ) → figureSaid (rechargeBy E N e d F y) ≡ refuses n → Listed n
 unfolding rechargeRefusal
-charge-listed E N e d F absent n q = absurd (given-refused q)
-charge-listed E N e d F (wh A) n q =
+recharge-listed E N e d F absent n q = absurd (given-refused q)
+recharge-listed E N e d F (wh A) n q =
     given-listed (rechargeRefusal E N e d F A) (is (rechargeFigure E N e d F A)) n (few-unless _ (omega arith) (few-unless _ (omega arith) zero-le))
     (sym (figure-or (rechargeRefusal E N e d F A) (Is (rechargeFigure E N e d F A))) ∙ q)
 
-few-figure : (r : Run) (a : Amounts) (b : List ℕ) (l : List ℤ) (m : List ℕ) → Few (refusalOf r a b l m)
-unfolding refusalOf closingIn
-few-figure r a b l m = few-unless _ (omega arith) (few-ground r b l m _ (few-closing (a .before +ℤ energyAll l) (cyclesBy r) (energyIn l) (distanceIn l)))
+-- the closing
+few-closed : (r : Run) (a : Amounts) (b : List ℕ) (l : List ℤ) (m : List ℕ) → Few (refusalOf r a b l m)
+unfolding refusalOf
+few-closed r a b l m = few-unless _ (omega arith) (few-ground r b l m _ (few-closing (whole r a b l m) (cyclesBy r) (energyIn l) (distanceIn l)))
 
 pub in-the-list : InTheList
 unfolding startRefusal sampleRefusal blockRefusal
@@ -179,12 +181,11 @@ in-the-list = record {
   totals-listed = λ c n e.
       let (r, (b, (l, (m, _)))) = c .args in
       given-listed _ _ n (few-ground r (now b) (now l) (now m) 0 zero-le) (sym (c .kept) ∙ ap totalsSaid e);
-  weighted-listed = λ c n e. given-listed _ _ n (few-figure _ _ _ _ _) (sym (c .kept) ∙ ap figureSaid e);
-  range-listed = λ c n e. given-listed _ _ n (few-figure _ _ _ _ _) (sym (c .kept) ∙ ap figureSaid e);
-  recharge-listed = λ c n e.
+  closing-listed = λ c n e. given-listed _ _ n (few-closed _ _ _ _ _) (sym (c .kept) ∙ ap closingSaid e);
+  recharge-listed = λ c x is n e.
       let (r, (a, (b, (l, (m, _))))) = c .args in
-      said-listed _ _ n (few-figure _ _ _ _ _)
-      (charge-listed (a .before +ℤ energyAll (now l)) (cyclesBy r) (energyIn (now l)) (distanceIn (now l)) (a .after) (a .charge) n) (sym (c .kept) ∙ ap figureSaid e);
+      recharge-listed (whole r a (now b) (now l) (now m)) (cyclesBy r) (energyIn (now l)) (distanceIn (now l)) (a .after) (a .charge) n
+      (ap (λ (y : Closing). figureSaid (y .recharge)) (closed-by c x is) ∙ ap figureSaid e);
   open-listed = λ c n e.
       let (o, (i, (room, (l, (m, _))))) = c .args in
       open-listed o (now room) (now l) (now m) (now i) n (sym (ap (λ (y : OpenLeft). y .answer .says) (c .kept)) ∙ ap openStepSaid e);

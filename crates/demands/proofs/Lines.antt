@@ -17,14 +17,14 @@ signedLine word z = line word (signed z)
 
 -- `passed`, `drawn`, and the closing figures
 abbrev pub belowOutside : Figures → List ℕ
-belowOutside f = passedLine (f .passed) ++ signedLine drawnWord (f .drawn) ++ closingLines f
+belowOutside f = passedLine (f .passed) ++ signedLine drawnWord (f .drawn) ++ closingLines (f .closing)
 
 regroup : (a b c d e : List ℕ) → a ++ (b ++ c ++ d) ++ e ≡ a ++ (b ++ (c ++ d ++ e))
 regroup a b c d e = simp append-assoc
 
 pub sheet-lines : (f : Figures) (n : ℕ) → sheetText (withOutside f (pos n)) ≡ headLines f ++ (outsideLine n ++ belowOutside f)
-unfolding headLines countLines closingLines signed
-sheet-lines f n = regroup (headLines f) (outsideLine n) _ _ (closingLines f)
+unfolding headLines countLines signed
+sheet-lines f n = regroup (headLines f) (outsideLine n) _ _ (closingLines (f .closing))
 
 -- ---- `passed`
 
@@ -33,11 +33,11 @@ abbrev pub abovePassed : Figures → List ℕ
 abovePassed f = headLines f ++ signedLine outsideWord (f .outside)
 
 abbrev pub belowPassed : Figures → List ℕ
-belowPassed f = signedLine drawnWord (f .drawn) ++ closingLines f
+belowPassed f = signedLine drawnWord (f .drawn) ++ closingLines (f .closing)
 
 regroup-third : (a b c d e : List ℕ) → a ++ (b ++ c ++ d) ++ e ≡ (a ++ b) ++ (c ++ (d ++ e))
 regroup-third a b c d e = simp append-assoc
 
 pub passed-lines : (f : Figures) (n : ℕ) → sheetText (withPassed f n) ≡ abovePassed f ++ (passedLine n ++ belowPassed f)
-unfolding headLines countLines closingLines
-passed-lines f n = regroup-third (headLines f) (signedLine outsideWord (f .outside)) (passedLine n) (signedLine drawnWord (f .drawn)) (closingLines f)
+unfolding headLines countLines
+passed-lines f n = regroup-third (headLines f) (signedLine outsideWord (f .outside)) (passedLine n) (signedLine drawnWord (f .drawn)) (closingLines (f .closing))

@@ -11,21 +11,18 @@ use Rattle.rules.specs.Words.{unless}
 use Rattle.rules.specs.declared.Charge.{Charge}
 use Rattle.rules.specs.declared.Charge.the-variants.{Absent as absent, Wh as wh}
 use Rattle.rules.specs.Bench.{mostPassed}
-use Rattle.rules.specs.declared.Figure.the-variants.{Is}
-use Rattle.rules.specs.Closing.{closingRefusal, rechargeFigure, rechargeRefusal, chargedBy}
+use Rattle.rules.specs.Closing.{closingRefusal, rechargeRefusal}
 use Rattle.rules.specs.Table.{Row, Matter, among, placeAfter, behindTolerances, tags}
 use Rattle.rules.specs.Front.{Field, Front, incomplete, impossible, field, bytesOf, frontOf}
 use Rattle.rules.specs.Machine.{toField, replyAs, replyAt}
 use Rattle.rules.specs.Values.{sameNumber, firstIn, samplesOf, momentsIn, blockOr}
 use Rattle.rules.specs.Record.{ownSamples, Content, brought, foreign, wrong, blockContent, fieldContent, answerBy}
-use Rattle.laws.specs.Answers.{gives, numberOf, is, figureSaid}
-use Rattle.laws.proofs.Answers.{number-said, figure-or}
 use Rattle.laws.proofs.Carried.{In, here, there, by-field}
 use Rattle.laws.proofs.Places.{place-is}
 use Rattle.records.specs.Stage.{Stage, contentOn, bringOn, passOn, takeOn, replyOn}
 use Rattle.reading.specs.Answers.{stageAt}
 use Rattle.reading.specs.declared.Reading.{Reading}
-use Rattle.demands.specs.Cases.{Neither1Nor2, wrongNumber, replyNumber, nextNumber}
+use Rattle.demands.specs.Cases.{Neither1Nor2, rechargeNumber, wrongNumber, replyNumber, nextNumber}
 use Rattle.demands.proofs.Numbers.{along, either}
 
 abbrev pub Neither : ℕ → Type 0
@@ -55,11 +52,10 @@ closing-neither E n e d =
     (unless-neither _ (omega arith) (unless-neither _ (omega arith) zero-neither)))))
 
 -- "then absent, 14, 12"
-pub charge-neither : (E : ℤ) (n : ℕ) (e d : ℕ → ℤ) (F : ℤ) (y : Charge) → Neither (numberOf (figureSaid (chargedBy E n e d F y)))
+pub recharge-neither : (E : ℤ) (n : ℕ) (e d : ℕ → ℤ) (F : ℤ) (y : Charge) → Neither (rechargeNumber E n e d F y)
 unfolding rechargeRefusal
-charge-neither E n e d F absent = zero-neither
-charge-neither E n e d F (wh A) =
-    rw (figure-or (rechargeRefusal E n e d F A) (Is (rechargeFigure E n e d F A)), number-said (rechargeRefusal E n e d F A) (gives (is (rechargeFigure E n e d F A))) refl) (unless-neither _ (omega arith) (unless-neither _ (omega arith) zero-neither))
+recharge-neither E n e d F absent = zero-neither
+recharge-neither E n e d F (wh A) = unless-neither _ (omega arith) (unless-neither _ (omega arith) zero-neither)
 
 -- ---- of what a field after the start brings
 

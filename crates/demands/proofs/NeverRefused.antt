@@ -9,17 +9,15 @@ use lib.Dec.{eqb}
 use lib.IntN.{ℤ}
 use lib.ListN.{drop}
 use denote.Ref.{RefT, now}
-use Rattle.rules.specs.Words.{settled}
 use Rattle.numbers.proofs.Tests.{pass}
-use Rattle.rules.specs.declared.Charge.{Charge}
 use Rattle.rules.specs.declared.Moment.{Moment}
 use Rattle.rules.specs.Regular.{Plan}
-use Rattle.rules.specs.Closing.{closingRefusal, chargedBy, rechargeBy}
-use Rattle.laws.specs.Answers.{gives, numberOf, is, figureSaid}
-use Rattle.laws.proofs.Answers.{number-said, figure-or}
+use Rattle.laws.specs.Answers.{numberOf, figureSaid, closingSaid}
+use Rattle.values.specs.Limits.{areAmounts}
 use Rattle.state.specs.declared.Run.{Run}
 use Rattle.state.specs.State.{ground}
-use Rattle.state.specs.Refusals.{sampleRefusal}
+use Rattle.ledger.specs.Row.{energyIn, distanceIn}
+use Rattle.state.specs.Refusals.{sampleRefusal, cyclesBy}
 use Rattle.blocks.specs.Blocks.{blockRefusal}
 use Rattle.judge.specs.declared.Answer.{Answer}
 use Rattle.judge.specs.declared.Answer.the-variants as answer
@@ -29,37 +27,24 @@ use Rattle.judge.specs.declared.TotalsAnswer.{TotalsAnswer}
 use Rattle.judge.specs.declared.TotalsAnswer.the-variants as sums
 use Rattle.judge.specs.Answers.{answerSaid, shownSaid, totalsSaid}
 use Rattle.judge.proofs.Runs as runs
+use Rattle.rules.specs.declared.ClosingAnswer.{ClosingAnswer}
+use Rattle.rules.specs.declared.ClosingAnswer.the-variants as closings
 use Rattle.rules.specs.declared.Figure.{Figure}
 use Rattle.rules.specs.declared.Figure.the-variants as fig
+use Rattle.closing.specs.Answers.{whole, refusalOf}
 use Rattle.reading.specs.declared.Reading.{Reading}
 use Rattle.reading.specs.declared.Step.{Step}
 use Rattle.reading.specs.declared.Step.the-variants as step
 use Rattle.reading.specs.Answers.{stepSaid, isReading, readGround}
 use Rattle.figures.specs.declared.Found.{Found}
-use Rattle.demands.specs.Calls.{SampleCall, BlockCall}
+use Rattle.demands.specs.Calls.{SampleCall, BlockCall, ClosingCall}
 use Rattle.demands.specs.Demand2.{NeverRefused}
-use Rattle.demands.specs.Runs.{On, SampleOn, BlockOn, Driven, rechargeAmounts}
+use Rattle.demands.specs.Runs.{On, SampleOn, BlockOn, ClosingOn, Driven, closingAmounts}
 use Rattle.demands.specs.Cases.{Neither1Nor2, orElse}
-use Rattle.demands.proofs.Numbers.{or-else-number}
 use Rattle.demands.proofs.HasItsNumber.{has-its-number}
 use Rattle.demands.proofs.Driven.{driven-reached}
-use Rattle.demands.proofs.Neither.{Neither, unless-neither, cond-neither, zero-neither, by-number, closing-neither, charge-neither, next-neither}
+use Rattle.demands.proofs.Neither.{Neither, unless-neither, cond-neither, zero-neither, by-number, closing-neither, recharge-neither, next-neither}
 use Rattle.demands.proofs.OfRun.{run-answers}
-
--- ---- figures by the rules
-
-module _ (E : ℤ) (n : ℕ) (e d : ℕ → ℤ) where
-  figure-neither : {x : Figure} (y : ℕ) → x ≡ settled (closingRefusal E n e d) (fig.Is y) (fig.Refused (closingRefusal E n e d)) → Neither1Nor2 fig.Refused x
-  figure-neither y f =
-      by-number (λ (z : Figure). numberOf (figureSaid z)) fig.Refused (λ k. refl)
-      (ap (λ (z : Figure). numberOf (figureSaid z)) f ∙ ap numberOf (figure-or (closingRefusal E n e d) (fig.Is y)) ∙ number-said (closingRefusal E n e d) (gives (is y)) refl)
-      (closing-neither E n e d)
-
-  recharge-neither : {x : Figure} (F : ℤ) (y : Charge) → x ≡ rechargeBy E n e d F y → Neither1Nor2 fig.Refused x
-  recharge-neither F y f =
-      by-number (λ (z : Figure). numberOf (figureSaid z)) fig.Refused (λ k. refl)
-      (ap (λ (z : Figure). numberOf (figureSaid z)) f ∙ ap numberOf (figure-or (closingRefusal E n e d) (chargedBy E n e d F y)) ∙ or-else-number (closingRefusal E n e d) (figureSaid (chargedBy E n e d F y)))
-      (cond-neither (eqb (closingRefusal E n e d) 0) _ _ (charge-neither E n e d F y) (closing-neither E n e d))
 
 -- ---- the calls
 
@@ -82,6 +67,12 @@ module _ {p : Plan} {l₀ : List ℤ} {m₀ : List ℕ} {xs : List Moment} {r : 
       by-number (λ (z : Answer). numberOf (answerSaid z)) answer.Refused (λ k. refl) (has-its-number .block-number c ∙ grounded on _)
       (unless-neither _ (omega arith) (unless-neither _ (omega arith) (unless-neither _ (omega arith) (unless-neither _ (omega arith) zero-neither))))
 
+  closing-call-neither : (c : ClosingCall) → ClosingOn r (p .cycle) l m c → areAmounts (closingAmounts c) ≡ true → Neither1Nor2 closings.Refused (c .answer)
+  unfolding refusalOf
+  closing-call-neither c on ok =
+      by-number (λ (z : ClosingAnswer). numberOf (closingSaid z)) closings.Refused (λ k. refl)
+      (has-its-number .closing-number c ∙ sym (pass 1 ok (sym (grounded on _)))) (closing-neither _ _ _ _)
+
   reading-neither : (reading : Reading) (cycle : RefT (List ℕ)) (ledger : RefT (List ℤ)) (map : RefT (List ℕ)) → On r (p .cycle) l m (reading .run) cycle ledger map
       → isReading reading ≡ true → (next : ℕ) → Neither next → Neither (orElse (readGround reading (now cycle) (now ledger) (now map)) next)
   unfolding readGround
@@ -95,9 +86,11 @@ module _ {p : Plan} {l₀ : List ℤ} {m₀ : List ℕ} {xs : List Moment} {r : 
     block = block-neither;
     shown = λ c on. by-number (λ (z : ShownAnswer). numberOf (shownSaid z)) counts.Refused (λ k. refl) (has-its-number .shown-number c ∙ grounded on 0) zero-neither;
     totals = λ c on. by-number (λ (z : TotalsAnswer). numberOf (totalsSaid z)) sums.Refused (λ k. refl) (has-its-number .totals-number c ∙ grounded on 0) zero-neither;
-    weighted = λ c on ok. figure-neither _ _ _ _ _ (run-answers h .weighted-of-run c on ok);
-    range = λ c on ok. figure-neither _ _ _ _ _ (run-answers h .range-of-run c on ok);
-    recharge = λ c on ok. recharge-neither _ _ _ _ (rechargeAmounts c .after) (rechargeAmounts c .charge) (run-answers h .recharge-of-run c on ok);
+    closing = closing-call-neither;
+    recharge = λ c x is.
+        let (r, (a, (b, (l, (m, _))))) = c .args in
+        by-number (λ (z : Figure). numberOf (figureSaid z)) fig.Refused (λ k. refl) (has-its-number .recharge-number c x is)
+        (recharge-neither (whole r a (now b) (now l) (now m)) (cyclesBy r) (energyIn (now l)) (distanceIn (now l)) (a .after) (a .charge));
     figures = λ c on ok. ap (λ (x : Found). x .refusal) (run-answers h .figures-of-run c on ok);
     read = λ c on ok.
         let (reading, (i, (cycle, (ledger, (map, _))))) = c .args in

@@ -3,24 +3,13 @@
 use mathlib.Core.Bool.{Bool, true, false, cond}
 use mathlib.Core.Path.{_≡_, refl}
 use Prim.Native.Nat.{ℕ}
-use lib.Dec.{eqb}
 use Rattle.rules.specs.Words.{unless}
-use Rattle.laws.specs.Answers.{Said, refuses, numberOf, orRefused}
-use Rattle.demands.specs.Cases.{orElse}
 
 -- along a chain of refusals
 pub unless-number : {A : Type 0} (number : A → ℕ) (refusal : A) (t : Bool) (rest : A) → number (unless refusal t rest) ≡ unless (number refusal) t (number rest)
 unfolding unless
 unless-number number refusal true rest = refl
 unless-number number refusal false rest = refl
-
--- of what is said by the number of a refusal
-pub or-else-number : {A : Type 0} (n : ℕ) (x : Said A) → numberOf (orRefused n x) ≡ orElse n (numberOf x)
-or-else-number n x = go (eqb n 0)
-  where
-    go : (t : Bool) → numberOf (cond t x (refuses n)) ≡ cond t (numberOf x) n
-    go true = refl
-    go false = refl
 
 -- what holds of the number of each answer in a chain of refusals holds of the number of the chain
 module _ (P : ℕ → Type 0) {A : Type 0} (number : A → ℕ) where

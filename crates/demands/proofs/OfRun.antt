@@ -1,18 +1,19 @@
 -- Demand 2 of a whole run: what its state, its ledger and its map show, and what its later calls answer.
 -- Assumes nothing.
-use mathlib.Core.Bool.{Bool, true, false, cond, false≢true}
+use mathlib.Core.Bool.{Bool, true}
 use mathlib.Core.List.{List}
 use mathlib.Core.Path.{_≡_, refl, sym, ap, subst, _∙_}
 use Prim.Native.Nat.{ℕ, _*_, _+_, _≤_, _<_}
 use native.Mathlib.Omega.{arith}
-use borrow.Author.Tests.{eqb-true, eq-eqb}
-use lib.Dec.{eqb}
+use borrow.Author.Tests.{eq-eqb}
 use lib.IntN.{ℤ, pos}
 use lib.ListN.{length}
-use Rattle.rules.specs.Words.{settled, up, eqZ}
-use Rattle.numbers.proofs.Tests.{settled-taken}
+use Rattle.rules.specs.Words.{up, eqZ}
+use Rattle.numbers.proofs.Tests.{pass, settled-taken}
+use Rattle.rules.specs.declared.Closing.{Closing}
+use Rattle.rules.specs.declared.ClosingAnswer.the-variants.{Closed}
 use Rattle.rules.specs.declared.Moment.{Moment}
-use Rattle.rules.specs.Closing.{weight, weighing, wholeEnergy, weightedFigure, closingRefusal}
+use Rattle.rules.specs.Closing.{weight, weighing, wholeEnergy, weightedFigure, closingRefusal, closingFigures}
 use Rattle.values.specs.Limits.{areAmounts}
 use Rattle.rules.specs.Course.{Course, outside, counted, judged, closed}
 use Rattle.rules.specs.Parts.{phasePart, partEnergy, partDistance}
@@ -23,35 +24,28 @@ use Rattle.laws.proofs.Total.{energy-none, distance-none}
 use Rattle.laws.proofs.Closes.{closes}
 use Rattle.laws.proofs.Closes as rule
 use Rattle.ledger.specs.Row.{at, outsideIn}
-use Rattle.laws.specs.Answers.{gives}
-use Rattle.laws.proofs.Answers.{same-figure}
+use Rattle.laws.specs.Answers.{gives, Figured, figuredSaid, closingSaid}
+use Rattle.laws.proofs.Answers.{was-given, given-is, closing-or, same-closing}
 use Rattle.state.specs.declared.Run.{Run}
+use Rattle.state.specs.State.{ground}
 use Rattle.state.specs.Refusals.{lastCycle}
 use Rattle.judge.specs.declared.ShownAnswer.the-variants as counts
 use Rattle.judge.proofs.Promises.{same-shown, same-totals}
 use Rattle.judge.proofs.Runs as runs
 use Rattle.judge.proofs.Runs.{Reached, Shown}
-use Rattle.rules.specs.declared.Figure.the-variants as fig
 use Rattle.closing.proofs.Joined as closing
-use Rattle.reading.specs.Answers.{isReading}
+use Rattle.reading.specs.declared.Reading.{Reading}
+use Rattle.reading.specs.Answers.{isReading, readGround}
 use Rattle.rules.specs.Figures.{energies, distances, cyclesIn}
 use Rattle.figures.proofs.OfRun as figures
-use Rattle.demands.specs.Calls.{ShownCall, WeightedCall}
-use Rattle.demands.specs.Demand2.{RunShows, RunAnswers, WeightedHolds}
-use Rattle.demands.specs.Runs.{Driven, ShownOn, WeightedOn, weightedAmounts, rangeAmounts, rechargeAmounts, figuresReading}
+use Rattle.demands.specs.Calls.{ShownCall, ClosingCall}
+use Rattle.demands.specs.Demand2.{RunShows, RunAnswers, ClosedHolds}
+use Rattle.demands.specs.Runs.{Driven, ShownOn, ClosingOn, closingAmounts, figuresReading}
 use Rattle.demands.proofs.Driven.{driven-reached}
-use Rattle.demands.proofs.LaterCalls.{shown-kept, totals-kept, weighted-kept, range-kept, recharge-kept, figures-kept}
+use Rattle.demands.proofs.LaterCalls.{shown-kept, totals-kept, closing-kept, figures-kept}
 use Rattle.laws.proofs.NineNumbers.{energy-figure, distance-figure}
 use Rattle.rules.specs.Bench.{mostCycles, mostPhases}
 use Rattle.demands.proofs.LastJudged.{last-cycle-is, last-cycle-most, outsides-are}
-
--- a figure is given where nothing is refused
-figure-is : (n x W : ℕ) → settled n (fig.Is x) (fig.Refused n) ≡ fig.Is W → (n ≡ 0) × (x ≡ W)
-figure-is n x W = go (eqb n 0) refl
-  where
-    go : (y : Bool) → eqb n 0 ≡ y → cond y (fig.Is x) (fig.Refused n) ≡ fig.Is W → (n ≡ 0) × (x ≡ W)
-    go true z e = (eqb-true n 0 z, cc)
-    go false z e = absurd (false≢true cc)
 
 module _ {p : Plan} {l₀ : List ℤ} {m₀ : List ℕ} {xs : List Moment} {r : Run} {l : List ℤ} {m : List ℕ} (h : Driven p l₀ m₀ xs r l m) where
   abbrev s : ℕ → Moment
@@ -108,6 +102,11 @@ module _ {p : Plan} {l₀ : List ℤ} {m₀ : List ℕ} {xs : List Moment} {r : 
       ∙ (λ i. gives (record { ones = shows .ones-are-outside i; outside = in-ledger i; agree = eqZ (pos (shows .ones-are-outside i)) (in-ledger i) }))
       ∙ ap (λ (y : Bool). gives (record { ones = o; outside = pos o; agree = y })) (eq-eqb o o refl))
 
+  -- no number of the reading is beyond its limits, and none of such a run
+  reading-not-refused : (x : Reading) → isReading x ≡ true → x .run ≡ r → readGround x (p .cycle) l m ≡ 0
+  unfolding readGround
+  reading-not-refused x ok is = sym (pass 1 ok (sym (ap (λ (y : Run). ground y (p .cycle) l m 0) is ∙ runs.never-refused p l₀ m₀ reached 0)))
+
   pub run-answers : RunAnswers p l₀ m₀ xs r l m
   unfolding isReading
   run-answers = record {
@@ -122,13 +121,14 @@ module _ {p : Plan} {l₀ : List ℤ} {m₀ : List ℕ} {xs : List Moment} {r : 
           outside = figures.outsides-add-up p l₀ m₀ reached i;
           drawn = shows .energies-add-up i;
         })));
-    weighted-of-run = λ c on ok. same-figure _ _ (weighted-kept c on ∙ closing.weighted-of-run p l₀ m₀ reached (weightedAmounts c) ok);
-    range-of-run = λ c on ok. same-figure _ _ (range-kept c on ∙ closing.range-of-run p l₀ m₀ reached (rangeAmounts c) ok);
-    recharge-of-run = λ c on ok. same-figure _ _ (recharge-kept c on ∙ closing.recharge-of-run p l₀ m₀ reached (rechargeAmounts c) ok);
-    figures-of-run = λ c on ok. figures-kept c on ∙ figures.figures-of-run p l₀ m₀ (figuresReading c r) reached ok;
+    closing-of-run = λ c on ok. same-closing _ _ (closing-kept c on ∙ closing.closing-of-run p l₀ m₀ reached (closingAmounts c) ok);
+    figures-of-run = λ c on ok.
+        let none = reading-not-refused (figuresReading c r) ok refl in
+        let found = settled-taken _ none ∙ figures.figures-of-run p l₀ m₀ (figuresReading c r) reached in
+        figures-kept c on ∙ (λ i. record { refusal = none i; figures = found i });
   }
 
-  -- ---- a call of `weighted` that answers W
+  -- ---- a call of `close` that answers the figures
 
   abbrev e : ℕ → ℤ
   e = energies p xs
@@ -136,22 +136,28 @@ module _ {p : Plan} {l₀ : List ℤ} {m₀ : List ℕ} {xs : List Moment} {r : 
   abbrev d : ℕ → ℤ
   d = distances p xs
 
-  abbrev whole : WeightedCall → ℤ
-  whole c = wholeEnergy (weightedAmounts c .before) y s n
+  abbrev whole : ClosingCall → ℤ
+  whole c = wholeEnergy (closingAmounts c .before) y s n
 
-  answered : (c : WeightedCall) → WeightedOn r (p .cycle) l m c → areAmounts (weightedAmounts c) ≡ true → (W : ℕ) → c .answer ≡ fig.Is W
-      → (closingRefusal (whole c) (cyclesIn p xs) e d ≡ 0) × (weightedFigure (whole c) (cyclesIn p xs) e d ≡ W)
-  answered c on ok W is = figure-is (closingRefusal (whole c) (cyclesIn p xs) e d) _ W (sym (run-answers .weighted-of-run c on ok) ∙ is)
+  answered : (c : ClosingCall) → ClosingOn r (p .cycle) l m c → areAmounts (closingAmounts c) ≡ true → (x : Closing) → c .answer ≡ Closed x
+      → (closingRefusal (whole c) (cyclesIn p xs) e d ≡ 0) × (weightedFigure (whole c) (cyclesIn p xs) e d ≡ x .weighted)
+  answered c on ok x is =
+      let a = closingAmounts c in
+      let refusal = closingRefusal (whole c) (cyclesIn p xs) e d in
+      let said = closing-or refusal (closingFigures (whole c) (cyclesIn p xs) e d (a .after) (a .charge)) in
+      let (none, same) = was-given refusal _ (figuredSaid x) (sym said ∙ ap closingSaid (sym (run-answers .closing-of-run c on ok) ∙ is)) in
+      (none, ap (λ (f : Figured). f .weighted) (given-is same))
 
-  pub weighted-holds : WeightedHolds p l₀ m₀ xs r l m
-  weighted-holds = record {
-    weighted-between = λ c on ok W is a z g.
-        let (none, same) = answered c on ok W is in
+  pub closed-holds : ClosedHolds p l₀ m₀ xs r l m
+  closed-holds = record {
+    recharge-aside = λ c on ok none. run-answers .closing-of-run c on ok ∙ settled-taken _ none;
+    weighted-between = λ c on ok x is a z g.
+        let (none, same) = answered c on ok x is in
         subst (λ (w : ℕ). (a ≤ w) × (w ≤ z)) same (rule.weighted-between (whole c) (cyclesIn p xs) e d (closes (whole c) (cyclesIn p xs) e d none) a z g);
-    weighted-close = λ c on ok W is k u some x.
-        let (none, same) = answered c on ok W is in
+    weighted-close = λ c on ok x is k u some g.
+        let (none, same) = answered c on ok x is in
         let E = up (whole c) in
         subst (λ (w : ℕ). (w * (k * weight E (cyclesIn p xs)) ≤ weighing E (cyclesIn p xs) (λ j. up (e j)) u)
         × (weighing E (cyclesIn p xs) (λ j. up (e j)) u < (w + 2) * (k * weight E (cyclesIn p xs))))
-        same (rule.weighted-close (whole c) (cyclesIn p xs) e d (closes (whole c) (cyclesIn p xs) e d none) k u some x);
+        same (rule.weighted-close (whole c) (cyclesIn p xs) e d (closes (whole c) (cyclesIn p xs) e d none) k u some g);
   }

@@ -3,7 +3,7 @@
 use mathlib.Core.Bool.{Bool, true, false, cond, false≢true}
 use mathlib.Core.List.{List}
 use mathlib.Core.Path.{_≡_, refl, ap, subst, _∙_}
-use Prim.Native.Nat.{ℕ, _+_, _-_, _≤_, zero-le}
+use Prim.Native.Nat.{ℕ, _+_, _≤_, zero-le}
 use native.Mathlib.Omega.{arith}
 use borrow.Author.Tests.{eqb-false}
 use lib.Dec.{leb, eqb}
@@ -75,7 +75,7 @@ listed k h some = record { from-1 = go k some; to-15 = h }
     go k n = omega arith
 
 -- what is said by the number of a refusal
-pub said-listed : {A : Type 0} (k : ℕ) (x : Said A) (n : ℕ) → Few k → (x ≡ refuses n → Listed n) → orRefused k x ≡ refuses n → Listed n
+said-listed : {A : Type 0} (k : ℕ) (x : Said A) (n : ℕ) → Few k → (x ≡ refuses n → Listed n) → orRefused k x ≡ refuses n → Listed n
 said-listed k x n few ok = go (eqb k 0) refl
   where
     go : (t : Bool) → eqb k 0 ≡ t → cond t x (refuses k) ≡ refuses n → Listed n

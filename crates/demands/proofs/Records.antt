@@ -19,7 +19,7 @@ use Rattle.rules.specs.Values.{tolerancesIn}
 use Rattle.rules.specs.Record.{Told, holding, told, sheetOf}
 use Rattle.rules.specs.Figures.{planTold, outsideTotal, figuresBy, figuresTold}
 use Rattle.rules.specs.Text.{headLines, sheetText, printed}
-use Rattle.figures.proofs.Ended.{figures-same}
+use Rattle.laws.proofs.Ended.{figures-ended}
 use Rattle.figures.proofs.WiderFigures.{no-earlier, unstopped-same}
 use Rattle.demands.specs.Compared.{withFour, FirstThree, withTolerances, retold, Grown}
 use Rattle.demands.specs.Demand3.{FieldFourAlone, WiderRecord, Unmoved, EndedStays, BlocksBetween, longerTold, BlocksAddedStay}
@@ -112,7 +112,7 @@ module _ (x x′ : Told) (g : Grown x x′) where
   ended-stays ended vehicle passed amounts =
       let same : figuresTold x′ ≡ figuresTold x =
       (λ j. figuresBy (vehicle j) (passed j) (amounts j) (plan (g .cycle j) (g .tolerances j)) (g .samples .joins j))
-      ∙ figures-same (planTold x) (x .holding .samples) (g .samples .added) ended (x .holding .vehicle) (x .passed) (x .holding .amounts) in
+      ∙ figures-ended (planTold x) (x .holding .samples) (g .samples .added) ended (x .holding .vehicle) (x .passed) (x .holding .amounts) in
       record { ended-told = same; ended-prints = λ i i′ e e′. ap printed e′ ∙ ap sheetText same ∙ sym (ap printed e) }
 
 -- ---- at the end of a record's blocks

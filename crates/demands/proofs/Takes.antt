@@ -5,9 +5,7 @@ use Rattle.judge.proofs.sample
 use Rattle.judge.proofs.block
 use Rattle.judge.proofs.shown
 use Rattle.judge.proofs.totals
-use Rattle.closing.proofs.weighted
-use Rattle.closing.proofs.range
-use Rattle.closing.proofs.recharge
+use Rattle.closing.proofs.close as closing
 use Rattle.reader.proofs.blank
 use Rattle.reader.proofs.open
 use Rattle.reader.proofs.reading_of
@@ -40,9 +38,7 @@ takes-every-input = record {
   block-takes-every-input = (block.Met.met, ofJudge.block-asks-nothing);
   shown-takes-every-input = (shown.Met.met, ofJudge.shown-asks-nothing);
   totals-takes-every-input = (totals.Met.met, ofJudge.totals-asks-nothing);
-  weighted-takes-every-input = (weighted.Met.met, ofClosing.weighted-asks-nothing);
-  range-takes-every-input = (range.Met.met, ofClosing.range-asks-nothing);
-  recharge-takes-every-input = (recharge.Met.met, ofClosing.recharge-asks-nothing);
+  closing-takes-every-input = (closing.Met.met, ofClosing.close-asks-nothing);
   blank-takes-every-input = (blank.Met.met, ofReader.blank-asks-nothing);
   open-takes-every-input = (open.Met.met, ofReader.open-asks-nothing);
   reading-of-takes-every-input = (reading_of.Met.met, ofReader.reading-of-asks-nothing);

@@ -26,6 +26,7 @@ use Rattle.reader.proofs.Unchanged.{OpenStays, open-stays, ReadStays, read-stay
 use Rattle.sheet.specs.Overlaid.{overlaid, mostSheet}
 use Rattle.sheet.proofs.Overlaid.{too-short}
 use Rattle.figures.specs.declared.Found.{Found}
+use Rattle.figures.specs.Figured.{blank as noFigures}
 use Rattle.desk.specs.Feeding.{Laid, Consumed, laidOf, feedOf}
 use Rattle.desk.proofs.LeftOver as desk
 use Rattle.demands.specs.Calls.{left, OpenCall, ReadCall}
@@ -91,7 +92,8 @@ refused-changes-nothing = record {
       let end = ap (λ (y : Consumed). y .laid) fed ∙ desk.feed-alone (laidOf x (now r) (now l) (now m)) (now i) ∙ sym (ap (λ (y : Consumed). y .laid) p) in
       (ap (λ (y : Laid). y .desk) end, λ j. (tt, (tt, (end j .room, (end j .memory .ledger, (end j .memory .map, tt))))));
   figures-of-refused-has-no-figure = λ c h.
-      ap (λ (x : Found). x .figures) (c .kept) ∙ settled-refused _ (λ z. h (ap (λ (x : Found). x .refusal) (c .kept) ∙ z));
+      let refusal = ap (λ (x : Found). x .refusal) (c .kept) in
+      ap (λ (x : Found). x .figures) (c .kept) ∙ settled-refused _ (λ z. h (refusal ∙ z)) ∙ ap noFigures (sym refusal);
 }
 
 -- ---- lines

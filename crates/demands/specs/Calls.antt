@@ -11,10 +11,7 @@ use Rattle.judge.proofs.sample
 use Rattle.judge.proofs.block
 use Rattle.judge.proofs.shown
 use Rattle.judge.proofs.totals
-use Rattle.consumption.proofs.recharged
-use Rattle.closing.proofs.weighted
-use Rattle.closing.proofs.range
-use Rattle.closing.proofs.recharge
+use Rattle.closing.proofs.close as closing
 use Rattle.fields.proofs.front_of
 use Rattle.contents.proofs.content_of
 use Rattle.reader.proofs.open
@@ -78,17 +75,8 @@ ShownCall = Call shown.ended shown.Reads.Learnt
 abbrev pub TotalsCall : Type 0
 TotalsCall = Call totals.ended totals.Reads.Learnt
 
-abbrev pub WeightedCall : Type 0
-WeightedCall = Call weighted.ended weighted.Reads.Learnt
-
-abbrev pub RangeCall : Type 0
-RangeCall = Call range.ended range.Reads.Learnt
-
-abbrev pub RechargeCall : Type 0
-RechargeCall = Call recharge.ended recharge.Reads.Learnt
-
-abbrev pub RechargedCall : Type 0
-RechargedCall = Call recharged.ended recharged.Reads.Learnt
+abbrev pub ClosingCall : Type 0
+ClosingCall = Call closing.ended closing.Reads.Learnt
 
 abbrev pub FrontCall : Type 0
 FrontCall = Call front_of.ended front_of.Reads.Learnt

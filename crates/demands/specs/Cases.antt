@@ -5,13 +5,9 @@ use mathlib.Core.Path.{_≡_}
 use Prim.Native.Nat.{ℕ, _≤_}
 use lib.IntN.{ℤ}
 use Rattle.rules.specs.Words.{settled}
-use Rattle.rules.specs.declared.Amounts.{Amounts}
-use Rattle.laws.specs.Answers.{numberOf, figureSaid}
-use Rattle.ledger.specs.Row.{energyIn, distanceIn}
-use Rattle.state.specs.declared.Run.{Run}
-use Rattle.state.specs.Refusals.{cyclesBy}
-use Rattle.rules.specs.Closing.{chargedBy}
-use Rattle.closing.specs.Answers.{whole, refusalOf}
+use Rattle.rules.specs.declared.Charge.{Charge}
+use Rattle.rules.specs.declared.Charge.the-variants.{Absent as absent, Wh as wh}
+use Rattle.rules.specs.Closing.{rechargeRefusal}
 use Rattle.rules.specs.Machine.{Reply, toField, notYet, noField}
 use Rattle.rules.specs.Machine as machine
 use Rattle.rules.specs.Record.{Content, brought, foreign, wrong}
@@ -36,11 +32,10 @@ pub record Listed (n : ℕ) : Type 0 where
 abbrev pub orElse : ℕ → ℕ → ℕ
 orElse n next = settled n next n
 
--- "Recharge: whatever closing refuses, then absent, 14, 12."
-abbrev pub rechargeNumber : Run → Amounts → List ℕ → List ℤ → List ℕ → ℕ
-rechargeNumber r a b l m =
-    orElse (refusalOf r a b l m)
-    (numberOf (figureSaid (chargedBy (whole r a b l m) (cyclesBy r) (energyIn l) (distanceIn l) (a .after) (a .charge))))
+-- "then absent, 14, 12": of the recharge figure that stands beside weighted consumption and range
+abbrev pub rechargeNumber : ℤ → ℕ → (ℕ → ℤ) → (ℕ → ℤ) → ℤ → Charge → ℕ
+rechargeNumber E n e d F absent = 0
+rechargeNumber E n e d F (wh A) = rechargeRefusal E n e d F A
 
 -- of what a field brings
 abbrev pub wrongNumber : Content → ℕ

@@ -4,26 +4,26 @@
 use mathlib.Core.List.{List}
 use mathlib.Core.Path.{_≡_}
 use Prim.Native.Nat.{ℕ, _<_}
-use lib.Dec.{eqb, leb}
-use lib.IntN.{pos, _+ℤ_}
+use lib.Dec.{eqb}
 use lib.ListN.{length, drop}
-use lib.Signed.{leZ}
 use denote.Ref.{now}
-use Rattle.rules.specs.Words.{unless, up}
-use Rattle.rules.specs.Closing.{mostRate, recharge as rechargeBy}
+use Rattle.rules.specs.Words.{unless}
 use Rattle.rules.specs.declared.Figure.the-variants as figure
+use Rattle.rules.specs.declared.Closing.{Closing}
+use Rattle.rules.specs.declared.ClosingAnswer.the-variants as closings
 use Rattle.rules.specs.Record.{refusedAt, sheetOf}
 use Rattle.rules.specs.Table.{tags}
 use Rattle.rules.specs.Front.{frontOf}
-use Rattle.laws.specs.Answers.{numberOf, figureSaid}
+use Rattle.laws.specs.Answers.{numberOf, figureSaid, closingSaid}
+use Rattle.ledger.specs.Row.{energyIn, distanceIn}
 use Rattle.state.specs.State.{ground}
-use Rattle.state.specs.Refusals.{startRefusal, sampleRefusal}
+use Rattle.state.specs.Refusals.{startRefusal, sampleRefusal, cyclesBy}
 use Rattle.blocks.specs.Blocks.{blockRefusal}
 use Rattle.judge.specs.declared.Answer.the-variants as answer
 use Rattle.judge.specs.declared.ShownAnswer.the-variants as counts
 use Rattle.judge.specs.declared.TotalsAnswer.the-variants as sums
 use Rattle.judge.specs.Answers.{answerSaid, shownSaid, totalsSaid}
-use Rattle.closing.specs.Answers.{refusalOf}
+use Rattle.closing.specs.Answers.{whole, refusalOf}
 use Rattle.fields.specs.Fields.{frontSaid, standsSaid}
 use Rattle.contents.specs.Content.{contentSaid, laterContent}
 use Rattle.opening.specs.declared.OpenStep.the-variants as opening
@@ -40,9 +40,7 @@ use Rattle.judge.proofs.sample
 use Rattle.judge.proofs.block
 use Rattle.judge.proofs.shown
 use Rattle.judge.proofs.totals
-use Rattle.closing.proofs.weighted
-use Rattle.closing.proofs.range
-use Rattle.closing.proofs.recharge
+use Rattle.closing.proofs.close as closing
 use Rattle.reader.proofs.blank
 use Rattle.reader.proofs.open
 use Rattle.reader.proofs.reading_of
@@ -58,8 +56,8 @@ use Rattle.desk.proofs.feed
 use Rattle.prints.proofs.refuse
 use Rattle.prints.proofs.close
 use Rattle.bench.proofs.paperwhelk_verdict
-use Rattle.demands.specs.Calls.{AsksNothing, left, StartCall, SampleCall, BlockCall, ShownCall, TotalsCall, WeightedCall, RangeCall}
-use Rattle.demands.specs.Calls.{RechargeCall, RechargedCall, FrontCall, ContentCall, OpenCall, ReadCall, AllCall, EndedCall, FiguresCall}
+use Rattle.demands.specs.Calls.{AsksNothing, left, StartCall, SampleCall, BlockCall, ShownCall, TotalsCall, ClosingCall}
+use Rattle.demands.specs.Calls.{FrontCall, ContentCall, OpenCall, ReadCall, AllCall, EndedCall, FiguresCall}
 use Rattle.demands.specs.Calls.{SheetCall, RefusalCall, FeedCall, CloseCall, RefuseCall, startLent, startLeaves, sampleLent, sampleLeaves}
 use Rattle.demands.specs.Calls.{blockLent, blockLeaves, openLent, openLeaves, readLent, readLeaves, allLent, allLeaves, feedLent, feedLeaves}
 use Rattle.demands.specs.Calls.{OpenStayed, ReadStayed, AllStayed, FeedStayed}
@@ -76,9 +74,7 @@ pub record TakesEveryInput (M : Type 1) : Type 2 where
   pub block-takes-every-input : block.Statement.statement M × AsksNothing block.ended block.Reads.Asked
   pub shown-takes-every-input : shown.Statement.statement M × AsksNothing shown.ended shown.Reads.Asked
   pub totals-takes-every-input : totals.Statement.statement M × AsksNothing totals.ended totals.Reads.Asked
-  pub weighted-takes-every-input : weighted.Statement.statement M × AsksNothing weighted.ended weighted.Reads.Asked
-  pub range-takes-every-input : range.Statement.statement M × AsksNothing range.ended range.Reads.Asked
-  pub recharge-takes-every-input : recharge.Statement.statement M × AsksNothing recharge.ended recharge.Reads.Asked
+  pub closing-takes-every-input : closing.Statement.statement M × AsksNothing closing.ended closing.Reads.Asked
   pub blank-takes-every-input : blank.Statement.statement M × AsksNothing blank.ended blank.Reads.Asked
   pub open-takes-every-input : open.Statement.statement M × AsksNothing open.ended open.Reads.Asked
   pub reading-of-takes-every-input : reading_of.Statement.statement M × AsksNothing reading_of.ended reading_of.Reads.Asked
@@ -113,15 +109,12 @@ pub record HasItsNumber : Type 0 where
   pub totals-number : (c : TotalsCall) → (let (r, (b, (l, (m, _)))) = c .args in
       numberOf (totalsSaid (c .answer)) ≡ ground r (now b) (now l) (now m) 0)
   -- "Closing: 10, 11, 12, 13.", after 1 and 2
-  pub weighted-number : (c : WeightedCall) → (let (r, (a, (b, (l, (m, _))))) = c .args in
-      numberOf (figureSaid (c .answer)) ≡ refusalOf r a (now b) (now l) (now m))
-  pub range-number : (c : RangeCall) → (let (r, (a, (b, (l, (m, _))))) = c .args in
-      numberOf (figureSaid (c .answer)) ≡ refusalOf r a (now b) (now l) (now m))
+  pub closing-number : (c : ClosingCall) → (let (r, (a, (b, (l, (m, _))))) = c .args in
+      numberOf (closingSaid (c .answer)) ≡ refusalOf r a (now b) (now l) (now m))
   -- "Recharge: whatever closing refuses, then absent, 14, 12."
-  pub recharge-number : (c : RechargeCall) → (let (r, (a, (b, (l, (m, _))))) = c .args in
-      numberOf (figureSaid (c .answer)) ≡ rechargeNumber r a (now b) (now l) (now m))
-  pub recharged-number : (c : RechargedCall) → (let (range, (E, (F, (A, _)))) = c .args in
-      numberOf (figureSaid (c .answer)) ≡ unless 14 (leZ (pos 1) (E +ℤ F)) (unless 12 (leb (rechargeBy (up E) (up (E +ℤ F)) A range) mostRate) 0))
+  pub recharge-number : (c : ClosingCall) (x : Closing) → c .answer ≡ closings.Closed x → (let (r, (a, (b, (l, (m, _))))) = c .args in
+      numberOf (figureSaid (x .recharge))
+      ≡ rechargeNumber (whole r a (now b) (now l) (now m)) (cyclesBy r) (energyIn (now l)) (distanceIn (now l)) (a .after) (a .charge))
   -- the figures of the report: 1 and 2, as of `read`
   pub figures-of-number : (c : FiguresCall) → (let (r, (b, (l, (m, _)))) = c .args in
       c .answer .refusal ≡ readGround r (now b) (now l) (now m))
@@ -151,9 +144,8 @@ pub record InTheList : Type 0 where
   pub block-listed : (c : BlockCall) (n : ℕ) → c .answer ≡ answer.Refused n → Listed n
   pub shown-listed : (c : ShownCall) (n : ℕ) → c .answer ≡ counts.Refused n → Listed n
   pub totals-listed : (c : TotalsCall) (n : ℕ) → c .answer ≡ sums.Refused n → Listed n
-  pub weighted-listed : (c : WeightedCall) (n : ℕ) → c .answer ≡ figure.Refused n → Listed n
-  pub range-listed : (c : RangeCall) (n : ℕ) → c .answer ≡ figure.Refused n → Listed n
-  pub recharge-listed : (c : RechargeCall) (n : ℕ) → c .answer ≡ figure.Refused n → Listed n
+  pub closing-listed : (c : ClosingCall) (n : ℕ) → c .answer ≡ closings.Refused n → Listed n
+  pub recharge-listed : (c : ClosingCall) (x : Closing) → c .answer ≡ closings.Closed x → (n : ℕ) → x .recharge ≡ figure.Refused n → Listed n
   pub open-listed : (c : OpenCall) (n : ℕ) → c .answer .step ≡ opening.Refused n → Listed n
   pub read-listed : (c : ReadCall) (n : ℕ) → c .answer .step ≡ step.Refused n → Listed n
   pub read-all-listed : (c : AllCall) (n : ℕ) → c .answer .last ≡ step.Refused n → Listed n
@@ -164,7 +156,7 @@ pub record InTheList : Type 0 where
 -- ---- "A refusal returns its number and no figure; state, ledger, map and every other lent buffer stay exactly as they were."
 
 pub record RefusedChangesNothing : Type 0 where
-  -- the judge: an answer that refuses holds no state
+  -- the judge: an answer that refuses holds no state, and one of the closing no figure
   pub start-refused-changes-nothing : (c : StartCall) (n : ℕ) → c .answer ≡ answer.Refused n → left c ≡ c .args
   pub sample-refused-changes-nothing : (c : SampleCall) (n : ℕ) → c .answer ≡ answer.Refused n → left c ≡ c .args
   pub block-refused-changes-nothing : (c : BlockCall) (n : ℕ) → c .answer ≡ answer.Refused n → left c ≡ c .args
@@ -182,7 +174,7 @@ pub record RefusedChangesNothing : Type 0 where
   pub feed-refused-leaves-no-trace : (c d : FeedCall) → Shorter (c .answer .used) (c .args) (d .args)
       → (d .answer .desk ≡ c .answer .desk) × (d .lasts ≡ c .lasts)
   -- "no figure"
-  pub figures-of-refused-has-no-figure : (c : FiguresCall) → (c .answer .refusal ≡ 0 → ⊥) → c .answer .figures ≡ noFigures
+  pub figures-of-refused-has-no-figure : (c : FiguresCall) → (c .answer .refusal ≡ 0 → ⊥) → c .answer .figures ≡ noFigures (c .answer .refusal)
 
 -- ---- "every other lent buffer": lines shorter than 512 bytes stay as they were, and the result is 0; what lies beyond the text is never touched
 

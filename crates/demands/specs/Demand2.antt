@@ -12,6 +12,8 @@ use lib.ListN.{length, take, drop}
 use Rattle.rules.specs.Words.{every, up}
 use Rattle.rules.specs.declared.End.the-variants.{None as none}
 use Rattle.rules.specs.declared.Figure.the-variants as figure
+use Rattle.rules.specs.declared.Closing.{Closing}
+use Rattle.rules.specs.declared.ClosingAnswer.the-variants as closings
 use Rattle.rules.specs.declared.Moment.{Moment}
 use Rattle.rules.specs.declared.Sample.{Sample}
 use Rattle.rules.specs.Bench.{isSample, tolerable, mostCycles, mostPhases, mostPositions, mostOffered, mostPassed}
@@ -21,11 +23,11 @@ use Rattle.rules.specs.Course.{Course, outside, counted, judged, closed, ending
 use Rattle.rules.specs.Parts.{phasePart, partEnergy, partDistance, energy}
 use Rattle.rules.specs.Regular.{positionOf, Plan, courseOf, momentIn}
 use Rattle.rules.specs.Shown.{ledgerNumbers, mapWords, figure as figureAt, shownRow, marked}
-use Rattle.rules.specs.Closing.{weight, weighing, rateOf, wholeEnergy, weightedBy, rangeBy, rechargeBy}
+use Rattle.rules.specs.Closing.{weight, weighing, rateOf, wholeEnergy, closingRefusal, closingFigures}
 use Rattle.rules.specs.Table.{tags}
 use Rattle.rules.specs.Machine.{run}
 use Rattle.rules.specs.Record.{Told, morePassed, takeField, untold, told, refusedAt, sheetOf}
-use Rattle.rules.specs.Figures.{energies, distances, cyclesIn, outsideTotal, figuresBy, figuresTold}
+use Rattle.rules.specs.Figures.{energies, distances, cyclesIn, outsideTotal, closingIn, figuresBy, figuresTold}
 use Rattle.rules.specs.Text.{refusalText, printed}
 use Rattle.laws.specs.Answers.{refuses, numberOf}
 use Rattle.laws.specs.Beside.{Unrounded}
@@ -46,10 +48,10 @@ use Rattle.desk.specs.Feeding.{wanted, outcomeSaid, Laid, Lent, laidOf, emptyDe
 use Rattle.prints.specs.Printed.{nextField}
 use Rattle.intake.specs.declared.Intake.{Intake}
 use Rattle.intake.specs.Turns.{Recorded, Unread}
-use Rattle.demands.specs.Calls.{left, SampleCall, BlockCall, ShownCall, TotalsCall, WeightedCall, RangeCall, RechargeCall}
+use Rattle.demands.specs.Calls.{left, SampleCall, BlockCall, ShownCall, TotalsCall, ClosingCall}
 use Rattle.demands.specs.Calls.{FiguresCall, ReadCall, AllCall, FeedCall, CloseCall, RefuseCall, VerdictCall}
-use Rattle.demands.specs.Runs.{SampleOn, BlockOn, ShownOn, TotalsOn, WeightedOn, RangeOn, RechargeOn, FiguresOn, ReadOn, AllOn}
-use Rattle.demands.specs.Runs.{sampleIn, weightedAmounts, rangeAmounts, rechargeAmounts, Driven, FeedOn, laidBy, FedIn, CloseOn}
+use Rattle.demands.specs.Runs.{SampleOn, BlockOn, ShownOn, TotalsOn, ClosingOn, FiguresOn, ReadOn, AllOn}
+use Rattle.demands.specs.Runs.{sampleIn, closingAmounts, Driven, FeedOn, laidBy, FedIn, CloseOn}
 use Rattle.demands.specs.Runs.{RefuseOn, closedTo, refusedTo, AskedOn, SomeRun, SomeClose}
 use Rattle.demands.specs.Cases.{Neither1Nor2}
 use Rattle.demands.specs.Compared.{OneMorePassed, withPassed, onePassed}
@@ -108,32 +110,33 @@ module _ (p : Plan) (l₀ : List ℤ) (m₀ : List ℕ) (xs : List Moment) (r : 
           outside = pos (outsideTotal p xs);
           drawn = energy (y .share) s (closed y s n);
         })
-    pub weighted-of-run : (c : WeightedCall) → WeightedOn r (p .cycle) l m c → areAmounts (weightedAmounts c) ≡ true
-        → c .answer ≡ weightedBy (E (weightedAmounts c .before)) (cyclesIn p xs) (energies p xs) (distances p xs)
-    pub range-of-run : (c : RangeCall) → RangeOn r (p .cycle) l m c → areAmounts (rangeAmounts c) ≡ true
-        → c .answer ≡ rangeBy (E (rangeAmounts c .before)) (cyclesIn p xs) (energies p xs) (distances p xs)
-    pub recharge-of-run : (c : RechargeCall) → RechargeOn r (p .cycle) l m c → areAmounts (rechargeAmounts c) ≡ true
-        → (let a = rechargeAmounts c in
-        c .answer ≡ rechargeBy (E (a .before)) (cyclesIn p xs) (energies p xs) (distances p xs) (a .after) (a .charge))
+    -- `close`: weighted consumption, range and recharge figure, of one run and one set of amounts
+    pub closing-of-run : (c : ClosingCall) → ClosingOn r (p .cycle) l m c → areAmounts (closingAmounts c) ≡ true
+        → c .answer ≡ closingIn p xs (closingAmounts c)
     -- all figures of the report
     pub figures-of-run : (c : FiguresCall) → FiguresOn r (p .cycle) l m c → isReading (c .args .0) ≡ true
         → (let x = c .args .0 in
         c .answer ≡ record { refusal = 0; figures = figuresBy (x .vehicle) (x .passed) (x .amounts) p xs })
 
-  -- a call of `weighted` that answers W
-  pub record WeightedHolds : Type 0 where
+  -- a call of `close` that answers the figures x
+  pub record ClosedHolds : Type 0 where
+    -- "a recharge refusal still shows weighted consumption and range" (document 02, L6): they are those of the samples, whatever the recharge
+    pub recharge-aside : (c : ClosingCall) → ClosingOn r (p .cycle) l m c → areAmounts (closingAmounts c) ≡ true
+        → (let a = closingAmounts c in
+        closingRefusal (E (a .before)) (cyclesIn p xs) (energies p xs) (distances p xs) ≡ 0
+        → c .answer ≡ closings.Closed (closingFigures (E (a .before)) (cyclesIn p xs) (energies p xs) (distances p xs) (a .after) (a .charge)))
     -- W lies between the least and the greatest q_c, so it is never 0
-    pub weighted-between : (c : WeightedCall) → WeightedOn r (p .cycle) l m c → areAmounts (weightedAmounts c) ≡ true
-        → (W : ℕ) → c .answer ≡ figure.Is W → (a z : ℕ)
+    pub weighted-between : (c : ClosingCall) → ClosingOn r (p .cycle) l m c → areAmounts (closingAmounts c) ≡ true
+        → (x : Closing) → c .answer ≡ closings.Closed x → (a z : ℕ)
         → ((k : ℕ) → k < cyclesIn p xs → (a ≤ rateOf (energies p xs) (distances p xs) k) × (rateOf (energies p xs) (distances p xs) k ≤ z))
-        → (a ≤ W) × (W ≤ z)
+        → (a ≤ x .weighted) × (x .weighted ≤ z)
     -- "It is never above the same weighting of the unrounded 100 e_c / d_c and less than 2 below it.": with the rates u c over the denominator k
-    pub weighted-close : (c : WeightedCall) → WeightedOn r (p .cycle) l m c → areAmounts (weightedAmounts c) ≡ true
-        → (W : ℕ) → c .answer ≡ figure.Is W → (let whole = up (E (weightedAmounts c .before)) in
+    pub weighted-close : (c : ClosingCall) → ClosingOn r (p .cycle) l m c → areAmounts (closingAmounts c) ≡ true
+        → (x : Closing) → c .answer ≡ closings.Closed x → (let whole = up (E (closingAmounts c .before)) in
         let e : ℕ → ℕ = λ j. up (energies p xs j) in
         (k : ℕ) (u : ℕ → ℕ) → 0 < k → Unrounded k (cyclesIn p xs) e (λ j. up (distances p xs j)) u
-        → (W * (k * weight whole (cyclesIn p xs)) ≤ weighing whole (cyclesIn p xs) e u)
-        × (weighing whole (cyclesIn p xs) e u < (W + 2) * (k * weight whole (cyclesIn p xs))))
+        → (x .weighted * (k * weight whole (cyclesIn p xs)) ≤ weighing whole (cyclesIn p xs) e u)
+        × (weighing whole (cyclesIn p xs) e u < (x .weighted + 2) * (k * weight whole (cyclesIn p xs))))
 
   -- "such a call is never refused 1 or 2", of every later call
   pub record NeverRefused : Type 0 where
@@ -142,9 +145,8 @@ module _ (p : Plan) (l₀ : List ℤ) (m₀ : List ℕ) (xs : List Moment) (r : 
     pub shown : (c : ShownCall) → ShownOn r (p .cycle) l m c → Neither1Nor2 counts.Refused (c .answer)
     pub totals : (c : TotalsCall) → TotalsOn r (p .cycle) l m c → Neither1Nor2 sums.Refused (c .answer)
     -- with amounts within their limits
-    pub weighted : (c : WeightedCall) → WeightedOn r (p .cycle) l m c → areAmounts (weightedAmounts c) ≡ true → Neither1Nor2 figure.Refused (c .answer)
-    pub range : (c : RangeCall) → RangeOn r (p .cycle) l m c → areAmounts (rangeAmounts c) ≡ true → Neither1Nor2 figure.Refused (c .answer)
-    pub recharge : (c : RechargeCall) → RechargeOn r (p .cycle) l m c → areAmounts (rechargeAmounts c) ≡ true → Neither1Nor2 figure.Refused (c .answer)
+    pub closing : (c : ClosingCall) → ClosingOn r (p .cycle) l m c → areAmounts (closingAmounts c) ≡ true → Neither1Nor2 closings.Refused (c .answer)
+    pub recharge : (c : ClosingCall) (x : Closing) → c .answer ≡ closings.Closed x → Neither1Nor2 figure.Refused (x .recharge)
     -- with a reading whose own numbers are within their limits
     pub figures : (c : FiguresCall) → FiguresOn r (p .cycle) l m c → isReading (c .args .0) ≡ true → c .answer .refusal ≡ 0
     pub read : (c : ReadCall) → ReadOn r (p .cycle) l m c → isReading (c .args .0) ≡ true → Neither1Nor2 step.Refused (c .answer .step)
@@ -163,7 +165,7 @@ module _ (p : Plan) (l₀ : List ℤ) (m₀ : List ℕ) (xs : List Moment) (r : 
   pub record RunHolds : Type 0 where
     pub shows : RunShows
     pub answers : RunAnswers
-    pub weighted : WeightedHolds
+    pub closed : ClosedHolds
     -- "such a call is never refused 1 or 2"
     pub never-refused-1-or-2 : NeverRefused
     pub verdict-is-the-judges : VerdictIsTheJudges

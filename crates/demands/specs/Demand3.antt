@@ -29,8 +29,10 @@ use Rattle.laws.specs.Claims.{Widened, PartKept}
 use Rattle.ledger.specs.Row.{at, energyIn, distanceIn, outsideIn}
 use Rattle.state.specs.declared.Run.{Run}
 use Rattle.state.specs.Refusals.{closedBy}
+use Rattle.values.specs.Limits.{areAmounts}
 use Rattle.figures.specs.Compared.{NoEarlier}
-use Rattle.demands.specs.Runs.{Driven}
+use Rattle.demands.specs.Calls.{ClosingCall}
+use Rattle.demands.specs.Runs.{Driven, ClosingOn, closingAmounts}
 use Rattle.demands.specs.Compared.{withFour, FirstThree, HasFour, withTolerances, retold, withSamples, notBefore, Grown, momentsTold, closedTold}
 use Rattle.demands.specs.Compared.{outsideTold, NoMoreOutside}
 
@@ -92,13 +94,16 @@ module _ (b : List ℕ) (r r′ : Run) (l l′ : List ℤ) where
     pub wider-run-finishes-cycles : (c : ℕ) → T (finished (rowPart (regularLayout b) c) (closedBy r))
         → CycleStays c × (leZ (outsideIn l′ c) (outsideIn l c) ≡ true)
 
-  -- the second with samples added at the end
-  pub record LongerCalls : Type 0 where
+  -- the second with samples added at the end; m and m′ are the maps
+  pub record LongerCalls (m m′ : List ℕ) : Type 0 where
     -- "Samples added at the end move no stop given"
     pub longer-run-moves-no-stop : r .progress .end ≡ stop → (r′ .progress .end ≡ stop) × (r′ .progress .counted ≡ r .progress .counted)
     -- "and change no phase or cycle finished."
     pub finished-phases-stay : (c k : ℕ) → T (finished (phasePart (regularLayout b) c k) (closedBy r)) → PhaseStays c k
     pub finished-cycles-stay : (c : ℕ) → T (finished (rowPart (regularLayout b) c) (closedBy r)) → CycleStays c × (outsideIn l′ c ≡ outsideIn l c)
+    -- "Later accepted samples raise only the number offered.": of a run that has ended, the closing stays
+    pub closing-stays : isOpen (r .progress .end) ≡ false → (c c′ : ClosingCall) → ClosingOn r b l m c → ClosingOn r′ b l′ m′ c′
+        → areAmounts (closingAmounts c) ≡ true → closingAmounts c′ ≡ closingAmounts c → c′ .answer ≡ c .answer
 
 -- ---- over records: wider tolerances
 
@@ -180,7 +185,7 @@ pub record Demand3 : Type 0 where
       → Driven (plan b t) l₀ m₀ xs r l m → Driven (plan b t′) k₀ n₀ xs r′ l′ m′ → Widened t t′ → WiderCalls b r r′ l l′
   pub longer-calls : {b : List ℕ} {t : Tolerances} {l₀ k₀ : List ℤ} {m₀ n₀ : List ℕ} {xs : List Moment} (ys : List Moment)
       {r r′ : Run} {l l′ : List ℤ} {m m′ : List ℕ}
-      → Driven (plan b t) l₀ m₀ xs r l m → Driven (plan b t) k₀ n₀ (xs ++ ys) r′ l′ m′ → LongerCalls b r r′ l l′
+      → Driven (plan b t) l₀ m₀ xs r l m → Driven (plan b t) k₀ n₀ (xs ++ ys) r′ l′ m′ → LongerCalls b r r′ l l′ m m′
   -- every record that is told is one with a field 4
   pub told-has-four : (i : List ℕ) (x : Told) → sheetOf i ≡ told x → HasFour i
   pub field-four-alone : (p q v v′ : List ℕ) → FirstThree p → length v ≡ 6 → length v′ ≡ 6 → FieldFourAlone p q v v′

@@ -21,7 +21,7 @@ use Rattle.reading.specs.declared.Reading.{Reading}
 use Rattle.sheet.specs.Overlaid.{mostSheet}
 use Rattle.desk.specs.declared.Outcome.the-variants.{More}
 use Rattle.desk.specs.Feeding.{Laid, Lent, laidOf, emptyDesk}
-use Rattle.demands.specs.Calls.{left, StartCall, SampleCall, BlockCall, ShownCall, TotalsCall, WeightedCall, RangeCall, RechargeCall}
+use Rattle.demands.specs.Calls.{left, StartCall, SampleCall, BlockCall, ShownCall, TotalsCall, ClosingCall}
 use Rattle.demands.specs.Calls.{FiguresCall, ReadCall, AllCall, FeedCall, CloseCall, RefuseCall, VerdictCall, startLeaves, sampleLeaves}
 use Rattle.demands.specs.Calls.{blockLeaves}
 
@@ -42,7 +42,7 @@ pub record On (r : Run) (b : List ℕ) (l : List ℤ) (m : List ℕ) (run : Run)
   pub ledger-is : now ledger ≡ l
   pub map-is : now map ≡ m
 
--- the closing's calls also amounts, the figures' and the reader's a reading of that run
+-- the closing's call also amounts, the figures' and the reader's a reading of that run
 module _ (r : Run) (b : List ℕ) (l : List ℤ) (m : List ℕ) where
   abbrev pub SampleOn : SampleCall → Type 0
   SampleOn c = let (run, (cycle, (ledger, (map, _)))) = c .args in On r b l m run cycle ledger map
@@ -56,14 +56,8 @@ module _ (r : Run) (b : List ℕ) (l : List ℤ) (m : List ℕ) where
   abbrev pub TotalsOn : TotalsCall → Type 0
   TotalsOn c = let (run, (cycle, (ledger, (map, _)))) = c .args in On r b l m run cycle ledger map
 
-  abbrev pub WeightedOn : WeightedCall → Type 0
-  WeightedOn c = let (run, (_, (cycle, (ledger, (map, _))))) = c .args in On r b l m run cycle ledger map
-
-  abbrev pub RangeOn : RangeCall → Type 0
-  RangeOn c = let (run, (_, (cycle, (ledger, (map, _))))) = c .args in On r b l m run cycle ledger map
-
-  abbrev pub RechargeOn : RechargeCall → Type 0
-  RechargeOn c = let (run, (_, (cycle, (ledger, (map, _))))) = c .args in On r b l m run cycle ledger map
+  abbrev pub ClosingOn : ClosingCall → Type 0
+  ClosingOn c = let (run, (_, (cycle, (ledger, (map, _))))) = c .args in On r b l m run cycle ledger map
 
   abbrev pub FiguresOn : FiguresCall → Type 0
   FiguresOn c = let (reading, (cycle, (ledger, (map, _)))) = c .args in On r b l m (reading .run) cycle ledger map
@@ -81,14 +75,8 @@ sampleIn c = c .args .1 .1 .1 .1 .0
 abbrev pub bytesIn : BlockCall → List ℕ
 bytesIn c = now (c .args .1 .1 .1 .1 .1 .0)
 
-abbrev pub weightedAmounts : WeightedCall → Amounts
-weightedAmounts c = c .args .1 .0
-
-abbrev pub rangeAmounts : RangeCall → Amounts
-rangeAmounts c = c .args .1 .0
-
-abbrev pub rechargeAmounts : RechargeCall → Amounts
-rechargeAmounts c = c .args .1 .0
+abbrev pub closingAmounts : ClosingCall → Amounts
+closingAmounts c = c .args .1 .0
 
 abbrev pub figuresReading : FiguresCall → Run → Reading
 figuresReading c r =

@@ -72,9 +72,6 @@ module _ (x : Laid) where
       let (few, rest) = not-refused 0 (leb (x .desk .fields) mostFields) _ g in
       record { few = leb-true _ _ few; ground = λ e. ap (λ (t : Bool). cond t (startedGround x) (openGround (x .desk .opening) (x .room))) (sym e) ∙ rest }
 
-  pub cycle-fits : deskGround x ≡ 0 → x .desk .started ≡ true → x .desk .opening .cycle ≤ length (x .room)
-  cycle-fits g e = started-fits (ground-steady g .ground e) .0
-
   -- ---- `feed` answers it, and takes nothing; else it takes what the machine takes
   module _ (i : List ℕ) where
     pub feed-refuses : (deskGround x ≡ 0 → ⊥) → feedOf x i ≡ stops x (refuses (deskGround x))

@@ -22,7 +22,7 @@ use Rattle.laws.proofs.Facts.{Wider}
 use Rattle.laws.proofs.Gathered.{row-ends, phase-ends}
 use Rattle.laws.proofs.Regular.{regular-orderly, regular-wider}
 use Rattle.laws.proofs.Wider.{counted-wider, cycles-wider, stop-wider, part-wider, outside-finished, unstopped-wider}
-use Rattle.rules.specs.Closing.{weightedBy, rangeBy, rechargeBy}
+use Rattle.rules.specs.Closing.{closingBy}
 use Rattle.rules.specs.declared.Figures.{Figures}
 use Rattle.rules.specs.Figures.{outsideTotal, figuresBy}
 use Rattle.figures.specs.Compared.{NoEarlier, withOutside}
@@ -64,7 +64,6 @@ module _ (vehicle : List ℕ) (passed : ℕ) (a : Amounts) (b : List ℕ) (t t�
         let u = unstopped-wider (regularLayout b) _ _ own wide s (length xs) (refuted (stopped (courseOf p) s (length xs)) (λ e. went (rw e))) in (
           λ i.
               let m = u .closed-same i in
-              let E = a .before +ℤ energy own s m in
               let n = cycles (regularLayout b) m in
               let e : ℕ → ℤ = λ c. partEnergy own s (rowPart (regularLayout b) c) m in
               let d : ℕ → ℤ = λ c. pos (partDistance own s (rowPart (regularLayout b) c) m) in
@@ -76,9 +75,7 @@ module _ (vehicle : List ℕ) (passed : ℕ) (a : Amounts) (b : List ℕ) (t t�
                 outside = pos (outsideTotal p′ xs);
                 passed = passed;
                 drawn = energy own s m;
-                weighted = weightedBy E n e d;
-                range = rangeBy E n e d;
-                ac = rechargeBy E n e d (a .after) (a .charge);
+                closing = closingBy (a .before +ℤ energy own s m) n e d (a .after) (a .charge);
               },
           sum-le _ _ mostCycles (λ c _. u .no-more-outside c),
         )

@@ -27,9 +27,7 @@ withCounts f outside passed = record {
   outside = outside;
   passed = passed;
   drawn = f .drawn;
-  weighted = f .weighted;
-  range = f .range;
-  ac = f .ac;
+  closing = f .closing;
 }
 
 -- with another `outside`

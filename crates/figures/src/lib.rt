@@ -1,15 +1,11 @@
 // The figures that the report prints of a started run.
-use judge::Sums;
-use judge::TotalsAnswer;
 use reading::Reading;
 use reading::read_refusal;
-use rules::Amounts;
+use rules::ClosingAnswer;
 use rules::End;
-use rules::Figure;
 use rules::Figures;
-use state::Run;
 ghost use mathlib.Core.Path.{_≡_};
-ghost use Rattle.figures.specs.Figured.{blank, noneFound, withSums, foundOf};
+ghost use Rattle.figures.specs.Figured.{Figurable, figuresOf, blank, foundOf};
 
 // The figures, or the number of a refusal, 1 or 2, beside which they are blank.
 pub struct Found {
@@ -18,8 +14,8 @@ pub struct Found {
 }
 
 // Seventeen times the character 0, and no figure.
-fn blank_figures() -> Figures
-    ensures { λ r. ⌜ r ≡ blank ⌝ }
+fn blank_figures(refusal: u32) -> Figures
+    ensures { λ r. ⌜ r ≡ blank refusal ⌝ }
 {
     Figures {
         vehicle: [48; 17],
@@ -29,49 +25,30 @@ fn blank_figures() -> Figures
         outside: 0,
         passed: 0,
         drawn: 0,
-        weighted: Figure::Absent,
-        range: Figure::Absent,
-        ac: Figure::Absent,
+        closing: ClosingAnswer::Refused(refusal),
     }
 }
 
-fn refused(refusal: u32) -> Found
-    ensures { λ r. ⌜ r ≡ noneFound refusal ⌝ }
+// The figures of a reading and its ledger without 1: the sums and one closing, of the same run and amounts.
+pub fn figures_on(reading: Reading, ledger: &[i64]) -> Figures
+    requires { ⌜ Figurable reading (now ledger) ⌝ }
+    ensures { λ r. ⌜ r ≡ figuresOf reading (now (ledger .entry)) ⌝ }
 {
-    Found {
-        refusal,
-        figures: blank_figures(),
-    }
-}
-
-// The sums of a run, with the closing figures beside them.
-fn figures_with(
-    sums: Sums,
-    vehicle: [u8; 17],
-    passed: u32,
-    amounts: Amounts,
-    run: Run,
-    cycle: &[u8],
-    ledger: &[i64],
-    map: &[u64],
-) -> Figures
-    ensures { λ r. ⌜ r ≡ withSums vehicle passed amounts run (now (cycle .entry)) (now (ledger .entry)) (now (map .entry)) sums ⌝ }
-{
+    let vehicle = reading.vehicle;
+    let run = reading.run;
+    let amounts = reading.amounts;
+    let sums = judge::sums_of(run, ledger);
     let end = sums.end;
-    let weighted = closing::weighted(run, amounts, cycle, ledger, map);
-    let range = closing::range(run, amounts, cycle, ledger, map);
-    let ac = closing::recharge(run, amounts, cycle, ledger, map);
+    let closing = closing::close_on(run, amounts, ledger);
     Figures {
         vehicle,
         end,
         counted: sums.counted,
         cycles: sums.cycles,
         outside: sums.outside,
-        passed,
+        passed: reading.passed,
         drawn: sums.drawn,
-        weighted,
-        range,
-        ac,
+        closing,
     }
 }
 
@@ -81,27 +58,13 @@ pub fn figures_of(reading: Reading, cycle: &[u8], ledger: &[i64], map: &[u64]) -
 {
     let refusal = read_refusal(reading, cycle, ledger, map);
     if refusal != 0 {
-        return refused(refusal);
+        return Found {
+            refusal,
+            figures: blank_figures(refusal),
+        };
     }
-    let vehicle = reading.vehicle;
-    let amounts = reading.amounts;
-    let run = reading.run;
-    let answer = judge::totals(run, cycle, ledger, map);
-    // The judge refuses nothing that the tests above let through.
-    match answer {
-        TotalsAnswer::Refused(n) => refused(n),
-        TotalsAnswer::Summed(sums) => Found {
-            refusal: 0,
-            figures: figures_with(
-                sums,
-                vehicle,
-                reading.passed,
-                amounts,
-                run,
-                cycle,
-                ledger,
-                map,
-            ),
-        },
+    Found {
+        refusal: 0,
+        figures: figures_on(reading, ledger),
     }
 }

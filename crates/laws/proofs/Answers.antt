@@ -1,15 +1,18 @@
--- What an answer says: by the number of its refusal, and of figures.
+-- What an answer says: by the number of its refusal, and of a closing.
 -- Assumes nothing.
 use mathlib.Core.Bool.{Bool, true, false, cond, false≢true}
 use mathlib.Core.Path.{_≡_, refl, sym, ap, _∙_}
 use Prim.Native.Nat.{ℕ}
 use lib.Dec.{eqb}
 use borrow.Author.Tests.{eqb-true, eqb-false}
+use Rattle.rules.specs.Words.{settled}
 use Rattle.rules.specs.declared.Figure.{Figure}
-use Rattle.rules.specs.declared.Figure.the-variants.{Is, Absent, Refused}
-use Rattle.rules.specs.Closing.{figureOr}
+use Rattle.rules.specs.declared.Figure.the-variants as figure
+use Rattle.rules.specs.declared.Closing.{Closing}
+use Rattle.rules.specs.declared.ClosingAnswer.{ClosingAnswer}
+use Rattle.rules.specs.declared.ClosingAnswer.the-variants.{Closed, Refused}
 use Rattle.rules.specs.Machine.{End, waiting, broken, stopped}
-use Rattle.laws.specs.Answers.{Said, gives, refuses, numberOf, orRefused, Measure, is, absent, figureSaid, endSaid}
+use Rattle.laws.specs.Answers.{Said, gives, refuses, numberOf, orRefused, Measure, is, absent, figureSaid, Figured, figuredSaid, closingSaid, endSaid}
 
 -- what is said, by the number of a refusal
 module _ {A : Type 0} (n : ℕ) (x : Said A) where
@@ -49,11 +52,18 @@ only-waiting x waiting q = refl
 only-waiting x broken q = absurd (given-refused (sym q))
 only-waiting x (stopped n) q = absurd (given-refused (sym q))
 
--- a figure by the number of a refusal says so
-pub figure-or : (n : ℕ) (f : Figure) → figureSaid (figureOr n f) ≡ orRefused n (figureSaid f)
+-- a figure and a closing by the number of their refusal say so
+pub figure-or : (n : ℕ) (f : Figure) → figureSaid (settled n f (figure.Refused n)) ≡ orRefused n (figureSaid f)
 figure-or n f = go (eqb n 0)
   where
-    go : (t : Bool) → figureSaid (cond t f (Refused n)) ≡ cond t (figureSaid f) (refuses n)
+    go : (t : Bool) → figureSaid (cond t f (figure.Refused n)) ≡ cond t (figureSaid f) (refuses n)
+    go true = refl
+    go false = refl
+
+pub closing-or : (n : ℕ) (x : Closing) → closingSaid (settled n (Closed x) (Refused n)) ≡ orRefused n (gives (figuredSaid x))
+closing-or n x = go (eqb n 0)
+  where
+    go : (t : Bool) → closingSaid (cond t (Closed x) (Refused n)) ≡ cond t (gives (figuredSaid x)) (refuses n)
     go true = refl
     go false = refl
 
@@ -62,15 +72,26 @@ figure-or n f = go (eqb n 0)
 pub known-by : {A B : Type 0} (said : A → B) (back : B → A) → ((x : A) → back (said x) ≡ x) → (x y : A) → said x ≡ said y → x ≡ y
 known-by said back h x y e = sym (h x) ∙ ap back e ∙ h y
 
-pub same-figure : (x y : Figure) → figureSaid x ≡ figureSaid y → x ≡ y
+same-figure : (x y : Figure) → figureSaid x ≡ figureSaid y → x ≡ y
 same-figure = known-by figureSaid back known
   where
     back : Said Measure → Figure
-    back (gives (is n)) = Is n
-    back (gives absent) = Absent
-    back (refuses n) = Refused n
+    back (gives (is n)) = figure.Is n
+    back (gives absent) = figure.Absent
+    back (refuses n) = figure.Refused n
 
     known : (x : Figure) → back (figureSaid x) ≡ x
-    known (Is n) = refl
-    known Absent = refl
-    known (Refused n) = refl
+    known (figure.Is n) = refl
+    known figure.Absent = refl
+    known (figure.Refused n) = refl
+
+pub same-figured : (x y : Closing) → figuredSaid x ≡ figuredSaid y → x ≡ y
+same-figured x y e =
+    let recharge = same-figure (x .recharge) (y .recharge) (ap (λ (z : Figured). z .recharge) e) in
+    λ i. record { weighted = e i .weighted; range = e i .range; recharge = recharge i }
+
+pub same-closing : (x y : ClosingAnswer) → closingSaid x ≡ closingSaid y → x ≡ y
+same-closing (Closed x) (Closed y) e = ap Closed (same-figured x y (given-is e))
+same-closing (Closed x) (Refused n) e = absurd (given-refused e)
+same-closing (Refused n) (Closed y) e = absurd (given-refused (sym e))
+same-closing (Refused n) (Refused k) e = let same : n ≡ k = cc e in ap Refused same

@@ -17,6 +17,7 @@ pub mod Closeness
 pub mod Recharge
 pub mod Same
 pub mod Closes
+pub mod Ended
 pub mod NineNumbers
 pub mod Samples
 pub mod Tags

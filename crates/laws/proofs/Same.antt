@@ -1,22 +1,29 @@
 -- Closing looks at the finished cycles only: energies and distances that agree there close alike.
 -- Assumes nothing.
-use mathlib.Core.Path.{_≡_, ap, ap₂}
+use mathlib.Core.Path.{_≡_, refl, ap, ap₂}
 use Prim.Native.Nat.{ℕ, _+_, _-_, _*_, _/_, _≤_, _<_}
 use native.Mathlib.Omega.{arith}
 use lib.Dec.{leb}
 use lib.IntN.{ℤ, pos, _+ℤ_}
 use lib.Signed.{leZ, ltZ}
-use Rattle.rules.specs.Words.{sum, unless, up}
+use Rattle.rules.specs.Words.{sum, unless, settled, up}
 use Rattle.numbers.proofs.Range.{fold-same}
 use Rattle.numbers.proofs.Tests.{all-same}
+use Rattle.rules.specs.declared.Charge.{Charge}
+use Rattle.rules.specs.declared.Charge.the-variants.{Absent as absent, Wh as wh}
+use Rattle.rules.specs.declared.Figure.the-variants.{Is}
+use Rattle.rules.specs.declared.Figure.the-variants as figure
+use Rattle.rules.specs.declared.Closing.{Closing}
+use Rattle.rules.specs.declared.ClosingAnswer.the-variants.{Closed, Refused}
 use Rattle.rules.specs.Closing.{recharge, weighing, weight, mostRate, isRate, rateOf, weightedFigure, rangeFigure, closingRefusal, rechargeFigure, rechargeRefusal}
+use Rattle.rules.specs.Closing.{rechargeBy, closingBy}
 use Rattle.rules.specs.Bench.{mostCycles}
 
 module _ (E : ℤ) (n : ℕ) (few : n ≤ mostCycles) (e d e′ d′ : ℕ → ℤ) (he : (c : ℕ) → c < mostCycles → e c ≡ e′ c) (hd : (c : ℕ) → c < mostCycles → d c ≡ d′ c) where
   rate-same : (c : ℕ) → c < mostCycles → rateOf e d c ≡ rateOf e′ d′ c
   rate-same c h = ap₂ (λ (x y : ℤ). 100 * up x / up y) (he c h) (hd c h)
 
-  pub weighted-same : weightedFigure E n e d ≡ weightedFigure E n e′ d′
+  weighted-same : weightedFigure E n e d ≡ weightedFigure E n e′ d′
   unfolding weighing
   weighted-same =
       let s : sum (λ c. rateOf e d (2 + c)) (n - 2) ≡ sum (λ c. rateOf e′ d′ (2 + c)) (n - 2) =
@@ -26,10 +33,10 @@ module _ (E : ℤ) (n : ℕ) (few : n ≤ mostCycles) (e d e′ d′ : ℕ → �
       + (up E - up (he 0 (omega arith) i) - up (he 1 (omega arith) i)) * s i)
       / weight (up E) n
 
-  pub range-same : rangeFigure E n e d ≡ rangeFigure E n e′ d′
+  range-same : rangeFigure E n e d ≡ rangeFigure E n e′ d′
   range-same = ap (λ (w : ℕ). 5 * up E / (36 * w)) weighted-same
 
-  pub refusal-same : closingRefusal E n e d ≡ closingRefusal E n e′ d′
+  refusal-same : closingRefusal E n e d ≡ closingRefusal E n e′ d′
   unfolding closingRefusal
   refusal-same =
       let a = all-same n _ _ (λ c h. ap (leZ (pos 1)) (he c (omega arith))) in
@@ -45,9 +52,20 @@ module _ (E : ℤ) (n : ℕ) (few : n ≤ mostCycles) (e d e′ d′ : ℕ → �
 
   -- with F and A
   module _ (F : ℤ) (A : ℕ) where
-    pub recharge-same : rechargeFigure E n e d F A ≡ rechargeFigure E n e′ d′ F A
+    recharge-same : rechargeFigure E n e d F A ≡ rechargeFigure E n e′ d′ F A
     recharge-same = ap (recharge (up E) (up (E +ℤ F)) A) range-same
 
-    pub recharge-refusal-same : rechargeRefusal E n e d F A ≡ rechargeRefusal E n e′ d′ F A
+    recharge-refusal-same : rechargeRefusal E n e d F A ≡ rechargeRefusal E n e′ d′ F A
     unfolding rechargeRefusal
     recharge-refusal-same = ap (λ (f : ℕ). unless 14 (leZ (pos 1) (E +ℤ F)) (unless 12 (leb f mostRate) 0)) recharge-same
+
+  -- the whole closing, with F and the recharge
+  recharged-same : (F : ℤ) (charge : Charge) → rechargeBy E n e d F charge ≡ rechargeBy E n e′ d′ F charge
+  recharged-same F absent = refl
+  recharged-same F (wh A) =
+      λ i. settled (recharge-refusal-same F A i) (Is (recharge-same F A i)) (figure.Refused (recharge-refusal-same F A i))
+
+  pub closing-same : (F : ℤ) (charge : Charge) → closingBy E n e d F charge ≡ closingBy E n e′ d′ F charge
+  closing-same F charge = λ i.
+      let figures : Closing = record { weighted = weighted-same i; range = range-same i; recharge = recharged-same F charge i } in
+      settled (refusal-same i) (Closed figures) (Refused (refusal-same i))

@@ -6,8 +6,7 @@ use native.Mathlib.Nat.{add-le-add, div-le-of-le-mul, le-div-iff-mul-le, mul-le-
 use native.Mathlib.Omega.{arith}
 use borrow.Author.Tests.{le-ltb}
 use Rattle.rules.specs.Words.{fold, sum}
-use Rattle.numbers.proofs.Range.{fold-same, sum-le}
-use Rattle.numbers.proofs.Sums.{sum-more}
+use Rattle.numbers.proofs.Range.{fold-same, fold-split, sum-le, sum-ℕ}
 use Rattle.rules.specs.Closing.{weighing, weight, weighted}
 use Rattle.laws.specs.Beside.{weightOf}
 
@@ -60,7 +59,7 @@ module _ (E n : ℕ) (e : ℕ → ℕ) (fits : e 0 + e 1 ≤ E) where
       let others : sum (λ c. f (2 + c)) m ≡ r * sum (λ c. q (2 + c)) m + 0 * m =
       fold-same _+_ 0 _ (λ c. r * q (2 + c) + 0) m (λ c _. rw (le-ltb (2 + c) 2 (omega arith)) (omega arith)) ∙ sum-linear r 0 (λ c. q (2 + c)) m in
       let all : 2 + m ≡ n = omega arith in
-      two-first m (e 0) (e 1) r (q 0) (q 1) (sum (λ c. q (2 + c)) m) _ others ∙ sym (sum-more f 2 m) ∙ ap (sum f) all
+      two-first m (e 0) (e 1) r (q 0) (q 1) (sum (λ c. q (2 + c)) m) _ others ∙ sym (fold-split _+_ 0 sum-ℕ f 2 m) ∙ ap (sum f) all
 
   -- and the weights add up to E (n-2), as 000's weights add up to 1
   pub weights-add-up : 2 ≤ n → sum (weightOf E n e) n ≡ weight E n

@@ -4,6 +4,9 @@ use Prim.Native.Nat.{ℕ}
 use Rattle.rules.specs.Words.{settled}
 use Rattle.rules.specs.declared.Figure.{Figure}
 use Rattle.rules.specs.declared.Figure.the-variants as figure
+use Rattle.rules.specs.declared.Closing.{Closing}
+use Rattle.rules.specs.declared.ClosingAnswer.{ClosingAnswer}
+use Rattle.rules.specs.declared.ClosingAnswer.the-variants.{Closed, Refused}
 use Rattle.rules.specs.Machine.{End, waiting, broken, stopped}
 
 -- what is given, or "A refusal returns its number and no figure"
@@ -20,7 +23,7 @@ numberOf (refuses n) = n
 abbrev pub orRefused : {A : Type 0} → ℕ → Said A → Said A
 orRefused n x = settled n x (refuses n)
 
--- a figure (`rules::Figure`), or "absent"
+-- the recharge figure (`rules::Figure`), or "absent"
 pub data Measure : Type 0 where
   is : ℕ → Measure
   absent : Measure
@@ -29,6 +32,19 @@ abbrev pub figureSaid : Figure → Said Measure
 figureSaid (figure.Is x) = gives (is x)
 figureSaid figure.Absent = gives absent
 figureSaid (figure.Refused n) = refuses n
+
+-- the closing (`rules::ClosingAnswer`): weighted consumption and range with the recharge figure, or a refusal in place of all
+pub record Figured : Type 0 where
+  pub weighted : ℕ
+  pub range : ℕ
+  pub recharge : Said Measure
+
+abbrev pub figuredSaid : Closing → Figured
+figuredSaid x = record { weighted = x .weighted; range = x .range; recharge = figureSaid (x .recharge) }
+
+abbrev pub closingSaid : ClosingAnswer → Said Figured
+closingSaid (Closed x) = gives (figuredSaid x)
+closingSaid (Refused n) = refuses n
 
 -- where no field more is accepted: what is given where more bytes may go on; no field begins so, which is 8; or a whole field is refused
 abbrev pub endSaid : {A : Type 0} → A → End → Said A

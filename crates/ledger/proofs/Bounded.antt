@@ -3,7 +3,8 @@
 use mathlib.Core.Path.{_≡_, sym, ap, _∙_}
 use mathlib.Core.Bool.{Bool, true, false, cond}
 use mathlib.Core.List.{List}
-use Prim.Native.Nat.{ℕ, _+_, _*_, _%_, _≤_, _<_}
+use Prim.Native.Nat.{ℕ, _+_, _-_, _*_, _%_, _≤_, _<_}
+use native.Mathlib.Nat.{zero-add}
 use native.Mathlib.Omega.{arith}
 use borrow.Author.Tests.{leb-true, le-leb, lt-ltb, le-ltb}
 use lib.Dec.{leb, ltb, lit≤}
@@ -11,13 +12,13 @@ use lib.IntN.{ℤ, pos, negℤ, _+ℤ_}
 use lib.ListN.{length}
 use Rattle.rules.specs.Words.{sumℤ, between}
 use Rattle.numbers.specs.Whole.{Sized}
-use Rattle.numbers.proofs.Range.{fold-same}
-use Rattle.numbers.proofs.Sums.{sized-sum, between-sum}
+use Rattle.numbers.proofs.Range.{fold-same, fold-split, sum-ℤ}
+use Rattle.numbers.proofs.Sums.{sized-sum}
 use Rattle.numbers.proofs.Tests.{both, all-at, all-by}
 use Rattle.numbers.proofs.Whole.{weaken, sized-between, sized-upto}
 use Rattle.rules.specs.Shown.{inBounds, mostEnergy, mostDistance, mostOutside, ledgerNumbers}
 use Rattle.rules.specs.Bench.{mostPhases, mostCycles}
-use Rattle.ledger.specs.Row.{at, bounded, sumBy, energyIn, distanceIn, energyAll}
+use Rattle.ledger.specs.Row.{at, bounded, sumBy, energyIn, energyFrom, energyAll}
 
 -- by its place among the nine
 pub bounds-energy : (i : ℕ) (z : ℤ) → i % 9 < 4 → inBounds i z ≡ between (negℤ (pos mostEnergy)) (pos mostEnergy) z
@@ -64,11 +65,6 @@ module _ (l : List ℤ) (b : bounded l ≡ true) where
 
   -- the sums of a cycle
   module _ (c : ℕ) (h : c < mostCycles) where
-    pub distance-natural : between (pos 0) (pos (mostPhases * mostDistance)) (distanceIn l c) ≡ true
-    distance-natural =
-        between-sum mostDistance (λ k. at l (9 * c + 4 + k)) mostPhases
-        (λ k g. sym (bounds-distance (9 * c + 4 + k) (at l (9 * c + 4 + k)) (omega arith) (omega arith)) ∙ bounded-at (9 * c + 4 + k) (omega arith))
-
     pub energy-sized : Sized (mostPhases * mostEnergy) (energyIn l c)
     energy-sized = sized-sum mostEnergy (λ k. at l (9 * c + k)) mostPhases (λ k g. bounded-sized (9 * c + k) (omega arith))
 
@@ -79,3 +75,12 @@ module _ (l : List ℤ) (b : bounded l ≡ true) where
 -- a sum by strides, where its places are these
 pub sum-by-is : (l : List ℤ) (a d n : ℕ) (place : ℕ → ℕ) → ((k : ℕ) → k < n → a + d * k ≡ place k) → sumBy l a d n ≡ sumℤ (λ k. at l (place k)) n
 sum-by-is l a d n place h = fold-same _+ℤ_ (pos 0) _ _ n (λ k g. ap (at l) (h k g))
+
+-- all cycles are those from the first on; and the first n with those from n on
+pub energy-from-first : (l : List ℤ) → energyFrom l 0 ≡ energyAll l
+energy-from-first l = fold-same _+ℤ_ (pos 0) _ _ mostCycles (λ k g. ap (energyIn l) (zero-add k))
+
+pub energy-split : (l : List ℤ) (n : ℕ) → n ≤ mostCycles → sumℤ (energyIn l) n +ℤ energyFrom l n ≡ energyAll l
+energy-split l n h =
+    let all : n + (mostCycles - n) ≡ mostCycles = omega arith in
+    sym (fold-split _+ℤ_ (pos 0) sum-ℤ (energyIn l) n (mostCycles - n)) ∙ ap (sumℤ (energyIn l)) all

@@ -2,7 +2,7 @@
 -- Assumes nothing.
 use mathlib.Core.Bool.{Bool, cond, _&&_}
 use mathlib.Core.List.{List}
-use Prim.Native.Nat.{ℕ, _+_, _*_, _<_}
+use Prim.Native.Nat.{ℕ, _+_, _-_, _*_, _<_}
 use lib.Dec.{leb}
 use lib.IntN.{ℤ, pos}
 use lib.ListN.{length, getD}
@@ -51,7 +51,7 @@ sumBy l a d n = sumℤ (λ k. at l (a + d * k)) n
 pub record Within (a d n : ℕ) : Type 0 where
   pub within : (k : ℕ) → k < n → a + d * k < ledgerNumbers
 
--- energy, distance and outside count of cycle c; energy and outside count of all 64
+-- energy, distance and outside count of cycle c; energy and outside count of all 64; energy of those from cycle a on
 abbrev pub energyIn : List ℤ → ℕ → ℤ
 energyIn l c = sumℤ (λ k. at l (9 * c + k)) mostPhases
 
@@ -63,6 +63,9 @@ outsideIn l c = at l (9 * c + 8)
 
 abbrev pub energyAll : List ℤ → ℤ
 energyAll l = sumℤ (energyIn l) mostCycles
+
+abbrev pub energyFrom : List ℤ → ℕ → ℤ
+energyFrom l a = sumℤ (λ k. energyIn l (a + k)) (mostCycles - a)
 
 abbrev pub outsideAll : List ℤ → ℤ
 outsideAll l = sumℤ (outsideIn l) mostCycles

@@ -5,7 +5,7 @@ ghost use mathlib.Core.Path.{_≡_};
 ghost use mathlib.Core.Bool.{true};
 ghost use Prim.Native.Nat.{_≤_, _<_};
 ghost use Rattle.rules.specs.Bench.{mostCycles};
-ghost use Rattle.ledger.specs.Row.{bounded, sumBy, Within, energyIn, distanceIn, energyAll, outsideAll};
+ghost use Rattle.ledger.specs.Row.{bounded, sumBy, Within, energyIn, distanceIn, energyFrom, energyAll, outsideAll};
 
 // The sum of n numbers, the first at place a, each d places behind the one before.
 fn sum_by(ledger: &[i64], a: usize, d: usize, n: usize) -> i64
@@ -37,18 +37,27 @@ pub fn distance_in(ledger: &[i64], c: usize) -> i64
     sum_by(ledger, 9 * c + 4, 1, MOST_PHASES)
 }
 
+// The energy of the cycles from a on.
+pub fn energy_from(ledger: &[i64], a: usize) -> i64
+    requires { ⌜ (bounded (now ledger) ≡ true) × (a ≤ mostCycles) ⌝ }
+    ensures { λ r. ⌜ r ≡ energyFrom (now (ledger .entry)) a ⌝ }
+{
+    let mut sum: i64 = 0;
+    let rest = MOST_CYCLES - a;
+    let mut k = 0;
+    while k < rest {
+        sum += energy_in(ledger, a + k);
+        k += 1;
+    }
+    sum
+}
+
 // The energy of all cycles.
 pub fn energy_all(ledger: &[i64]) -> i64
     requires { ⌜ bounded (now ledger) ≡ true ⌝ }
     ensures { λ r. ⌜ r ≡ energyAll (now (ledger .entry)) ⌝ }
 {
-    let mut sum: i64 = 0;
-    let mut c: usize = 0;
-    while c < MOST_CYCLES {
-        sum += energy_in(ledger, c);
-        c += 1;
-    }
-    sum
+    energy_from(ledger, 0)
 }
 
 // The outside count of all cycles.

@@ -1,6 +1,7 @@
 // The closing figures at their limits, worked out in `stdout` from document 01's formulas.
 use rules::Amounts;
 use rules::Charge;
+use rules::ClosingAnswer;
 use rules::End;
 use rules::Figure;
 use rules::Tolerances;
@@ -28,13 +29,30 @@ fn say_number(n: u64) {
     }
 }
 
+fn say_refused(n: u32) {
+    say(b"refused ");
+    say_number(n as u64);
+}
+
 fn say_figure(figure: Figure) {
     match figure {
         Figure::Is(n) => say_number(n),
         Figure::Absent => say(b"-"),
-        Figure::Refused(n) => {
-            say(b"refused ");
-            say_number(n as u64);
+        Figure::Refused(n) => say_refused(n),
+    }
+}
+
+// The three figures of one closing, or the refusal in place of all.
+fn say_closing(answer: ClosingAnswer) {
+    match answer {
+        ClosingAnswer::Refused(n) => say_refused(n),
+        ClosingAnswer::Closed(x) => {
+            let recharge = x.recharge;
+            say_number(x.weighted);
+            say(b", ");
+            say_number(x.range);
+            say(b", ");
+            say_figure(recharge);
         }
     }
 }
@@ -90,11 +108,7 @@ fn say_all(label: &[u8], run: Run, amounts: Amounts, cycle: &[u8], ledger: &[i64
     let map = [0u64; 750];
     say(label);
     say(b": ");
-    say_figure(closing::weighted(run, amounts, cycle, ledger, &map));
-    say(b", ");
-    say_figure(closing::range(run, amounts, cycle, ledger, &map));
-    say(b", ");
-    say_figure(closing::recharge(run, amounts, cycle, ledger, &map));
+    say_closing(closing::close(run, amounts, cycle, ledger, &map));
     say(b"\n");
 }
 

@@ -17,10 +17,10 @@ use lib.Seq.{getD-set-same, getD-set-other, drop-set-lt}
 use Rattle.numbers.specs.Lists.{cleared}
 use Rattle.rules.specs.Words.{fold, sum, bit}
 use Rattle.numbers.proofs.Lists.{length-cleared, getD-cleared, drop-cleared}
-use Rattle.numbers.proofs.Range.{fold-same}
+use Rattle.numbers.proofs.Range.{fold-same, fold-split, sum-ℕ}
 use Rattle.map.specs.Map.{bitOf, isSet, mark, markedIf, opened, onesOf}
 use Rattle.map.proofs.Bit.{bit-or, bit-pow-same, bit-pow-other, ones-or, ones-bit, ones-bits}
-use Rattle.numbers.proofs.Sums.{sum-none, sum-grown, sum-more}
+use Rattle.numbers.proofs.Sums.{sum-none, sum-grown}
 use Rattle.rules.specs.Bench.{mostPositions}
 use Rattle.rules.specs.Shown.{mapWords}
 
@@ -109,7 +109,7 @@ ones-in-set (suc n) m h =
     let word : (n * 64 + k) / 64 ≡ n = omega arith in
     let place : (n * 64 + k) % 64 ≡ k = omega arith in
     rw (word, place) (sym (bit-set (bitOf w k) (mod-lt (w / 2 ^ k) (lit< tt))))))
-    ∙ sym (sum-more (λ p. bit (isSet m p)) (n * 64) 64)
+    ∙ sym (fold-split _+_ 0 sum-ℕ (λ p. bit (isSet m p)) (n * 64) 64)
     ∙ ap (sum (λ p. bit (isSet m p))) (sym (suc-mul n 64))
 
 pub ones-set : (m : List ℕ) → ((k : ℕ) → getD m k 0 < 2 ^ 64) → onesOf m ≡ sum (λ p. bit (isSet m p)) mostPositions

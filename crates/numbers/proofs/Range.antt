@@ -5,7 +5,7 @@ use mathlib.Core.Logic.{⊎-elim}
 use mathlib.Core.Path.{_≡_, refl, sym, ap, ap₂, _∙_}
 use Prim.Native.Nat.{ℕ, zero, suc, _+_, _*_, _≤_, _<_, zero-le}
 use native.Mathlib.Decide.{le-ind}
-use native.Mathlib.Nat.{le-refl, le-step, not-suc-le-zero, le-of-suc-le-suc, add-le-add, eq-or-lt-of-le, add-zero, zero-add, mul-add, mul-one}
+use native.Mathlib.Nat.{le-refl, le-step, not-suc-le-zero, le-of-suc-le-suc, add-le-add, eq-or-lt-of-le, add-zero, add-suc, zero-add, mul-add, mul-one}
 use native.Mathlib.Numerals.{add-one}
 use native.Mathlib.Omega.{arith}
 use lib.Dec.{T, eqb}
@@ -99,6 +99,19 @@ module _ {A : Type 0} (op : A → A → A) (z : A) (laws : Sum op z) where
   unfolding fold
   fold-none f zero h = refl
   fold-none f (suc n) h = ap₂ op (fold-none f n (λ k l. h k (le-step l))) (h n (le-refl (suc n))) ∙ laws .idr z
+
+  -- the first a terms, and c more
+  pub fold-split : (f : ℕ → A) (a c : ℕ) → fold op z f (a + c) ≡ op (fold op z f a) (fold op z (λ k. f (a + k)) c)
+  unfolding fold
+  fold-split f a zero = rw (add-zero a) (sym (laws .idr (fold op z f a)))
+  fold-split f a (suc c) =
+      let first = fold op z f a in
+      let more = fold op z (λ k. f (a + k)) c in
+      rw (add-suc a c)
+      (ap (λ (x : A). op x (f (a + c))) (fold-split f a c)
+      ∙ ap (op (op first more)) (sym (laws .idl (f (a + c))))
+      ∙ laws .swap first more z (f (a + c))
+      ∙ ap (λ (x : A). op x (op more (f (a + c)))) (laws .idr first))
 
   fold-add : (f g : ℕ → A) (n : ℕ) → fold op z (λ k. op (f k) (g k)) n ≡ op (fold op z f n) (fold op z g n)
   unfolding fold

@@ -4,20 +4,19 @@ use mathlib.Core.Bool.{Bool, true, false, _&&_, and-true, and-false}
 use mathlib.Core.Logic.{⊎-elim}
 use mathlib.Core.Path.{_≡_, refl, sym, ap, ap₂, _∙_}
 use Prim.Native.Nat.{ℕ, zero, suc, _+_, _*_, _^_, _≤_, _<_, zero-le}
-use native.Mathlib.Nat.{le-refl, le-step, le-of-suc-le-suc, not-suc-le-zero, eq-or-lt-of-le, suc-mul, add-zero, add-suc, add-assoc, add-le-add, mul-le-mul-right}
+use native.Mathlib.Nat.{le-refl, le-step, le-of-suc-le-suc, not-suc-le-zero, eq-or-lt-of-le, suc-mul, add-le-add, mul-le-mul-right}
 use native.Mathlib.Numerals.{add-one}
 use native.Mathlib.Omega.{arith}
-use borrow.Author.Tests.{le-leb, ne-eqb}
+use borrow.Author.Tests.{ne-eqb}
 use lib.Dec.{T, ltb, eqb, eqb·suc-suc}
 use lib.IntN.{ℤ, pos, _+ℤ_}
-use lib.Signed.{leZ}
 use mir.Syntax.{Width}
 use mir.Val.{SFits, hbits, toZ, ofZ}
-use Rattle.rules.specs.Words.{fold, sum, sumℤ, bit, allBelow, between}
+use Rattle.rules.specs.Words.{fold, sum, sumℤ, bit, allBelow}
 use Rattle.numbers.specs.Whole.{Sized}
 use Rattle.numbers.proofs.Range.{fold-same, fold-more, fold-none, sum-ℕ}
-use Rattle.numbers.proofs.Tests.{both, bit-most}
-use Rattle.numbers.proofs.Whole.{of-nat, weaken, sized-add, le-add}
+use Rattle.numbers.proofs.Tests.{bit-most}
+use Rattle.numbers.proofs.Whole.{of-nat, weaken, sized-add}
 use Rattle.numbers.proofs.Signed.{sfits, read}
 
 pub sum-none : (f : ℕ → ℕ) (n : ℕ) → ((k : ℕ) → k < n → f k ≡ 0) → sum f n ≡ 0
@@ -39,14 +38,6 @@ sum-grown f g q x (suc n) l e h =
     omega arith)
     (eq-or-lt-of-le (le-of-suc-le-suc l))
 
--- the first a terms, and c more
-pub sum-more : (f : ℕ → ℕ) (a c : ℕ) → sum f (a + c) ≡ sum f a + sum (λ k. f (a + k)) c
-unfolding fold
-sum-more f a zero = rw (add-zero a) (sym (add-zero (sum f a)))
-sum-more f a (suc c) =
-    rw (add-suc a c)
-    (ap (λ (x : ℕ). x + f (a + c)) (sum-more f a c) ∙ add-assoc (sum f a) (sum (λ k. f (a + k)) c) (f (a + c)))
-
 -- a sum of natural numbers, as a signed number
 pub sum-pos : (f : ℕ → ℕ) (n : ℕ) → sumℤ (λ k. pos (f k)) n ≡ pos (sum f n)
 unfolding fold
@@ -64,16 +55,6 @@ pub sized-sum : (b : ℕ) (f : ℕ → ℤ) (n : ℕ) → ((k : ℕ) → k < n �
 unfolding fold
 sized-sum b f zero h = of-nat (omega arith)
 sized-sum b f (suc n) h = weaken (omega (arith, suc-mul n b)) (sized-add (sized-sum b f n (λ k l. h k (le-step l))) (h n (le-refl (suc n))))
-
--- n terms, each from 0 to b
-pub between-sum : (b : ℕ) (f : ℕ → ℤ) (n : ℕ) → ((k : ℕ) → k < n → between (pos 0) (pos b) (f k) ≡ true)
-    → between (pos 0) (pos (n * b)) (sumℤ f n) ≡ true
-unfolding fold
-between-sum b f zero h = le-leb 0 (0 * b) zero-le
-between-sum b f (suc n) h =
-    let (lo, hi) = both (leZ (pos 0) (sumℤ f n)) _ (between-sum b f n (λ k l. h k (le-step l))) in
-    let (lo′, hi′) = both (leZ (pos 0) (f n)) _ (h n (le-refl (suc n))) in
-    rw (suc-mul n b, le-add (pos 0) (sumℤ f n) (pos 0) (f n) lo lo′, le-add (sumℤ f n) (pos (n * b)) (f n) (pos b) hi hi′)
 
 -- ---- a loop that forms the sum of n terms f 0, f 1, .. in the bits of a signed number of width w
 

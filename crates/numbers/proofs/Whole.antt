@@ -70,9 +70,6 @@ le-up a b e = leb-true (up a + down b) (up b + down a) (sym (le-is a b) ∙ e)
 pub up-le : (a b : ℤ) → up a + down b ≤ up b + down a → leZ a b ≡ true
 up-le a b h = le-is a b ∙ le-leb (up a + down b) (up b + down a) h
 
-pub le-add : (a b c d : ℤ) → leZ a b ≡ true → leZ c d ≡ true → leZ (a +ℤ c) (b +ℤ d) ≡ true
-le-add a b c d h k = up-le (a +ℤ c) (b +ℤ d) (omega (arith, le-up a b h, le-up c d k, sum-is a c, sum-is b d))
-
 -- the two tests of order
 leb-not : (a b : ℕ) → leb b a ≡ not (ltb a b)
 leb-not a b = go (ltb a b) refl

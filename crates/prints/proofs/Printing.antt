@@ -11,7 +11,6 @@ use lib.Dec.{leb, eqb}
 use lib.IntN.{ℤ}
 use lib.ListN.{length, length-drop}
 use Rattle.rules.specs.Words.{unless}
-use Rattle.numbers.proofs.Tests.{not-refused}
 use Rattle.rules.specs.Cycle.{mostBytes}
 use Rattle.rules.specs.Figures.{figuresBy, figuresTold}
 use Rattle.rules.specs.Regular.{plan}
@@ -26,15 +25,13 @@ use Rattle.records.specs.Stage.{Stage}
 use Rattle.records.proofs.Joined.{Long, Holds}
 use Rattle.reader.specs.Answers.{mayEnd, endingOf}
 use Rattle.reading.specs.declared.Reading.{Reading}
-use Rattle.reading.specs.Answers.{startedReading, readingOf, isReading, readGround}
-use Rattle.opening.specs.Answers.{unopened, runOf}
-use Rattle.figures.specs.declared.Found.{Found}
-use Rattle.figures.specs.Figured.{foundOf}
+use Rattle.reading.specs.Answers.{startedReading, readingOf}
+use Rattle.opening.specs.Answers.{runOf}
+use Rattle.figures.specs.Figured.{figuresOf}
 use Rattle.figures.proofs.OfRun.{figures-of-run}
 use Rattle.desk.specs.Feeding.{Laid, Consumed, feedOf, mostFields, Lent}
-use Rattle.desk.proofs.Arriving.{worked, good, after, after-fields, after-few, after-late, after-early, after-ground, Arrived, fed-is, alike}
-use Rattle.desk.proofs.Good.{reads-on}
-use Rattle.prints.specs.Printed.{nextField, refuseText, foundOn, textBy, closeText}
+use Rattle.desk.proofs.Arriving.{worked, after, after-fields, after-few, after-late, after-early, after-ground, Arrived, fed-is, alike}
+use Rattle.prints.specs.Printed.{nextField, refuseText, textBy, closeText}
 use Rattle.prints.proofs.Texts.{by-end}
 
 -- the number of the next field, of which there are not too many
@@ -92,16 +89,11 @@ module _ (lent : Lent) where
     abbrev reading : Reading
     reading = readingOf (startedReading (u .vehicle) (runOf u)) u
 
-    in-limits : behindTolerances ≤ u .place → isReading reading ≡ true
-    unfolding readGround
-    in-limits e = not-refused 0 _ _ (reads-on unopened room l m u (good room l m long w) e) .0
-
-    figures-are : behindTolerances ≤ u .place → foundOn (laid w) .figures ≡ figuresTold (lists w .state)
+    figures-are : behindTolerances ≤ u .place → figuresOf (laid w .desk .reading) (laid w .memory .ledger) ≡ figuresTold (lists w .state)
     figures-are e =
         let t = lists w .state in
-        ap (λ (x : Laid). foundOn x .figures) (after-late room l m long w e)
-        ∙ ap (λ (b : List ℕ). foundOf reading b (u .run .memory .ledger) (u .run .memory .map) .figures) (good room l m long w .held)
-        ∙ ap (λ (f : Found). f .figures) (figures-of-run (plan (u .cycle) (u .tolerances)) l m reading (holds .reached e) (in-limits e))
+        ap (λ (x : Laid). figuresOf (x .desk .reading) (x .memory .ledger)) (after-late room l m long w e)
+        ∙ figures-of-run (plan (u .cycle) (u .tolerances)) l m reading (holds .reached e)
         ∙ (λ j. figuresBy (sym (holds .vehicle) j) (sym (holds .passed) j) (sym (holds .amounts) j) (plan (sym (holds .cycle) j) (sym (holds .tolerances) j)) (t .holding .samples))
 
     -- by whether the run has started, and whether bytes are left

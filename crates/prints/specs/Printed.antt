@@ -5,15 +5,16 @@ use mathlib.Core.List.{List}
 use mathlib.Core.Path.{_≡_}
 use Prim.Native.Nat.{ℕ, _+_}
 use lib.Dec.{leb, ltb}
+use lib.IntN.{ℤ}
 use lib.ListN.{length}
 use Rattle.rules.specs.Words.{unless, settled}
 use Rattle.laws.specs.Answers.{Said, gives, refuses}
 use Rattle.reader.specs.Answers.{endingOf}
 use Rattle.sheet.specs.Overlaid.{overlaid, mostSheet}
 use Rattle.rules.specs.Text.{sheetText, refusalText}
-use Rattle.figures.specs.declared.Found.{Found}
-use Rattle.figures.specs.Figured.{foundOf}
-use Rattle.desk.specs.Feeding.{Laid, lentCycle, deskGround}
+use Rattle.reading.specs.declared.Reading.{Reading}
+use Rattle.figures.specs.Figured.{figuresOf}
+use Rattle.desk.specs.Feeding.{Laid, deskGround}
 
 -- the text stands at the front of the lines out, where they are long enough, and r is its length
 abbrev pub Prints : List ℕ → List ℕ → ℕ → List ℕ → Type 0
@@ -29,13 +30,13 @@ nextField fields = cond (ltb fields 18_446_744_073_709_551_615) (fields + 1) fie
 abbrev pub refuseText : Laid → ℕ → List ℕ
 refuseText x number = refusalText number (nextField (x .desk .fields))
 
--- the figures of the reading on the desk
-abbrev pub foundOn : Laid → Found
-foundOn x = foundOf (x .desk .reading) (lentCycle x) (x .memory .ledger) (x .memory .map)
+-- the sheet of the reading on the desk
+abbrev pub sheetOn : Reading → List ℤ → List ℕ
+sheetOn r l = sheetText (figuresOf r l)
 
 -- by whether the input may end here
 abbrev pub textBy : Said (Unit {0}) → Laid → List ℕ
-textBy (gives _) x = sheetText (foundOn x .figures)
+textBy (gives _) x = sheetOn (x .desk .reading) (x .memory .ledger)
 textBy (refuses number) x = refuseText x number
 
 -- where the input ends, with so many bytes of an unfinished field left over: 1 and 2 before all else, then 15, then the sheet

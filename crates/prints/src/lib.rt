@@ -1,21 +1,20 @@
 // What the report prints of a record: its sheet, or the refusal with the number of its field.
 use desk::Desk;
 use desk::desk_refusal;
-use figures::figures_of;
+use figures::figures_on;
 use reader::Ending;
 use reader::ended;
 use sheet::refusal_line;
 use sheet::sheet_lines;
 ghost use mathlib.Core.Path.{_≡_};
-ghost use Prim.Native.Nat.{_≤_};
 ghost use lib.Dec.{leb};
 ghost use lib.ListN.{length};
 ghost use Rattle.rules.specs.Words.{unless};
 ghost use Rattle.sheet.specs.Overlaid.{overlaid, mostSheet};
 ghost use Rattle.rules.specs.Text.{refusalText};
-ghost use Rattle.reader.specs.Answers.{mayEnd};
+ghost use Rattle.figures.specs.Figured.{Figurable};
 ghost use Rattle.desk.specs.Feeding.{laidOf};
-ghost use Rattle.prints.specs.Printed.{nextField, textBy, closeText};
+ghost use Rattle.prints.specs.Printed.{nextField, sheetOn, closeText};
 
 // "K is the number of accepted fields .. plus one".
 fn next_field(fields: u64) -> u64
@@ -39,23 +38,18 @@ pub fn refuse(desk: Desk, number: u32, out: &mut [u8]) -> usize
     refusal_line(number, next_field(desk.fields), &mut *out)
 }
 
-// A record that was read to its end.
-fn print_run(desk: Desk, room: &[u8], ledger: &[i64], map: &[u64], out: &mut [u8]) -> usize
-    requires { ⌜ desk .opening .cycle ≤ length (now room) ⌝ }
-    ensures { λ r. ⌜
-        r ≡ unless 0 (leb mostSheet (length (now (out .entry))))
-        (length (textBy mayEnd (laidOf desk (now (room .entry)) (now (ledger .entry)) (now (map .entry)))))
-        ⌝ }
+// A record that was read to its end, on a desk without 1 or 2.
+fn print_run(desk: Desk, ledger: &[i64], out: &mut [u8]) -> usize
+    requires { ⌜ Figurable (desk .reading) (now ledger) ⌝ }
+    ensures { λ r. ⌜ r ≡ unless 0 (leb mostSheet (length (now (out .entry)))) (length (sheetOn (desk .reading) (now (ledger .entry)))) ⌝ }
     ensures { λ _. ⌜
         now (out .exit)
         ≡ unless (now (out .entry)) (leb mostSheet (length (now (out .entry))))
-        (overlaid (now (out .entry)) 0 (textBy mayEnd (laidOf desk (now (room .entry)) (now (ledger .entry)) (now (map .entry)))))
+        (overlaid (now (out .entry)) 0 (sheetOn (desk .reading) (now (ledger .entry))))
         ⌝ }
 {
-    let opening = desk.opening;
     let reading = desk.reading;
-    let found = figures_of(reading, &room[..opening.cycle], ledger, map);
-    let figures = found.figures;
+    let figures = figures_on(reading, ledger);
     sheet_lines(figures, &mut *out)
 }
 
@@ -86,6 +80,6 @@ pub fn close(
     let ending = ended(started, left);
     match ending {
         Ending::Refused(number) => refuse(desk, number, &mut *out),
-        Ending::Whole => print_run(desk, room, ledger, map, &mut *out),
+        Ending::Whole => print_run(desk, ledger, &mut *out),
     }
 }

@@ -187,6 +187,26 @@ fn grounds() {
     try_field(b"read, unknown tag", r, &UNKNOWN[..]);
 }
 
+// What `figures_of` tests before it forms the figures.
+fn try_figures(what: &[u8], r: Reading, cycle: &[u8]) {
+    let ledger = [0i64; 576];
+    let map = [0u64; 750];
+    let x = figures::figures_of(r, cycle, &ledger[..], &map[..]);
+    say(what, x.refusal);
+}
+
+fn figures() {
+    let r = reading_with(2560, 0);
+    let beyond = reading_with(2560, 4_000_001);
+    try_figures(
+        b"figures, state out of bounds, other cycle",
+        beyond,
+        &OTHER_CYCLE[..],
+    );
+    try_figures(b"figures, other cycle", r, &OTHER_CYCLE[..]);
+    try_figures(b"figures, own cycle", r, &CYCLE[..]);
+}
+
 // Blocks of one sample: one that begins at sample 4,000,000, one at 0, one with a speed of 1501, another vehicle's.
 fn counts() {
     let full = reading_with(4_000_000, 4_000_000);
@@ -206,6 +226,7 @@ fn main() {
     openings();
     grounds();
     counts();
+    figures();
     of_judge::starts();
     of_judge::samples();
     of_judge::blocks();

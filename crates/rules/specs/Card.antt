@@ -6,7 +6,7 @@ use Prim.Native.Nat.{ℕ}
 use lib.Dec.{ltb, eqb}
 use lib.IntN.{ℤ, pos, negℤ}
 use lib.ListN.{length, getD}
-use Rattle.rules.specs.Words.{every, eqZ}
+use Rattle.rules.specs.Words.{every, eqZ, sameBytes}
 use Rattle.rules.specs.Bench.{Moment, Tolerances, End, none, stop, limit, drawn}
 use Rattle.rules.specs.Cycle.{valid}
 use Rattle.rules.specs.Band.{inside}
@@ -14,7 +14,14 @@ use Rattle.rules.specs.Question.{question}
 use Rattle.rules.specs.Course.{Layout, Course, course, closedWhere, endingWhere, outside, counted, judged}
 use Rattle.rules.specs.Parts.{phasePart, finished, cycles, partEnergy}
 use Rattle.rules.specs.Regular.{own, positionOf, regularLayout, regularRule, regular}
-use Rattle.rules.specs.Closing.{weighted, closingRefusal}
+use Rattle.rules.specs.declared.Charge.{Charge}
+use Rattle.rules.specs.declared.Charge.the-variants.{Absent as absent, Wh as wh}
+use Rattle.rules.specs.declared.Figure.{Figure}
+use Rattle.rules.specs.declared.Figure.the-variants.{Is, Absent}
+use Rattle.rules.specs.declared.Figure.the-variants as figure
+use Rattle.rules.specs.declared.ClosingAnswer.{ClosingAnswer}
+use Rattle.rules.specs.declared.ClosingAnswer.the-variants.{Closed, Refused}
+use Rattle.rules.specs.Closing.{weighted, together, closingBy}
 
 abbrev pub sameEnd : End → End → Bool
 sameEnd none none = true
@@ -56,8 +63,8 @@ pub data Row : Type 0 where
   draws : ℕ → ℤ → ℤ → Row
   -- E, the first two energies, the rates: W, of as many cycles as there are rates
   weighs : ℕ → ℕ → ℕ → ℕ → List ℕ → ℕ → Row
-  -- E, the energies and the distances of the finished cycles: the number that the closing is refused, or 0
-  closes : ℤ → List ℤ → List ℤ → ℕ → Row
+  -- E, the energies and the distances of the finished cycles, F, the recharge: the closing
+  closes : ℤ → List ℤ → List ℤ → ℤ → Charge → ClosingAnswer → Row
   -- how many samples later a share is closed, how many samples can count, n offered, m counted: the shares closed, the end
   shuts : ℕ → ℕ → ℕ → ℕ → ℕ → End → Row
   -- a cycle of two phases, one second each, and shares of energy 1: cycle c, phase k of it, m shares closed: the phase's energy, whether it is finished
@@ -70,8 +77,15 @@ flat : ℕ → List ℕ
 unfolding bytes
 flat v = bytes (record { a = v; b = v; c = v })
 
+-- three energies of 1, and three distances of 100: every q is 1
+ones : List ℤ
+ones = pos 1 ∷ pos 1 ∷ pos 1 ∷ []
+
+hundreds : List ℤ
+hundreds = pos 100 ∷ pos 100 ∷ pos 100 ∷ []
+
 unfoldable pub card : List Row
-unfolding points flat bytes
+unfolding points flat bytes ones hundreds
 card =
     band (points 0 100 0) 10 0 30 (20 ∷ 80 ∷ []) (19 ∷ 81 ∷ [])
     ∷ band (points 0 100 0) 20 5 30 (45 ∷ 130 ∷ []) (44 ∷ 131 ∷ [])
@@ -96,13 +110,18 @@ card =
     ∷ drive 40 30 39 stop 79 1 (0 ∷ 40 ∷ 0 ∷ [])
     ∷ drive 20 30 39 stop 79 1 (20 ∷ 40 ∷ 0 ∷ [])
     -- not on the card: the closing's order, each number with the next one's fault there too; E = e_1 + e_2 is good
-    ∷ closes (pos 9) (pos 0 ∷ pos 0 ∷ []) (pos 0 ∷ pos 0 ∷ []) 10
-    ∷ closes (pos 9) (pos 1 ∷ pos 1 ∷ pos 0 ∷ []) (pos 1 ∷ pos 1 ∷ pos 0 ∷ []) 11
-    ∷ closes (pos 1) (pos 1 ∷ pos 1 ∷ pos 1 ∷ []) (pos 1 ∷ pos 1 ∷ pos 0 ∷ []) 11
-    ∷ closes (pos 2) (pos 1 ∷ pos 1 ∷ pos 1 ∷ []) (pos 1 ∷ pos 1 ∷ pos 0 ∷ []) 12
-    ∷ closes (pos 2) (pos 1 ∷ pos 1 ∷ pos 1 ∷ []) (pos 100 ∷ pos 100 ∷ pos 101 ∷ []) 12
-    ∷ closes (pos 2) (pos 1 ∷ pos 1 ∷ pos 1 ∷ []) (pos 100 ∷ pos 100 ∷ pos 100 ∷ []) 13
-    ∷ closes (pos 8) (pos 1 ∷ pos 1 ∷ pos 1 ∷ []) (pos 100 ∷ pos 100 ∷ pos 100 ∷ []) 0
+    ∷ closes (pos 9) (pos 0 ∷ pos 0 ∷ []) (pos 0 ∷ pos 0 ∷ []) (pos 0) absent (Refused 10)
+    ∷ closes (pos 9) (pos 1 ∷ pos 1 ∷ pos 0 ∷ []) (pos 1 ∷ pos 1 ∷ pos 0 ∷ []) (pos 0) absent (Refused 11)
+    ∷ closes (pos 1) ones (pos 1 ∷ pos 1 ∷ pos 0 ∷ []) (pos 0) absent (Refused 11)
+    ∷ closes (pos 2) ones (pos 1 ∷ pos 1 ∷ pos 0 ∷ []) (pos 0) absent (Refused 12)
+    ∷ closes (pos 2) ones (pos 100 ∷ pos 100 ∷ pos 101 ∷ []) (pos 0) absent (Refused 12)
+    ∷ closes (pos 2) ones hundreds (pos 0) absent (Refused 13)
+    ∷ closes (pos 2) ones hundreds (negℤ (pos 2)) (wh 1) (Refused 13)
+    -- not on the card: absent before 14; 14, 12 and the figure; each beside weighted consumption and range
+    ∷ closes (pos 8) ones hundreds (negℤ (pos 8)) absent (Closed (together 1 1 Absent))
+    ∷ closes (pos 8) ones hundreds (negℤ (pos 8)) (wh 1) (Closed (together 1 1 (figure.Refused 14)))
+    ∷ closes (pos 8) ones hundreds (negℤ (pos 7)) (wh 2) (Closed (together 1 1 (figure.Refused 12)))
+    ∷ closes (pos 8) ones hundreds (negℤ (pos 7)) (wh 1) (Closed (together 1 1 (Is 8_000_000)))
     -- not on the card: a share counts when it is closed, and the limit is reached when all are
     ∷ shuts 0 40 40 40 40 limit
     ∷ shuts 0 40 39 39 39 none
@@ -139,8 +158,18 @@ twoPhases = regularLayout (2 ∷ 0 ∷ 1 ∷ 0 ∷ 2 ∷ 0 ∷ 0 ∷ 0 ∷ 0 ∷
 same : Bool → Bool → Bool
 same x y = cond x y (not y)
 
+-- a closing, as numbers of which the first of each says the case
+figureNumbers : Figure → List ℕ
+figureNumbers (Is x) = 1 ∷ x ∷ []
+figureNumbers Absent = 2 ∷ []
+figureNumbers (figure.Refused n) = 3 ∷ n ∷ []
+
+numbersOf : ClosingAnswer → List ℕ
+numbersOf (Closed x) = 1 ∷ x .weighted ∷ x .range ∷ figureNumbers (x .recharge)
+numbersOf (Refused n) = 2 ∷ n ∷ []
+
 unfoldable pub holds : Row → Bool
-unfolding bytes tolerances fastFrom limited twoPhases same
+unfolding bytes tolerances fastFrom limited twoPhases same figureNumbers numbersOf
 holds (band q j w s in-speeds out-speeds) =
     let y = bytes q in
     let test = inside y (tolerances s w 0) (positionOf y j) in
@@ -152,7 +181,9 @@ holds (drive j s a e m c os) =
     eqb (counted y x 120) m && sameEnd (endingWhere y 120 m) e && eqb (cycles (y .layout) (closedWhere y 120 m)) c && o 0 && o 1 && o 2
 holds (draws u i z) = eqZ (drawn (record { speed = 0; voltage = u; current = i })) z
 holds (weighs E e₁ e₂ n qs W) = eqb (weighted E n (λ c. getD (e₁ ∷ e₂ ∷ []) c 0) (λ c. getD qs c 0)) W
-holds (closes E es ds k) = eqb (closingRefusal E (length es) (λ c. getD es c (pos 0)) (λ c. getD ds c (pos 0))) k
+holds (closes E es ds F charge x) =
+    let answer = closingBy E (length es) (λ c. getD es c (pos 0)) (λ c. getD ds c (pos 0)) F charge in
+    sameBytes 5 (numbersOf answer) (numbersOf x)
 holds (shuts ahead most n m k e) = let c = limited ahead most in eqb (closedWhere c n m) k && sameEnd (endingWhere c n m) e
 holds (gathers c k m e done) =
     let p = phasePart twoPhases c k in

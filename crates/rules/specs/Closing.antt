@@ -13,7 +13,11 @@ pub use Rattle.rules.specs.declared.Charge.{Charge}
 pub use Rattle.rules.specs.declared.Charge.the-variants.{Absent as absent, Wh as wh}
 pub use Rattle.rules.specs.declared.Amounts.{Amounts}
 pub use Rattle.rules.specs.declared.Figure.{Figure}
-pub use Rattle.rules.specs.declared.Figure.the-variants.{Is, Absent, Refused}
+pub use Rattle.rules.specs.declared.Figure.the-variants.{Is, Absent}
+use Rattle.rules.specs.declared.Figure.the-variants as figure
+pub use Rattle.rules.specs.declared.Closing.{Closing}
+pub use Rattle.rules.specs.declared.ClosingAnswer.{ClosingAnswer}
+pub use Rattle.rules.specs.declared.ClosingAnswer.the-variants.{Closed, Refused}
 
 -- "within 10^13 either way"; "recharge in Wh (4), 1..2,000,000"
 abbrev pub mostTransfer : ℕ
@@ -97,23 +101,21 @@ module _ (E : ℤ) (n : ℕ) (e d : ℕ → ℤ) where
 
 -- ---- as the sheet has them
 
--- "A closing refusal gives `refused N` in place of `weighted`, a recharge refusal in place of `ac`": the number of a refusal, or the figure
-abbrev pub figureOr : ℕ → Figure → Figure
-figureOr n f = settled n f (Refused n)
+-- document 02, L6: the figures of one closing
+abbrev pub together : ℕ → ℕ → Figure → Closing
+together W R recharge = record { weighted = W; range = R; recharge = recharge }
 
--- n finished cycles of energies e and distances d, the whole energy E
-module _ (E : ℤ) (n : ℕ) (e d : ℕ → ℤ) where
-  abbrev pub weightedBy : Figure
-  weightedBy = figureOr (closingRefusal E n e d) (Is (weightedFigure E n e d))
+-- n finished cycles of energies e and distances d, the whole energy E; with F and the recharge
+module _ (E : ℤ) (n : ℕ) (e d : ℕ → ℤ) (F : ℤ) where
+  -- "A missing 7 gives the recharge figure "absent"."; 14 and 12, or the figure
+  abbrev pub rechargeBy : Charge → Figure
+  rechargeBy absent = Absent
+  rechargeBy (wh A) = let refusal = rechargeRefusal E n e d F A in settled refusal (Is (rechargeFigure E n e d F A)) (figure.Refused refusal)
 
-  abbrev pub rangeBy : Figure
-  rangeBy = figureOr (closingRefusal E n e d) (Is (rangeFigure E n e d))
+  -- document 02, L6: "a recharge refusal still shows weighted consumption and range"
+  abbrev pub closingFigures : Charge → Closing
+  closingFigures charge = together (weightedFigure E n e d) (rangeFigure E n e d) (rechargeBy charge)
 
-  -- "A missing 7 gives the recharge figure "absent".": with F and the recharge
-  abbrev pub chargedBy : ℤ → Charge → Figure
-  chargedBy F absent = Absent
-  chargedBy F (wh A) = figureOr (rechargeRefusal E n e d F A) (Is (rechargeFigure E n e d F A))
-
-  -- "Recharge: whatever closing refuses, then absent, 14, 12."
-  abbrev pub rechargeBy : ℤ → Charge → Figure
-  rechargeBy F charge = figureOr (closingRefusal E n e d) (chargedBy F charge)
+  -- "Recharge: whatever closing refuses, then absent, 14, 12."; document 02, L6: "Make them one operation."
+  abbrev pub closingBy : Charge → ClosingAnswer
+  closingBy charge = let refusal = closingRefusal E n e d in settled refusal (Closed (closingFigures charge)) (Refused refusal)

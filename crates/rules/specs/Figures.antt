@@ -11,7 +11,7 @@ use Rattle.rules.specs.Bench.{mostCycles}
 use Rattle.rules.specs.Course.{outside, counted, judged, closed, ending}
 use Rattle.rules.specs.Parts.{rowPart, cycles, partEnergy, partDistance, energy}
 use Rattle.rules.specs.Regular.{Plan, plan, courseOf, momentIn}
-use Rattle.rules.specs.Closing.{wholeEnergy, weightedBy, rangeBy, rechargeBy}
+use Rattle.rules.specs.Closing.{ClosingAnswer, wholeEnergy, closingBy}
 use Rattle.rules.specs.Record.{Told}
 pub use Rattle.rules.specs.declared.Figures.{Figures}
 
@@ -36,12 +36,15 @@ module _ (p : Plan) (xs : List Moment) where
   abbrev pub outsideTotal : ℕ
   outsideTotal = sum (λ c. outside (courseOf p) (momentIn xs) c (judged (courseOf p) (momentIn xs) (length xs))) mostCycles
 
+  -- the closing, with these amounts
+  abbrev pub closingIn : Amounts → ClosingAnswer
+  closingIn a = closingBy (wholeEnergy (a .before) (courseOf p) (momentIn xs) (length xs)) cyclesIn energies distances (a .after) (a .charge)
+
 -- "`run` vehicle number; `end` none, stop or limit with the number of counted samples; `cycles` n; `outside` ..; `passed` blocks passed over;
 -- `drawn` energy of counted samples; `weighted`; `range`; `ac` figure or `-`"
 abbrev pub figuresBy : List ℕ → ℕ → Amounts → Plan → List Moment → Figures
 figuresBy vehicle passed a p xs =
     let s = momentIn xs in
-    let E = wholeEnergy (a .before) (courseOf p) s (length xs) in
     record {
       vehicle = vehicle;
       end = ending (courseOf p) s (length xs);
@@ -50,9 +53,7 @@ figuresBy vehicle passed a p xs =
       outside = pos (outsideTotal p xs);
       passed = passed;
       drawn = energy (courseOf p .share) s (closedIn p xs);
-      weighted = weightedBy E (cyclesIn p xs) (energies p xs) (distances p xs);
-      range = rangeBy E (cyclesIn p xs) (energies p xs) (distances p xs);
-      ac = rechargeBy E (cyclesIn p xs) (energies p xs) (distances p xs) (a .after) (a .charge);
+      closing = closingIn p xs a;
     }
 
 -- of what a record tells

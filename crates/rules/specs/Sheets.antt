@@ -7,8 +7,11 @@ use lib.Dec.{eqb}
 use lib.IntN.{ℤ, pos, negℤ}
 use Rattle.rules.specs.declared.End.{End}
 use Rattle.rules.specs.declared.End.the-variants.{None as none, Stop as stop, Limit as limit}
-use Rattle.rules.specs.declared.Figure.{Figure}
-use Rattle.rules.specs.declared.Figure.the-variants.{Is, Absent, Refused}
+use Rattle.rules.specs.declared.Figure.the-variants.{Is, Absent}
+use Rattle.rules.specs.declared.Figure.the-variants as figure
+use Rattle.rules.specs.declared.ClosingAnswer.{ClosingAnswer}
+use Rattle.rules.specs.declared.ClosingAnswer.the-variants.{Closed, Refused}
+use Rattle.rules.specs.Closing.{together}
 use Rattle.rules.specs.Text.{Figures, sheetText, refusalText}
 
 pub data Row : Type 0 where
@@ -21,8 +24,8 @@ pub data Row : Type 0 where
 abbrev number : List ℕ
 number = 76 ∷ 84 ∷ 69 ∷ 83 ∷ 84 ∷ 86 ∷ 69 ∷ 72 ∷ 48 ∷ 48 ∷ 48 ∷ 48 ∷ 48 ∷ 48 ∷ 48 ∷ 48 ∷ 49 ∷ []
 
-figures : End → ℕ → ℕ → ℕ → ℕ → ℤ → Figure → Figure → Figure → Figures
-figures end counted cycles outside passed drawn weighted range ac = record {
+figures : End → ℕ → ℕ → ℕ → ℕ → ℤ → ClosingAnswer → Figures
+figures end counted cycles outside passed drawn closing = record {
   vehicle = number;
   end = end;
   counted = counted;
@@ -30,9 +33,7 @@ figures end counted cycles outside passed drawn weighted range ac = record {
   outside = pos outside;
   passed = passed;
   drawn = drawn;
-  weighted = weighted;
-  range = range;
-  ac = ac;
+  closing = closing;
 }
 
 -- run LTESTVEH000000001
@@ -44,7 +45,7 @@ runLine =
 unfoldable pub rows : List Row
 unfolding figures
 rows =
-    sheet (figures none 120 3 0 0 (pos 86_400_000) (Is 720_000) (Is 16) (Is 937_500)) (
+    sheet (figures none 120 3 0 0 (pos 86_400_000) (Closed (together 720_000 16 (Is 937_500)))) (
     runLine
     -- end none 120
     ∷ (101 ∷ 110 ∷ 100 ∷ 32 ∷ 110 ∷ 111 ∷ 110 ∷ 101 ∷ 32 ∷ 49 ∷ 50 ∷ 48 ∷ 10 ∷ [])
@@ -63,7 +64,7 @@ rows =
     -- ac 937500
     ∷ (97 ∷ 99 ∷ 32 ∷ 57 ∷ 51 ∷ 55 ∷ 53 ∷ 48 ∷ 48 ∷ 10 ∷ [])
     ∷ [])
-    ∷ sheet (figures stop 79 1 40 2 (negℤ (pos 720_000)) (Is 1) (Is 2_000_000) Absent) (
+    ∷ sheet (figures stop 79 1 40 2 (negℤ (pos 720_000)) (Closed (together 1 2_000_000 Absent))) (
     runLine
     -- end stop 79
     ∷ (101 ∷ 110 ∷ 100 ∷ 32 ∷ 115 ∷ 116 ∷ 111 ∷ 112 ∷ 32 ∷ 55 ∷ 57 ∷ 10 ∷ [])
@@ -82,7 +83,7 @@ rows =
     -- ac -
     ∷ (97 ∷ 99 ∷ 32 ∷ 45 ∷ 10 ∷ [])
     ∷ [])
-    ∷ sheet (figures none 80 2 0 10 (pos 1) (Refused 10) (Refused 10) (Refused 10)) (
+    ∷ sheet (figures none 80 2 0 10 (pos 1) (Refused 10)) (
     runLine
     -- end none 80
     ∷ (101 ∷ 110 ∷ 100 ∷ 32 ∷ 110 ∷ 111 ∷ 110 ∷ 101 ∷ 32 ∷ 56 ∷ 48 ∷ 10 ∷ [])
@@ -97,7 +98,7 @@ rows =
     -- refused 10
     ∷ (114 ∷ 101 ∷ 102 ∷ 117 ∷ 115 ∷ 101 ∷ 100 ∷ 32 ∷ 49 ∷ 48 ∷ 10 ∷ [])
     ∷ [])
-    ∷ sheet (figures limit 2_560 64 9 0 (pos 99) (Is 5) (Is 6) (Refused 14)) (
+    ∷ sheet (figures limit 2_560 64 9 0 (pos 99) (Closed (together 5 6 (figure.Refused 14)))) (
     runLine
     -- end limit 2560
     ∷ (101 ∷ 110 ∷ 100 ∷ 32 ∷ 108 ∷ 105 ∷ 109 ∷ 105 ∷ 116 ∷ 32 ∷ 50 ∷ 53 ∷ 54 ∷ 48 ∷ 10 ∷ [])

@@ -1,15 +1,18 @@
 -- 'The report program': what is printed, in bytes.
 -- Assumes nothing.
-use mathlib.Core.Bool.{Bool, true, false, not, cond}
+use mathlib.Core.Bool.{cond}
 use mathlib.Core.List.{List, [], _∷_, _++_}
 use Prim.Native.Nat.{ℕ, zero, suc, _+_, _/_, _%_}
 use lib.Dec.{ltb}
 use lib.IntN.{ℤ, pos, negsuc}
-use Rattle.rules.specs.Words.{unless}
 use Rattle.rules.specs.declared.End.{End}
 use Rattle.rules.specs.declared.End.the-variants.{None as none, Stop as stop, Limit as limit}
 use Rattle.rules.specs.declared.Figure.{Figure}
-use Rattle.rules.specs.declared.Figure.the-variants.{Is, Absent, Refused}
+use Rattle.rules.specs.declared.Figure.the-variants.{Is, Absent}
+use Rattle.rules.specs.declared.Figure.the-variants as figure
+use Rattle.rules.specs.declared.Closing.{Closing}
+use Rattle.rules.specs.declared.ClosingAnswer.{ClosingAnswer}
+use Rattle.rules.specs.declared.ClosingAnswer.the-variants.{Closed, Refused}
 use Rattle.rules.specs.Record.{Sheet, told, refusedAt}
 use Rattle.rules.specs.Figures.{figuresTold}
 pub use Rattle.rules.specs.declared.Figures.{Figures}
@@ -56,17 +59,9 @@ endLine e counted =
 abbrev pub refusedWord : List ℕ
 refusedWord = 114 ∷ 101 ∷ 102 ∷ 117 ∷ 115 ∷ 101 ∷ 100 ∷ []
 
--- "`ac` figure or `-`"; "A closing refusal gives `refused N` in place of `weighted`, a recharge refusal in place of `ac`"
-unfoldable pub figureLine : List ℕ → Figure → List ℕ
-figureLine word (Is n) = line word (digits n)
-figureLine word Absent = line word (45 ∷ [])
-figureLine word (Refused n) = line refusedWord (digits n)
-
--- "each ends the list"
-abbrev pub isRefused : Figure → Bool
-isRefused (Is n) = false
-isRefused Absent = false
-isRefused (Refused n) = true
+-- `refused N`, which "ends the list"
+abbrev pub refusedLine : ℕ → List ℕ
+refusedLine n = line refusedWord (digits n)
 
 -- ---- the sheet
 
@@ -91,18 +86,34 @@ drawnWord = 100 ∷ 114 ∷ 97 ∷ 119 ∷ 110 ∷ []
 unfoldable pub countLines : Figures → List ℕ
 countLines f = line outsideWord (signed (f .outside)) ++ line passedWord (digits (f .passed)) ++ line drawnWord (signed (f .drawn))
 
--- "`weighted`; `range`; `ac` figure or `-`"; a refusal "ends the list"
-unfoldable pub closingLines : Figures → List ℕ
-closingLines f =
-    let weighted : List ℕ = 119 ∷ 101 ∷ 105 ∷ 103 ∷ 104 ∷ 116 ∷ 101 ∷ 100 ∷ [] in
-    let range : List ℕ = 114 ∷ 97 ∷ 110 ∷ 103 ∷ 101 ∷ [] in
-    let ac : List ℕ = 97 ∷ 99 ∷ [] in
-    figureLine weighted (f .weighted)
-    ++ unless [] (not (isRefused (f .weighted))) (figureLine range (f .range) ++ unless [] (not (isRefused (f .range))) (figureLine ac (f .ac)))
+-- weighted, range, ac
+abbrev pub weightedWord : List ℕ
+weightedWord = 119 ∷ 101 ∷ 105 ∷ 103 ∷ 104 ∷ 116 ∷ 101 ∷ 100 ∷ []
+
+abbrev pub rangeWord : List ℕ
+rangeWord = 114 ∷ 97 ∷ 110 ∷ 103 ∷ 101 ∷ []
+
+abbrev pub rechargeWord : List ℕ
+rechargeWord = 97 ∷ 99 ∷ []
+
+-- "`ac` figure or `-`"; "a recharge refusal in place of `ac`"
+unfoldable pub rechargeLine : Figure → List ℕ
+rechargeLine (Is n) = line rechargeWord (digits n)
+rechargeLine Absent = line rechargeWord (45 ∷ [])
+rechargeLine (figure.Refused n) = refusedLine n
+
+-- "`weighted`; `range`; `ac`"
+unfoldable pub closedLines : Closing → List ℕ
+closedLines x = line weightedWord (digits (x .weighted)) ++ line rangeWord (digits (x .range)) ++ rechargeLine (x .recharge)
+
+-- "A closing refusal gives `refused N` in place of `weighted`"
+abbrev pub closingLines : ClosingAnswer → List ℕ
+closingLines (Closed x) = closedLines x
+closingLines (Refused n) = refusedLine n
 
 -- all of it, "Lines: `run` .. `ac`"
 abbrev pub sheetText : Figures → List ℕ
-sheetText f = headLines f ++ countLines f ++ closingLines f
+sheetText f = headLines f ++ countLines f ++ closingLines (f .closing)
 
 -- "A refused field gives only `refused N field K`"
 unfoldable pub refusalText : ℕ → ℕ → List ℕ

@@ -48,6 +48,19 @@ pub enum Figure {
     Refused(u32),
 }
 
+// The closing figures of one run: weighted consumption in mWh/km, range in metres, the recharge figure in mWh/km.
+pub struct Closing {
+    pub weighted: u64,
+    pub range: u64,
+    pub recharge: Figure,
+}
+
+// The closing figures together, or the number of the refusal that stands in place of all.
+pub enum ClosingAnswer {
+    Closed(Closing),
+    Refused(u32),
+}
+
 // What the report prints of a record that was read to its end.
 pub struct Figures {
     pub vehicle: [u8; 17],
@@ -57,7 +70,5 @@ pub struct Figures {
     pub outside: i64,
     pub passed: u32,
     pub drawn: i64,
-    pub weighted: Figure,
-    pub range: Figure,
-    pub ac: Figure,
+    pub closing: ClosingAnswer,
 }

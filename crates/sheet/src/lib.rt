@@ -26,7 +26,8 @@ pub fn sheet_lines(f: Figures, out: &mut [u8]) -> usize
     }
     let head = lines::head_lines(&mut *out, 0, f);
     let body = lines::count_lines(&mut *out, head, f);
-    lines::closing_lines(&mut *out, body, f)
+    let closing = f.closing;
+    lines::closing_lines(&mut *out, body, closing)
 }
 
 // The line of a refused field, likewise.

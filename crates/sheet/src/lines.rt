@@ -3,14 +3,15 @@
 use super::text::put_number;
 use super::text::put_signed;
 use super::text::put_text;
+use rules::Closing;
+use rules::ClosingAnswer;
 use rules::End;
 use rules::Figure;
 use rules::Figures;
-ghost use mathlib.Core.Path.{_≡_};
 ghost use Prim.Native.Nat.{_+_, _≤_};
 ghost use lib.ListN.{length};
 ghost use Rattle.sheet.specs.Overlaid.{Wrote};
-ghost use Rattle.rules.specs.Text.{digits, signed, line, endLine, isRefused, figureLine, headLines, countLines, closingLines};
+ghost use Rattle.rules.specs.Text.{digits, signed, line, endLine, refusedLine, headLines, countLines, rechargeLine, closedLines, closingLines};
 
 fn text_line(out: &mut [u8], at: usize, word: &[u8], value: &[u8]) -> usize
     requires { ⌜ (at + 32 ≤ length (now out)) × (length (now word) ≤ 8) × (length (now value) ≤ 17) ⌝ }
@@ -49,24 +50,22 @@ fn end_line(out: &mut [u8], at: usize, end: End, counted: u32) -> usize
     }
 }
 
-fn figure_line(out: &mut [u8], at: usize, word: &[u8], figure: Figure) -> usize
-    requires { ⌜ (at + 32 ≤ length (now out)) × (length (now word) ≤ 8) ⌝ }
-    ensures { λ r. ⌜ Wrote 32 (now (out .entry)) at (figureLine (now (word .entry)) figure) (now (out .exit)) r ⌝ }
+// `refused N`, after which no line follows.
+fn refused_line(out: &mut [u8], at: usize, n: u32) -> usize
+    requires { ⌜ at + 32 ≤ length (now out) ⌝ }
+    ensures { λ r. ⌜ Wrote 32 (now (out .entry)) at (refusedLine n) (now (out .exit)) r ⌝ }
 {
-    match figure {
-        Figure::Is(n) => number_line(&mut *out, at, word, n),
-        Figure::Absent => text_line(&mut *out, at, word, b"-"),
-        Figure::Refused(n) => number_line(&mut *out, at, b"refused", n as u64),
-    }
+    number_line(&mut *out, at, b"refused", n as u64)
 }
 
-fn is_refused(figure: Figure) -> bool
-    ensures { λ r. ⌜ r ≡ isRefused figure ⌝ }
+fn recharge_line(out: &mut [u8], at: usize, figure: Figure) -> usize
+    requires { ⌜ at + 32 ≤ length (now out) ⌝ }
+    ensures { λ r. ⌜ Wrote 32 (now (out .entry)) at (rechargeLine figure) (now (out .exit)) r ⌝ }
 {
     match figure {
-        Figure::Is(_) => false,
-        Figure::Absent => false,
-        Figure::Refused(_) => true,
+        Figure::Is(n) => number_line(&mut *out, at, b"ac", n),
+        Figure::Absent => text_line(&mut *out, at, b"ac", b"-"),
+        Figure::Refused(n) => refused_line(&mut *out, at, n),
     }
 }
 
@@ -90,20 +89,23 @@ pub fn count_lines(out: &mut [u8], at: usize, f: Figures) -> usize
     signed_line(&mut *out, passed, b"drawn", f.drawn)
 }
 
-pub fn closing_lines(out: &mut [u8], at: usize, f: Figures) -> usize
+// The three figures of one closing.
+fn closed_lines(out: &mut [u8], at: usize, x: Closing) -> usize
     requires { ⌜ at + 96 ≤ length (now out) ⌝ }
-    ensures { λ r. ⌜ Wrote 96 (now (out .entry)) at (closingLines f) (now (out .exit)) r ⌝ }
+    ensures { λ r. ⌜ Wrote 96 (now (out .entry)) at (closedLines x) (now (out .exit)) r ⌝ }
 {
-    let weighted = f.weighted;
-    let range = f.range;
-    let ac = f.ac;
-    let first = figure_line(&mut *out, at, b"weighted", weighted);
-    if is_refused(weighted) {
-        return first;
+    let recharge = x.recharge;
+    let first = number_line(&mut *out, at, b"weighted", x.weighted);
+    let second = number_line(&mut *out, first, b"range", x.range);
+    recharge_line(&mut *out, second, recharge)
+}
+
+pub fn closing_lines(out: &mut [u8], at: usize, closing: ClosingAnswer) -> usize
+    requires { ⌜ at + 96 ≤ length (now out) ⌝ }
+    ensures { λ r. ⌜ Wrote 96 (now (out .entry)) at (closingLines closing) (now (out .exit)) r ⌝ }
+{
+    match closing {
+        ClosingAnswer::Closed(x) => closed_lines(&mut *out, at, x),
+        ClosingAnswer::Refused(n) => refused_line(&mut *out, at, n),
     }
-    let second = figure_line(&mut *out, first, b"range", range);
-    if is_refused(range) {
-        return second;
-    }
-    figure_line(&mut *out, second, b"ac", ac)
 }

@@ -1,206 +1,227 @@
 -- `consumption::close` meets its contract: the code tests in the order of the chain of refusals.
 -- Assumes nothing.
-use mathlib.Core.Bool.{Bool, true, false, not, _&&_, false≢true}
+use mathlib.Core.Bool.{Bool, true, false, not}
 use mathlib.Core.Path.{_≡_, refl, sym, ap, ap₂, subst, _∙_}
-use Prim.Native.Nat.{ℕ}
+use Prim.Native.Nat.{ℕ, suc, _+_, _*_, _^_, _≤_, _<_}
 use native.Mathlib.Omega.{arith}
-use borrow.Author.Needs.{needs}
-use borrow.Author.Tests.{not-true, not-false}
-use lib.IntN.{ℤ, pos, natAbs, _+ℤ_}
+use borrow.Author.Tests.{le-leb, not-true, not-false}
+use lib.IntN.{ℤ, pos, _+ℤ_}
 use lib.Signed.{leZ, ltZ}
 use mir.Syntax.{w64}
-use mir.Val.{SFits}
-use Rattle.rules.specs.Words.{allBelow, unless}
-use Rattle.numbers.proofs.Tests.{both, pass, stop, tests}
-use Rattle.numbers.proofs.Whole.{sized-add, le-not}
+use mir.Val.{SFits, toZ}
+use Rattle.rules.specs.Words.{allBelow, unless, up}
+use Rattle.numbers.specs.Whole.{Sized}
+use Rattle.numbers.proofs.Tests.{pass, stop, tests, settled-answer}
+use Rattle.numbers.proofs.Whole.{of-nat, weaken, sized-add, le-not, abs-is}
 use Rattle.numbers.proofs.Signed.{sfits, read}
-use Rattle.rules.specs.Closing.{isRate, rateOf, closingRefusal}
+use Rattle.rules.specs.Closing.{isRate, rateOf, closingRefusal, closingFigures}
+use Rattle.laws.specs.Answers.{gives, refuses, figuredSaid, closingSaid}
+use Rattle.laws.proofs.Answers.{closing-or}
 use Rattle.laws.specs.Beside.{mostWhole}
-use Rattle.ledger.specs.Row.{energyIn, distanceIn}
-use Rattle.ledger.proofs.Bounded.{energy-sized}
-use Rattle.consumption.specs.Figures.{Closable, closingIn}
-use Rattle.consumption.proofs.Weights.{Positive, positive, Cast, cast, machine, some, closed-refused}
+use Rattle.ledger.specs.Row.{energyIn, distanceIn, energyAll}
+use Rattle.ledger.proofs.Bounded.{energy-all-sized}
+use Rattle.consumption.specs.declared.Gathered.{Gathered}
+use Rattle.consumption.specs.Figures.{closingOn, gatheredIn, Weighable, finishedBy}
+use Rattle.consumption.proofs.Weights.{machine, mostDrawn, InLimits, in-limits, Positive}
+use Rattle.consumption.proofs.Gathers.{Tested, energy-at, finished-energy, some, weighable, finished-is}
 use Rattle.consumption.proofs.close.Statement.{statement}
 use Rattle.consumption.proofs.close.Tie as tie
 
-refused-requires : tie.Need-refused-requires
-refused-requires c κs = search needs
+-- E, e_c and q_c
+abbrev E : tie.Start → ℤ
+E s = s .args .a .before +ℤ energyAll (s .args .ledger .now)
+
+abbrev e : tie.Start → ℕ → ℤ
+e s = energyIn (s .args .ledger .now)
+
+abbrev q : tie.Start → ℕ → ℕ
+q s = rateOf (energyIn (s .args .ledger .now)) (distanceIn (s .args .ledger .now))
+
+-- a refusal of the chain is the answer
+refused-so : (s : tie.Start) {k : ℕ} → suc k ≡ closingRefusal (E s) (s .args .n) (e s) (distanceIn (s .args .ledger .now))
+    → refuses (suc k) ≡ closingSaid (closingOn (s .args .ledger .now) (s .args .n) (s .args .a))
+refused-so s {k} h =
+    let figures = closingFigures (E s) (s .args .n) (e s) (distanceIn (s .args .ledger .now)) (s .args .a .after) (s .args .a .charge) in
+    settled-answer refuses (gives (figuredSaid figures)) h (λ (z : suc k ≡ 0). omega arith) ∙ sym (closing-or (closingRefusal (E s) (s .args .n) (e s) (distanceIn (s .args .ledger .now))) figures)
+
+limits : (s : tie.Start) → InLimits (s .args .a)
+limits s = in-limits (s .args .a) (s .pre .2)
 
 returns : tie.Need-returns
 unfolding closingRefusal
-returns c =
-    let a = c .before .before .args in
-    c .refused .ensures ∙ closed-refused (a .ledger .now) (a .n) (a .total) 9 (stop _ (omega tests))
+returns c = refused-so (c .before) (stop _ (omega tests))
 
-all-drawn-requires : tie.Need-all-drawn-requires
-all-drawn-requires c κs = search needs
+gather-cycles-requires : tie.Need-gather-cycles-requires
+gather-cycles-requires c κs = let s = c .before in (s .pre .0, omega arith, s .pre .1)
 
-refused-requires-2 : tie.Need-refused-requires-2
-refused-requires-2 c κs = search needs
+abbrev entry : tie.After-gather-cycles → tie.Start
+entry c = c .before .before
 
 returns-2 : tie.Need-returns-2
 unfolding closingRefusal
 returns-2 c =
-    let a = c .before .before .before .before .args in
-    c .refused2 .ensures
-    ∙ closed-refused (a .ledger .now) (a .n) (a .total) 10
-    (pass 10 (omega tests) (stop _ (sym (c .before .before .all-drawn .ensures) ∙ not-true _ (c .before .if2 .taken))))
+    let g = c .before .before in
+    refused-so (entry g) (pass 10 (omega tests) (stop _ (sym (ap (λ (x : Gathered). x .drawn) (g .gather-cycles .ensures)) ∙ not-true _ (c .if2 .taken))))
 
--- what each test tells once it is passed
-drawn : (c : tie.Else2) → (let a = c .before .before .before .args in allBelow (a .n) (λ k. leZ (pos 1) (energyIn (a .ledger .now) k)) ≡ true)
-drawn c = sym (c .before .all-drawn .ensures) ∙ not-false _ (c .if2 .left)
+-- each finished cycle has drawn energy
+drawn : (c : tie.Else2) → (let s = entry (c .before .before) in allBelow (s .args .n) (λ k. leZ (pos 1) (e s k)) ≡ true)
+drawn c = sym (ap (λ (x : Gathered). x .drawn) (c .before .before .gather-cycles .ensures)) ∙ not-false _ (c .if2 .left)
 
-energy-in-requires : tie.Need-energy-in-requires
-energy-in-requires c κs = search needs
+-- before E is formed
+abbrev found : tie.After-struct-told → tie.After-gather-cycles
+found c = c .before .before .before
 
-energy-in-requires-2 : tie.Need-energy-in-requires-2
-energy-in-requires-2 c κs = search needs
+abbrev begin : tie.After-struct-told → tie.Start
+begin c = entry (found c)
 
--- the sum of the first two energies
-module _ (c : tie.After-energy-in2) where
-  abbrev sum : ℤ
-  sum = machine (c .before .energy-in .result) +ℤ machine (c .energy-in2 .result)
+before-read : (c : tie.After-struct-told) → machine (begin c .args .a .before) ≡ begin c .args .a .before
+before-read c = read (sfits w64 tt (limits (begin c) .before))
+
+whole-energy-requires : tie.Need-whole-energy-requires
+whole-energy-requires c κs =
+    let s = begin c in
+    let l = s .args .ledger .now in
+    let finished = ap (λ (x : Gathered). pos (x .energy)) (found c .gather-cycles .ensures) ∙ finished-energy l (s .args .n) (s .pre .0) (s .pre .1) (drawn (c .before)) in
+    ((s .pre .0, s .pre .1), (finished, rw (before-read c) (limits s .before)))
+
+-- E, and the sum of the first two energies
+module _ (c : tie.After-struct-known2) where
+  abbrev formed : tie.After-whole-energy
+  formed = c .before
 
   abbrev start : tie.Start
-  start = c .before .before .before .before .before
+  start = begin (formed .before)
 
-  abbrev e : ℕ → ℤ
-  e = energyIn (start .args .ledger .now)
+  whole-sized : Sized mostWhole (E start)
+  whole-sized = weaken (omega arith) (sized-add (limits start .before) (energy-all-sized (start .args .ledger .now) (start .pre .0)))
 
-  sum-is : sum ≡ e 0 +ℤ e 1
-  sum-is =
-      ap₂ _+ℤ_
-      (read {w = w64} (record { sfits = c .before .energy-in .ok }) ∙ c .before .energy-in .ensures)
-      (read {w = w64} (record { sfits = c .energy-in2 .ok }) ∙ c .energy-in2 .ensures)
+  total-is : formed .whole-energy .result ≡ E start
+  total-is = formed .whole-energy .ensures ∙ ap (λ (z : ℤ). z +ℤ energyAll (start .args .ledger .now)) (before-read (formed .before))
 
-  sum-fits : SFits w64 sum
-  sum-fits =
-      let sized = energy-sized (start .args .ledger .now) (start .pre .0) in
-      subst (SFits w64) (sym sum-is) (sfits w64 tt (sized-add (sized 0 (omega arith)) (sized 1 (omega arith))))
+  total-read : machine (formed .whole-energy .result) ≡ E start
+  total-read = read (record { sfits = formed .whole-energy .ok }) ∙ total-is
+
+  abbrev gathered : Gathered
+  gathered = found (formed .before) .gather-cycles .result
+
+  abbrev two : ℕ
+  two = gathered .first .energy + gathered .second .energy
+
+  first-at : (k : ℕ) → k < 3 → Positive mostDrawn (e start k)
+  first-at k h =
+      let three : 3 ≤ start .args .n = found (formed .before) .before .if1 .left in
+      energy-at (start .args .ledger .now) (start .args .n) (start .pre .0) (start .pre .1) (drawn (formed .before .before)) k (omega arith)
+
+  two-is : two ≡ up (e start 0) + up (e start 1)
+  two-is = ap (λ (x : Gathered). x .first .energy + x .second .energy) (found (formed .before) .gather-cycles .ensures)
+
+  two-most : two ≤ 2 * mostDrawn
+  two-most = omega (arith, two-is, first-at 0 (omega arith) .most, first-at 1 (omega arith) .most)
+
+  two-fits : SFits w64 (pos two)
+  two-fits = sfits w64 tt (of-nat two-most)
+
+  signed : pos two ≡ e start 0 +ℤ e start 1
+  signed = ap pos two-is ∙ ap₂ _+ℤ_ (first-at 0 (omega arith) .is) (first-at 1 (omega arith) .is)
 
   -- the code's test
-  tested : leZ (e 0 +ℤ e 1) (start .args .total) ≡ not (ltZ (machine (start .args .total)) (machine sum))
-  tested =
-      le-not (start .args .total) (e 0 +ℤ e 1)
-      ∙ ap not (ap₂ ltZ (sym (read (start .fits .total))) (sym (read sum-fits ∙ sum-is)))
+  tested : leZ (e start 0 +ℤ e start 1) (E start) ≡ not (ltZ (machine (formed .whole-energy .result)) (toZ w64 two))
+  tested = le-not (E start) (e start 0 +ℤ e start 1) ∙ ap not (ap₂ ltZ (sym total-read) (sym (read two-fits ∙ signed)))
 
 add-if3 : tie.Need-add-if3
-add-if3 c = sum-fits c
+add-if3 c = record { fits = omega (arith, two-most c) }
 
-refused-requires-3 : tie.Need-refused-requires-3
-refused-requires-3 c κs = search needs
+cast-if3 : tie.Need-cast-if3
+cast-if3 c = two-fits c
 
 returns-3 : tie.Need-returns-3
 unfolding closingRefusal
 returns-3 c =
-    let on = c .before .before in
-    let a = start on .args in
-    c .refused3 .ensures
-    ∙ closed-refused (a .ledger .now) (a .n) (a .total) 10
-    (pass 10 (omega tests) (pass 11 (drawn (on .before .before)) (stop _ (tested on ∙ ap not (c .before .if3 .taken)))))
+    let on = c .before in
+    refused-so (start on) (pass 10 (omega tests) (pass 11 (drawn (formed on .before .before)) (stop _ (tested on ∙ ap not (c .if3 .taken)))))
 
-fits : (c : tie.Else3) → (
-    let a = c .before .before .before .before .before .before .args in
-    leZ (energyIn (a .ledger .now) 0 +ℤ energyIn (a .ledger .now) 1) (a .total) ≡ true)
+fits : (c : tie.Else3) → (let s = start (c .before) in leZ (e s 0 +ℤ e s 1) (E s) ≡ true)
 fits c = tested (c .before) ∙ ap not (c .if3 .left)
 
-all-rated-requires : tie.Need-all-rated-requires
-all-rated-requires c κs =
-    let p = c .before .before .before .before .before .before .pre in
-    (p .0, p .1, drawn (c .before .before .before))
-
-refused-requires-4 : tie.Need-refused-requires-4
-refused-requires-4 c κs = search needs
-
--- a cycle that has no distance and one whose rate is beyond its limits are refused alike
-joined : (k : ℕ) (s t : Bool) (rest : ℕ) → (s && t) ≡ false → k ≡ unless k s (unless k t rest)
+-- a cycle without a rate is refused 12, whether it has moved or not
+unrated : (moved : Bool) (rest : ℕ) {rated : Bool} → rated ≡ false → 12 ≡ unless 12 moved (unless 12 rated rest)
 unfolding unless
-joined k true true rest e = absurd (false≢true (sym e))
-joined k true false rest e = refl
-joined k false t rest e = refl
+unrated true rest e = stop _ e
+unrated false rest e = refl
+
+rated-is : (c : tie.After-struct-known3) → (let s = start (c .before .before) in
+    gathered (c .before .before) .rated ≡ allBelow (s .args .n) (λ k. isRate (q s k)))
+rated-is c = ap (λ (x : Gathered). x .rated) (found (formed (c .before .before) .before) .gather-cycles .ensures)
 
 returns-4 : tie.Need-returns-4
 unfolding closingRefusal
 returns-4 c =
-    let on = c .before .before .before in
-    let a = start (on .before) .args in
-    c .refused4 .ensures
-    ∙ closed-refused (a .ledger .now) (a .n) (a .total) 11
-    (pass 10 (omega tests)
-    (pass 11 (drawn (on .before .before .before))
-    (pass 11 (fits on)
-    (joined 12 _ _ _ (sym (c .before .before .all-rated .ensures) ∙ not-true _ (c .before .if4 .taken))))))
+    let on = c .before .before in
+    let known = on .before in
+    refused-so (start known)
+    (pass 10 (le-leb 3 _ (found (formed known .before) .before .if1 .left))
+    (pass 11 (drawn (formed known .before .before))
+    (pass 11 (fits on) (unrated _ _ (sym (rated-is (c .before)) ∙ not-true _ (c .if4 .taken))))))
 
 -- nothing up to 12 is refused
 module _ (c : tie.Else4) where
-  abbrev begin : tie.Start
-  begin = start (c .before .before .before)
+  abbrev known : tie.After-struct-known2
+  known = c .before .before .before
 
-  abbrev moved : Bool
-  moved = allBelow (begin .args .n) (λ k. ltZ (pos 0) (distanceIn (begin .args .ledger .now) k))
+  abbrev s : tie.Start
+  s = start known
 
-  abbrev rated : Bool
-  rated = allBelow (begin .args .n) (λ k. isRate (rateOf (energyIn (begin .args .ledger .now)) (distanceIn (begin .args .ledger .now)) k))
+  nothing-refused : Tested (s .args .ledger .now) (s .args .n) (E s)
+  nothing-refused = record {
+    bounded = s .pre .0;
+    most = s .pre .1;
+    three = found (formed known .before) .before .if1 .left;
+    drawn = drawn (formed known .before .before);
+    fits = fits (c .before .before);
+    rated = sym (rated-is (c .before)) ∙ not-false _ (c .if4 .left);
+  }
 
-  moved-and-rated : (moved ≡ true) × (rated ≡ true)
-  moved-and-rated = both moved rated (sym (c .before .all-rated .ensures) ∙ not-false _ (c .if4 .left))
+  gathered-is : gathered known ≡ gatheredIn (s .args .ledger .now) (s .args .n)
+  gathered-is = found (formed known .before) .gather-cycles .ensures
 
-  closable : Closable (begin .args .ledger .now) (begin .args .n)
-  closable =
-      record {
-        bounded = begin .pre .0;
-        most = begin .pre .1;
-        three = omega arith;
-        drawn = drawn (c .before .before .before .before .before);
-        moved = moved-and-rated .0;
-        rated = moved-and-rated .1;
-      }
+  after-read : machine (s .args .a .after) ≡ s .args .a .after
+  after-read = read (sfits w64 tt (limits s .after))
 
-  abbrev first-two : ℤ
-  first-two = energyIn (begin .args .ledger .now) 0 +ℤ energyIn (begin .args .ledger .now) 1
-
-  energy-fits : leZ first-two (begin .args .total) ≡ true
-  energy-fits = fits (c .before .before)
-
-  -- the whole energy is a natural number
-  natural : Positive mostWhole (begin .args .total)
-  natural = positive _ _ (begin .pre .2) (some (begin .args .ledger .now) (begin .args .n) closable (begin .args .total) energy-fits)
-
-  total-cast : Cast (machine (begin .args .total)) (begin .args .total)
-  total-cast = cast tt (read (begin .fits .total)) natural
-
-  total-is : pos (natAbs (machine (begin .args .total))) ≡ begin .args .total
-  total-is = ap pos (total-cast .is) ∙ natural .is
-
-cast-finish : tie.Need-cast-finish
-cast-finish c = total-cast c .fits
+-- what `finish` asks of what is gathered and of E
+abbrev Asks : ℕ → Gathered → ℤ → Type 0
+Asks n g z = Weighable g n (up z) × (leZ (pos 1) z ≡ true) × Sized mostWhole z
 
 finish-requires : tie.Need-finish-requires
 finish-requires c κs =
-    (closable c, (omega (arith, total-cast c .is, natural c .most), ap (leZ (first-two c)) (total-is c) ∙ energy-fits c))
+    let on = c .before in
+    let n = s on .args .n in
+    let t = nothing-refused on in
+    let sized = whole-sized (known on) in
+    let small : up (E (s on)) < 2 ^ 51 = omega (arith, abs-is (E (s on)), sized .size) in
+    let by-rules = subst (λ (g : Gathered). Asks n g (E (s on))) (sym (gathered-is on)) (weighable t small, some t, sized) in (
+      subst (Asks n (gathered (known on))) (sym (total-read (known on))) by-rules,
+      (rw (after-read on) (limits (s on) .after), limits (s on) .charge),
+    )
 
 returns-5 : tie.Need-returns-5
 returns-5 c =
-    let a = begin (c .before) .args in
-    c .finish .ensures ∙ ap (closingIn (a .ledger .now) (a .n)) (total-is (c .before))
+    let on = c .before .before in
+    let a = s on .args in
+    c .finish .ensures
+    ∙ (λ i. finishedBy (gathered-is on i) (a .n) (total-read (known on) i) (after-read on i) (a .a .charge))
+    ∙ finished-is (nothing-refused on) (a .a .after) (a .a .charge)
 
 pub close-spec : {M : Type 1} → statement M
 close-spec =
     tie.close
     (tie.spec
-    refused-requires
     returns
-    all-drawn-requires
-    refused-requires-2
+    gather-cycles-requires
     returns-2
-    energy-in-requires
-    energy-in-requires-2
+    whole-energy-requires
     add-if3
-    refused-requires-3
+    cast-if3
     returns-3
-    all-rated-requires
-    refused-requires-4
     returns-4
-    cast-finish
     finish-requires
     returns-5)

@@ -1,14 +1,10 @@
--- No doubt about `consumption`: each contract has one answer, and those of the operations ask nothing.
+-- No doubt about `consumption`: its contract has one answer.
 -- Assumes nothing.
 use mathlib.Core.Path.{refl}
 use Rattle.consumption.proofs.close
-use Rattle.consumption.proofs.recharged
-use Rattle.laws.proofs.Answers.{same-figure}
+use Rattle.laws.proofs.Answers.{same-closing}
 use Rattle.demands.specs.Calls.{OneAnswer}
 use Rattle.demands.proofs.NoDoubt.{same}
 
 pub close-one-answer : OneAnswer close.ended close.Reads.Learnt
-close-one-answer κs a r r′ w w′ p q = (same p q, refl)
-
-pub recharged-one-answer : OneAnswer recharged.ended recharged.Reads.Learnt
-recharged-one-answer κs a r r′ w w′ p q = (same-figure r r′ (same p q), refl)
+close-one-answer κs a r r′ w w′ p q = (same-closing r r′ (same p q), refl)

@@ -6,6 +6,7 @@ use Rattle.judge.proofs.sample
 use Rattle.judge.proofs.block
 use Rattle.judge.proofs.shown
 use Rattle.judge.proofs.totals
+use Rattle.judge.proofs.sums_of
 use Rattle.laws.specs.Answers.{Said}
 use Rattle.state.specs.declared.Run.{Run}
 use Rattle.state.specs.State.{Left}
@@ -42,3 +43,6 @@ totals-one-answer κs a r r′ w w′ p q = (same-totals r r′ (same p q), refl
 
 pub totals-asks-nothing : AsksNothing totals.ended totals.Reads.Asked
 totals-asks-nothing κs a = tt
+
+pub sums-of-one-answer : OneAnswer sums_of.ended sums_of.Reads.Learnt
+sums-of-one-answer κs a r r′ w w′ p q = (same p q, refl)

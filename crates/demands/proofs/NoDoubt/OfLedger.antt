@@ -5,6 +5,7 @@ use Rattle.ledger.proofs.whole.is_bounded
 use Rattle.ledger.proofs.row.add_sample
 use Rattle.ledger.proofs.totals.energy_in
 use Rattle.ledger.proofs.totals.distance_in
+use Rattle.ledger.proofs.totals.energy_from
 use Rattle.ledger.proofs.totals.energy_all
 use Rattle.ledger.proofs.totals.outside_all
 use Rattle.ledger.proofs.whole.clear_ledger
@@ -25,6 +26,9 @@ energy-in-one-answer κs a r r′ w w′ p q = (same p q, refl)
 
 pub distance-in-one-answer : OneAnswer distance_in.ended distance_in.Reads.Learnt
 distance-in-one-answer κs a r r′ w w′ p q = (same p q, refl)
+
+pub energy-from-one-answer : OneAnswer energy_from.ended energy_from.Reads.Learnt
+energy-from-one-answer κs a r r′ w w′ p q = (same p q, refl)
 
 pub energy-all-one-answer : OneAnswer energy_all.ended energy_all.Reads.Learnt
 energy-all-one-answer κs a r r′ w w′ p q = (same p q, refl)

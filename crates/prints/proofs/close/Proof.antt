@@ -5,7 +5,8 @@ use borrow.Author.Needs.{needs}
 use Rattle.reader.specs.Answers.{endingSaid}
 use Rattle.reader.proofs.Endings.{only-whole}
 use Rattle.desk.specs.Feeding.{Laid, laidOf, deskGround}
-use Rattle.desk.proofs.Grounds.{cycle-fits}
+use Rattle.figures.proofs.OfRun.{figurable}
+use Rattle.desk.proofs.Grounds.{started-fits, ground-steady}
 use Rattle.prints.proofs.Texts.{as-text, desk-refused, by-ending}
 use Rattle.prints.proofs.close.Statement.{statement}
 use Rattle.prints.proofs.close.Tie as tie
@@ -53,7 +54,8 @@ print-run-requires c κs =
     let told = c .before in
     let end = told .before .before in
     let s = entry (end .before .before) in
-    cycle-fits (laid s) (passed (end .before)) (only-whole (s .args .desk .started) (s .args .left) (sym (end .ended .ensures) ∙ ap endingSaid (told .enum-told .given .1)) .0)
+    let started = only-whole (s .args .desk .started) (s .args .left) (sym (end .ended .ensures) ∙ ap endingSaid (told .enum-told .given .1)) .0 in
+    figurable _ _ _ _ (started-fits (laid s) (ground-steady (laid s) (passed (end .before)) .ground started) .1)
 
 same-length-2 : tie.Need-same-length-2
 same-length-2 c = search needs
