@@ -3,7 +3,7 @@
 -- Assumes nothing.
 use mathlib.Core.Bool.{Bool, true, false, _&&_}
 use mathlib.Core.List.{List}
-use mathlib.Core.Path.{_≡_, refl, sym, ap, _∙_}
+use mathlib.Core.Path.{_≡_, refl, sym, ap, ap₂, _∙_}
 use Prim.Native.Nat.{ℕ, _+_, _-_, _*_, _^_, _≤_, _<_}
 use native.Mathlib.Nat.{mul-le-mul-right, zero-add}
 use native.Mathlib.Numerals.{add-one}
@@ -12,24 +12,21 @@ use borrow.Author.Tests.{le-leb}
 use lib.Dec.{leb}
 use lib.IntN.{ℤ, pos, _+ℤ_}
 use lib.Signed.{leZ, ltZ}
-use Rattle.rules.specs.Words.{fold, sum, sumℤ, allBelow, unless, settled, up}
+use Rattle.rules.specs.Words.{fold, sum, sumℤ, allBelow, unless, up}
 use Rattle.numbers.specs.Whole.{down}
 use Rattle.numbers.proofs.Range.{fold-more, fold-same}
 use Rattle.numbers.proofs.Sums.{sum-most, sum-pos}
 use Rattle.numbers.proofs.Tests.{all-at, all-by, pass}
 use Rattle.numbers.proofs.Whole.{sum-is, le-up, up-le}
 use Rattle.rules.specs.declared.Charge.{Charge}
-use Rattle.rules.specs.declared.Charge.the-variants.{Absent as absent, Wh as wh}
-use Rattle.rules.specs.declared.Figure.the-variants as figure
-use Rattle.rules.specs.declared.Figure.the-variants.{Is}
-use Rattle.rules.specs.Closing.{mostRate, isRate, rateOf, weighing, weightedFigure, rangeFigure, closingRefusal, rechargeFigure, rechargeRefusal, rechargeBy, closingFigures, closingBy}
-use Rattle.laws.specs.Answers.{Said, gives, refuses, orRefused, Measure, is, figureSaid, Figured, closingSaid}
+use Rattle.rules.specs.Closing.{mostRate, isRate, rateOf, weighing, weightedFigure, rangeFigure, closingRefusal, closingFigures, closingBy}
+use Rattle.laws.specs.Answers.{Said, gives, refuses, orRefused, is, Figured, figuredSaid, closingSaid}
 use Rattle.laws.proofs.Answers.{closing-or}
 use Rattle.laws.proofs.Weighing.{greatest-rate, weighted-at-least-one}
 use Rattle.rules.specs.Bench.{mostCycles}
 use Rattle.ledger.specs.Row.{bounded, energyIn, distanceIn}
 use Rattle.ledger.proofs.Bounded.{energy-sized}
-use Rattle.consumption.specs.Figures.{ratedIn, firstTwo, withCycle, gatheredIn, weighedBy, Weighable, rechargedBy, chargedBy, finishedBy}
+use Rattle.consumption.specs.Figures.{gatheredIn, weighedBy, Weighable, finishedBy}
 use Rattle.consumption.proofs.Weights.{Positive, positive, mostDrawn, drawn-up, rate-within, moved-at, energy-most, rate-most}
 
 -- ---- one pass
@@ -51,28 +48,37 @@ module _ (l : List ℤ) where
   abbrev q : ℕ → ℕ
   q = rateOf (energyIn l) (distanceIn l)
 
-  pub gathered-two : firstTwo (ratedIn l 0) (ratedIn l 1) ≡ gatheredIn l 2
-  unfolding fold allBelow
-  gathered-two = λ i. record {
-    first = ratedIn l 0;
-    second = ratedIn l 1;
-    rates = 0;
-    energy = sym (zero-add (up (energyIn l 0))) i + up (energyIn l 1);
-    drawn = drawn-up (energyIn l 0) i && drawn-up (energyIn l 1) i;
-    rated = isRate (q 0) && isRate (q 1);
-  }
+  -- what the code forms of the first two cycles, and with one more
+  pub rates-two : 0 ≡ gatheredIn l 2 .rates
+  unfolding fold
+  rates-two = refl
 
-  pub gathered-more : (c : ℕ) → 2 ≤ c → withCycle (gatheredIn l c) (ratedIn l c) ≡ gatheredIn l (c + 1)
-  gathered-more c h =
-      let drawn = ap (λ (t : Bool). allBelow c (λ k. leZ (pos 1) (energyIn l k)) && t) (drawn-up (energyIn l c)) ∙ sym (all-next c (λ k. leZ (pos 1) (energyIn l k))) in
-      λ i. record {
-        first = ratedIn l 0;
-        second = ratedIn l 1;
-        rates = from-third q c h i;
-        energy = sym (fold-more _+_ 0 (λ k. up (energyIn l k)) c) i;
-        drawn = drawn i;
-        rated = sym (all-next c (λ k. isRate (q k))) i;
-      }
+  pub energy-two : up (energyIn l 0) + up (energyIn l 1) ≡ gatheredIn l 2 .energy
+  unfolding fold
+  energy-two = ap (λ (x : ℕ). x + up (energyIn l 1)) (sym (zero-add (up (energyIn l 0))))
+
+  pub drawn-two : (leb 1 (up (energyIn l 0)) && leb 1 (up (energyIn l 1))) ≡ gatheredIn l 2 .drawn
+  unfolding allBelow
+  drawn-two = ap₂ _&&_ (drawn-up (energyIn l 0)) (drawn-up (energyIn l 1))
+
+  pub rated-two : (isRate (q 0) && isRate (q 1)) ≡ gatheredIn l 2 .rated
+  unfolding allBelow
+  rated-two = refl
+
+  module _ (c : ℕ) (h : 2 ≤ c) where
+    pub rates-more : gatheredIn l c .rates + q c ≡ gatheredIn l (c + 1) .rates
+    rates-more = from-third q c h
+
+    pub energy-more : gatheredIn l c .energy + up (energyIn l c) ≡ gatheredIn l (c + 1) .energy
+    energy-more = sym (fold-more _+_ 0 (λ k. up (energyIn l k)) c)
+
+    pub drawn-more : (gatheredIn l c .drawn && leb 1 (up (energyIn l c))) ≡ gatheredIn l (c + 1) .drawn
+    drawn-more =
+        ap (λ (t : Bool). allBelow c (λ k. leZ (pos 1) (energyIn l k)) && t) (drawn-up (energyIn l c))
+        ∙ sym (all-next c (λ k. leZ (pos 1) (energyIn l k)))
+
+    pub rated-more : (gatheredIn l c .rated && isRate (q c)) ≡ gatheredIn l (c + 1) .rated
+    rated-more = sym (all-next c (λ k. isRate (q k)))
 
   -- nothing of it is large
   module _ (b : bounded l ≡ true) (n : ℕ) (h : n ≤ mostCycles) where
@@ -157,22 +163,7 @@ module _ {l : List ℤ} {n : ℕ} {E : ℤ} (g : Tested l n E) where
 
 -- ---- the answer
 
--- 14 and 12 as answers, or as numbers; absent
-recharge-is : (E : ℤ) (n : ℕ) (e d : ℕ → ℤ) (F : ℤ) (charge : Charge) → chargedBy (rangeFigure E n e d) E F charge ≡ figureSaid (rechargeBy E n e d F charge)
-unfolding rechargedBy rechargeRefusal unless
-recharge-is E n e d F absent = refl
-recharge-is E n e d F (wh A) = go (leZ (pos 1) (E +ℤ F)) (leb (rechargeFigure E n e d F A) mostRate)
-  where
-    f : ℕ
-    f = rechargeFigure E n e d F A
-
-    go : (s t : Bool) → unless (refuses 14) s (unless (refuses 12) t (gives (is f)))
-        ≡ figureSaid (settled (unless 14 s (unless 12 t 0)) (Is f) (figure.Refused (unless 14 s (unless 12 t 0))))
-    go true true = refl
-    go true false = refl
-    go false t = refl
-
--- 13 likewise
+-- 13 as an answer, or as a number
 unless-13 : (t : Bool) (x : Said Figured) → unless (refuses 13) t x ≡ orRefused (unless 13 t 0) x
 unfolding unless
 unless-13 true x = refl
@@ -185,9 +176,7 @@ unfolding finishedBy weighing
 finished-is {l} {n} {E} g F charge =
     let e = energyIn l in
     let d = distanceIn l in
-    let figures : Said Measure → Said Figured = λ r. gives (record { weighted = weightedFigure E n e d; range = rangeFigure E n e d; recharge = r }) in
-    let said = figures (figureSaid (rechargeBy E n e d F charge)) in
-    ap (λ (r : Said Measure). unless (refuses 13) (leb 1 (rangeFigure E n e d)) (figures r)) (recharge-is E n e d F charge)
-    ∙ unless-13 (leb 1 (rangeFigure E n e d)) said
-    ∙ ap (λ (k : ℕ). orRefused k said) (sym (only-range g))
-    ∙ sym (closing-or (closingRefusal E n e d) (closingFigures E n e d F charge))
+    let figures = closingFigures E n e d F charge in
+    unless-13 (leb 1 (rangeFigure E n e d)) (gives (figuredSaid figures))
+    ∙ ap (λ (k : ℕ). orRefused k (gives (figuredSaid figures))) (sym (only-range g))
+    ∙ sym (closing-or (closingRefusal E n e d) figures)

@@ -1,6 +1,5 @@
 -- The closing of n finished cycles, read off a ledger, and what one pass over the ledger gathers for it.
 -- Assumes nothing.
-use mathlib.Core.Bool.{_&&_}
 use mathlib.Core.List.{List}
 use Prim.Native.Nat.{ℕ, _+_, _-_, _*_, _/_, _^_, _≤_, _<_}
 use lib.Dec.{leb}
@@ -9,11 +8,10 @@ use lib.Signed.{leZ}
 use Rattle.rules.specs.Words.{allBelow, sum, unless, up}
 use Rattle.rules.specs.declared.Amounts.{Amounts}
 use Rattle.rules.specs.declared.Charge.{Charge}
-use Rattle.rules.specs.declared.Charge.the-variants as charge
 use Rattle.rules.specs.declared.ClosingAnswer.{ClosingAnswer}
-use Rattle.rules.specs.Closing.{mostRate, isRate, rateOf, weight, range, recharge, closingBy}
+use Rattle.rules.specs.Closing.{mostRate, isRate, rateOf, weight, range, rechargeBy, together, closingBy}
 use Rattle.rules.specs.Bench.{mostCycles}
-use Rattle.laws.specs.Answers.{Said, gives, refuses, Measure, is, absent, Figured}
+use Rattle.laws.specs.Answers.{Said, gives, refuses, Figured, figuredSaid}
 use Rattle.ledger.specs.Row.{energyIn, distanceIn, energyAll}
 use Rattle.consumption.specs.declared.Rated.{Rated}
 use Rattle.consumption.specs.declared.Gathered.{Gathered}
@@ -27,27 +25,6 @@ closingOn l n a = closingBy (a .before +ℤ energyAll l) n (energyIn l) (distanc
 -- e_c and q_c
 abbrev pub ratedIn : List ℤ → ℕ → Rated
 ratedIn l c = record { energy = up (energyIn l c); rate = rateOf (energyIn l) (distanceIn l) c }
-
--- of two cycles, and with one more
-abbrev pub firstTwo : Rated → Rated → Gathered
-firstTwo a b = record {
-  first = a;
-  second = b;
-  rates = 0;
-  energy = a .energy + b .energy;
-  drawn = leb 1 (a .energy) && leb 1 (b .energy);
-  rated = isRate (a .rate) && isRate (b .rate);
-}
-
-abbrev pub withCycle : Gathered → Rated → Gathered
-withCycle g x = record {
-  first = g .first;
-  second = g .second;
-  rates = g .rates + x .rate;
-  energy = g .energy + x .energy;
-  drawn = g .drawn && leb 1 (x .energy);
-  rated = g .rated && isRate (x .rate);
-}
 
 -- of n cycles: the first two, q_3 + .. + q_n, e_1 + .. + e_n, whether each has drawn energy, and whether each rate is within its limits
 abbrev pub gatheredIn : List ℤ → ℕ → Gathered
@@ -80,21 +57,9 @@ pub record Weighable (g : Gathered) (n E : ℕ) : Type 0 where
   pub least : 1 ≤ weighedBy g n E
   pub greatest : weighedBy g n E ≤ mostRate
 
--- 14, 12, or the recharge figure, of the range, E, F and A
-unfoldable pub rechargedBy : ℕ → ℤ → ℤ → ℕ → Said Measure
-rechargedBy range E F A =
-    unless (refuses 14) (leZ (pos 1) (E +ℤ F))
-    (unless (refuses 12) (leb (recharge (up E) (up (E +ℤ F)) A range) mostRate)
-    (gives (is (recharge (up E) (up (E +ℤ F)) A range))))
-
--- or "absent"
-abbrev pub chargedBy : ℕ → ℤ → ℤ → Charge → Said Measure
-chargedBy range E F charge.Absent = gives absent
-chargedBy range E F (charge.Wh A) = rechargedBy range E F A
-
 -- 13, or the figures
 unfoldable pub finishedBy : Gathered → ℕ → ℤ → ℤ → Charge → Said Figured
 finishedBy g n E F charge =
     let W = weighedBy g n (up E) in
     let R = range (up E) W in
-    unless (refuses 13) (leb 1 R) (gives (record { weighted = W; range = R; recharge = chargedBy R E F charge }))
+    unless (refuses 13) (leb 1 R) (gives (figuredSaid (together W R (rechargeBy E R F charge))))

@@ -6,12 +6,12 @@ use ledger::totals::energy_in;
 use rules::limits::MOST_RATE;
 ghost use mathlib.Core.Path.{_≡_};
 ghost use mathlib.Core.Bool.{true, _&&_};
-ghost use Prim.Native.Nat.{_+_, _≤_, _<_, _^_};
+ghost use Prim.Native.Nat.{_+_, _≤_, _<_};
 ghost use Rattle.rules.specs.Words.{up};
 ghost use Rattle.rules.specs.Closing.{isRate};
 ghost use Rattle.rules.specs.Bench.{mostCycles};
 ghost use Rattle.ledger.specs.Row.{bounded};
-ghost use Rattle.consumption.specs.Figures.{ratedIn, firstTwo, withCycle, gatheredIn};
+ghost use Rattle.consumption.specs.Figures.{ratedIn, gatheredIn};
 
 // z, or 0 where it is below 0.
 fn positive(z: i64) -> u64
@@ -57,10 +57,13 @@ fn rated_in(ledger: &[i64], c: usize) -> Rated
     }
 }
 
-fn first_two(first: Rated, second: Rated) -> Gathered
-    requires { ⌜ first .energy + second .energy < 2 ^ 64 ⌝ }
-    ensures { λ r. ⌜ r ≡ firstTwo first second ⌝ }
+// The first two cycles.
+fn first_two(ledger: &[i64]) -> Gathered
+    requires { ⌜ bounded (now ledger) ≡ true ⌝ }
+    ensures { λ r. ⌜ r ≡ gatheredIn (now (ledger .entry)) 2 ⌝ }
 {
+    let first = rated_in(ledger, 0);
+    let second = rated_in(ledger, 1);
     Gathered {
         first,
         second,
@@ -71,12 +74,14 @@ fn first_two(first: Rated, second: Rated) -> Gathered
     }
 }
 
-fn with_cycle(g: Gathered, x: Rated) -> Gathered
-    requires { ⌜ (g .rates + x .rate < 2 ^ 64) × (g .energy + x .energy < 2 ^ 64) ⌝ }
-    ensures { λ r. ⌜ r ≡ withCycle g x ⌝ }
+// One cycle more: c are gathered.
+fn with_cycle(g: Gathered, ledger: &[i64], c: usize) -> Gathered
+    requires { ⌜ (bounded (now ledger) ≡ true) × (2 ≤ c) × (c < mostCycles) × (g ≡ gatheredIn (now ledger) c) ⌝ }
+    ensures { λ r. ⌜ r ≡ gatheredIn (now (ledger .entry)) (c + 1) ⌝ }
 {
     let first = g.first;
     let second = g.second;
+    let x = rated_in(ledger, c);
     Gathered {
         first,
         second,
@@ -92,10 +97,10 @@ pub fn gather_cycles(ledger: &[i64], n: usize) -> Gathered
     requires { ⌜ (bounded (now ledger) ≡ true) × (2 ≤ n) × (n ≤ mostCycles) ⌝ }
     ensures { λ r. ⌜ r ≡ gatheredIn (now (ledger .entry)) n ⌝ }
 {
-    let mut g = first_two(rated_in(ledger, 0), rated_in(ledger, 1));
+    let mut g = first_two(ledger);
     let mut c = 2;
     while c < n {
-        g = with_cycle(g, rated_in(ledger, c));
+        g = with_cycle(g, ledger, c);
         c += 1;
     }
     g

@@ -17,14 +17,15 @@ ghost use lib.IntN.{pos, _+ℤ_};
 ghost use lib.Signed.{leZ};
 ghost use Rattle.rules.specs.Words.{sumℤ, up};
 ghost use Rattle.numbers.specs.Whole.{Sized};
-ghost use Rattle.rules.specs.Closing.{isCharge, mostRate, mostCharge, mostTransfer};
+ghost use Rattle.rules.specs.Closing.{isCharge, mostRate, mostCharge, mostTransfer, rechargeBy};
+ghost use Rattle.rules.specs.declared.Charge.the-variants.{Wh as ofWh};
 ghost use Rattle.values.specs.Limits.{areAmounts};
 ghost use Rattle.laws.specs.Answers.{figureSaid, closingSaid};
 ghost use Rattle.laws.specs.Beside.{mostWhole};
 ghost use Rattle.rules.specs.Bench.{mostCycles};
 ghost use Rattle.ledger.specs.Row.{bounded, energyIn, energyAll};
 ghost use Rattle.wide.specs.Ratio.{ratio};
-ghost use Rattle.consumption.specs.Figures.{closingOn, weighedBy, Weighable, rechargedBy, chargedBy, finishedBy};
+ghost use Rattle.consumption.specs.Figures.{closingOn, weighedBy, Weighable, finishedBy};
 
 // A cycle's energy, 0 where it is below 0, and its q, 0 where it has no distance.
 pub struct Rated {
@@ -101,7 +102,7 @@ fn divided(total: u64, both: u64, wh: u64, range: u64) -> Ratio
 fn recharged(range: u64, total: i64, after: i64, wh: u32) -> Figure
     requires { ⌜ (1 ≤ range) × (range < 2 ^ 51) × (leZ (pos 1) total ≡ true) × Sized mostWhole total ⌝ }
     requires { ⌜ Sized mostTransfer after × (wh ≤ mostCharge) ⌝ }
-    ensures { λ r. ⌜ figureSaid r ≡ rechargedBy range total after wh ⌝ }
+    ensures { λ r. ⌜ figureSaid r ≡ figureSaid (rechargeBy total range after (ofWh wh)) ⌝ }
 {
     let both = total + after;
     if both < 1 {
@@ -122,7 +123,7 @@ fn recharged(range: u64, total: i64, after: i64, wh: u32) -> Figure
 fn charged(range: u64, total: i64, after: i64, charge: Charge) -> Figure
     requires { ⌜ (1 ≤ range) × (range < 2 ^ 51) × (leZ (pos 1) total ≡ true) × Sized mostWhole total ⌝ }
     requires { ⌜ Sized mostTransfer after × (isCharge charge ≡ true) ⌝ }
-    ensures { λ r. ⌜ figureSaid r ≡ chargedBy range total after charge ⌝ }
+    ensures { λ r. ⌜ figureSaid r ≡ figureSaid (rechargeBy total range after charge) ⌝ }
 {
     match charge {
         Charge::Absent => Figure::Absent,

@@ -15,10 +15,8 @@ use Rattle.rules.specs.declared.Figure.the-variants.{Is}
 use Rattle.rules.specs.Closing.{rechargeFigure, rechargeRefusal, rechargeBy}
 use Rattle.laws.specs.Answers.{Said, numberOf, figureSaid, figuredSaid, closingSaid}
 use Rattle.laws.proofs.Answers.{number-said, was-given, given-is, figure-or, same-figured}
-use Rattle.ledger.specs.Row.{energyIn, distanceIn}
 use Rattle.state.specs.declared.Run.{Run}
 use Rattle.state.specs.State.{Left}
-use Rattle.state.specs.Refusals.{cyclesBy}
 use Rattle.closing.specs.Answers.{whole, refusalOf, closedFigures}
 use Rattle.opening.specs.Answers.{OpenLeft}
 use Rattle.reading.specs.declared.Reading.{Reading}
@@ -32,10 +30,9 @@ use Rattle.demands.proofs.Numbers.{unless-number}
 use Rattle.demands.proofs.ReaderNumbers.{open-of-number, read-of-number, read-all-of-number}
 
 -- "then absent, 14, 12"
-recharge-has : (E : ℤ) (n : ℕ) (e d : ℕ → ℤ) (F : ℤ) (charge : Charge) → numberOf (figureSaid (rechargeBy E n e d F charge)) ≡ rechargeNumber E n e d F charge
-recharge-has E n e d F absent = refl
-recharge-has E n e d F (wh A) =
-    ap numberOf (figure-or (rechargeRefusal E n e d F A) (Is (rechargeFigure E n e d F A))) ∙ number-said (rechargeRefusal E n e d F A) _ refl
+recharge-has : (E : ℤ) (R : ℕ) (F : ℤ) (charge : Charge) → numberOf (figureSaid (rechargeBy E R F charge)) ≡ rechargeNumber E R F charge
+recharge-has E R F absent = refl
+recharge-has E R F (wh A) = ap numberOf (figure-or (rechargeRefusal E R F A) (Is (rechargeFigure E R F A))) ∙ number-said (rechargeRefusal E R F A) _ refl
 
 -- the figures that a call of `close` answers
 pub closed-by : (c : ClosingCall) (x : Closing) → c .answer ≡ Closed x → (let (r, (a, (b, (l, (m, _))))) = c .args in
@@ -60,8 +57,11 @@ has-its-number = record {
   closing-number = λ c. ap numberOf (c .kept) ∙ number-said _ _ refl;
   recharge-number = λ c x is.
       let (r, (a, (b, (l, (m, _))))) = c .args in
-      ap (λ (y : Closing). numberOf (figureSaid (y .recharge))) (sym (closed-by c x is))
-      ∙ recharge-has (whole r a (now b) (now l) (now m)) (cyclesBy r) (energyIn (now l)) (distanceIn (now l)) (a .after) (a .charge);
+      let E = whole r a (now b) (now l) (now m) in
+      let same = closed-by c x is in
+      ap (λ (y : Closing). numberOf (figureSaid (y .recharge))) (sym same)
+      ∙ recharge-has E (closedFigures r a (now b) (now l) (now m) .range) (a .after) (a .charge)
+      ∙ ap (λ (y : Closing). rechargeNumber E (y .range) (a .after) (a .charge)) same;
   figures-of-number = λ c. ap (λ (x : Found). x .refusal) (c .kept);
   front-of-number = λ c. ap numberOf (c .kept);
   content-of-number = λ c. ap wrongNumber (c .kept);

@@ -28,7 +28,7 @@ use Rattle.state.specs.declared.Run.{Run}
 use Rattle.state.specs.Refusals.{startRefusal, sampleRefusal, cyclesBy}
 use Rattle.blocks.specs.Blocks.{blockRefusal}
 use Rattle.judge.specs.Answers.{answerSaid, shownSaid, totalsSaid}
-use Rattle.closing.specs.Answers.{whole, refusalOf}
+use Rattle.closing.specs.Answers.{whole, refusalOf, closedFigures}
 use Rattle.records.specs.Stage.{Stage, replyOn, runOn}
 use Rattle.opening.specs.declared.Opening.{Opening}
 use Rattle.opening.specs.Answers.{opens, starts, openStepSaid, OpenLeft, stageOf, runOf, openGround, notOpened, openedBy, frontOpened}
@@ -148,12 +148,12 @@ sheet-listed i n k = by (run tags takeField untold i .end) refl
         subst Listed d (end-proper (λ s. s .place) contentAt bringAt morePassed at-proper untold i j q)
 
 -- the recharge figure beside a closing
-recharge-listed : (E : ℤ) (N : ℕ) (e d : ℕ → ℤ) (F : ℤ) (y : Charge) (n : ℕ) → figureSaid (rechargeBy E N e d F y) ≡ refuses n → Listed n
+recharge-listed : (E : ℤ) (R : ℕ) (F : ℤ) (y : Charge) (n : ℕ) → figureSaid (rechargeBy E R F y) ≡ refuses n → Listed n
 unfolding rechargeRefusal
-recharge-listed E N e d F absent n q = absurd (given-refused q)
-recharge-listed E N e d F (wh A) n q =
-    given-listed (rechargeRefusal E N e d F A) (is (rechargeFigure E N e d F A)) n (few-unless _ (omega arith) (few-unless _ (omega arith) zero-le))
-    (sym (figure-or (rechargeRefusal E N e d F A) (Is (rechargeFigure E N e d F A))) ∙ q)
+recharge-listed E R F absent n q = absurd (given-refused q)
+recharge-listed E R F (wh A) n q =
+    given-listed (rechargeRefusal E R F A) (is (rechargeFigure E R F A)) n (few-unless _ (omega arith) (few-unless _ (omega arith) zero-le))
+    (sym (figure-or (rechargeRefusal E R F A) (Is (rechargeFigure E R F A))) ∙ q)
 
 -- the closing
 few-closed : (r : Run) (a : Amounts) (b : List ℕ) (l : List ℤ) (m : List ℕ) → Few (refusalOf r a b l m)
@@ -184,7 +184,7 @@ in-the-list = record {
   closing-listed = λ c n e. given-listed _ _ n (few-closed _ _ _ _ _) (sym (c .kept) ∙ ap closingSaid e);
   recharge-listed = λ c x is n e.
       let (r, (a, (b, (l, (m, _))))) = c .args in
-      recharge-listed (whole r a (now b) (now l) (now m)) (cyclesBy r) (energyIn (now l)) (distanceIn (now l)) (a .after) (a .charge) n
+      recharge-listed (whole r a (now b) (now l) (now m)) (closedFigures r a (now b) (now l) (now m) .range) (a .after) (a .charge) n
       (ap (λ (y : Closing). figureSaid (y .recharge)) (closed-by c x is) ∙ ap figureSaid e);
   open-listed = λ c n e.
       let (o, (i, (room, (l, (m, _))))) = c .args in

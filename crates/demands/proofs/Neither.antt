@@ -52,10 +52,10 @@ closing-neither E n e d =
     (unless-neither _ (omega arith) (unless-neither _ (omega arith) zero-neither)))))
 
 -- "then absent, 14, 12"
-pub recharge-neither : (E : ℤ) (n : ℕ) (e d : ℕ → ℤ) (F : ℤ) (y : Charge) → Neither (rechargeNumber E n e d F y)
+pub recharge-neither : (E : ℤ) (R : ℕ) (F : ℤ) (y : Charge) → Neither (rechargeNumber E R F y)
 unfolding rechargeRefusal
-recharge-neither E n e d F absent = zero-neither
-recharge-neither E n e d F (wh A) = unless-neither _ (omega arith) (unless-neither _ (omega arith) zero-neither)
+recharge-neither E R F absent = zero-neither
+recharge-neither E R F (wh A) = unless-neither _ (omega arith) (unless-neither _ (omega arith) zero-neither)
 
 -- ---- of what a field after the start brings
 

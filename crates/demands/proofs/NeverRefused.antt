@@ -16,8 +16,7 @@ use Rattle.laws.specs.Answers.{numberOf, figureSaid, closingSaid}
 use Rattle.values.specs.Limits.{areAmounts}
 use Rattle.state.specs.declared.Run.{Run}
 use Rattle.state.specs.State.{ground}
-use Rattle.ledger.specs.Row.{energyIn, distanceIn}
-use Rattle.state.specs.Refusals.{sampleRefusal, cyclesBy}
+use Rattle.state.specs.Refusals.{sampleRefusal}
 use Rattle.blocks.specs.Blocks.{blockRefusal}
 use Rattle.judge.specs.declared.Answer.{Answer}
 use Rattle.judge.specs.declared.Answer.the-variants as answer
@@ -90,7 +89,7 @@ module _ {p : Plan} {l₀ : List ℤ} {m₀ : List ℕ} {xs : List Moment} {r : 
     recharge = λ c x is.
         let (r, (a, (b, (l, (m, _))))) = c .args in
         by-number (λ (z : Figure). numberOf (figureSaid z)) fig.Refused (λ k. refl) (has-its-number .recharge-number c x is)
-        (recharge-neither (whole r a (now b) (now l) (now m)) (cyclesBy r) (energyIn (now l)) (distanceIn (now l)) (a .after) (a .charge));
+        (recharge-neither (whole r a (now b) (now l) (now m)) (x .range) (a .after) (a .charge));
     figures = λ c on ok. ap (λ (x : Found). x .refusal) (run-answers h .figures-of-run c on ok);
     read = λ c on ok.
         let (reading, (i, (cycle, (ledger, (map, _))))) = c .args in

@@ -33,9 +33,9 @@ abbrev pub orElse : ℕ → ℕ → ℕ
 orElse n next = settled n next n
 
 -- "then absent, 14, 12": of the recharge figure that stands beside weighted consumption and range
-abbrev pub rechargeNumber : ℤ → ℕ → (ℕ → ℤ) → (ℕ → ℤ) → ℤ → Charge → ℕ
-rechargeNumber E n e d F absent = 0
-rechargeNumber E n e d F (wh A) = rechargeRefusal E n e d F A
+abbrev pub rechargeNumber : ℤ → ℕ → ℤ → Charge → ℕ
+rechargeNumber E R F absent = 0
+rechargeNumber E R F (wh A) = rechargeRefusal E R F A
 
 -- of what a field brings
 abbrev pub wrongNumber : Content → ℕ

@@ -15,9 +15,8 @@ use Rattle.rules.specs.Record.{refusedAt, sheetOf}
 use Rattle.rules.specs.Table.{tags}
 use Rattle.rules.specs.Front.{frontOf}
 use Rattle.laws.specs.Answers.{numberOf, figureSaid, closingSaid}
-use Rattle.ledger.specs.Row.{energyIn, distanceIn}
 use Rattle.state.specs.State.{ground}
-use Rattle.state.specs.Refusals.{startRefusal, sampleRefusal, cyclesBy}
+use Rattle.state.specs.Refusals.{startRefusal, sampleRefusal}
 use Rattle.blocks.specs.Blocks.{blockRefusal}
 use Rattle.judge.specs.declared.Answer.the-variants as answer
 use Rattle.judge.specs.declared.ShownAnswer.the-variants as counts
@@ -113,8 +112,7 @@ pub record HasItsNumber : Type 0 where
       numberOf (closingSaid (c .answer)) ≡ refusalOf r a (now b) (now l) (now m))
   -- "Recharge: whatever closing refuses, then absent, 14, 12."
   pub recharge-number : (c : ClosingCall) (x : Closing) → c .answer ≡ closings.Closed x → (let (r, (a, (b, (l, (m, _))))) = c .args in
-      numberOf (figureSaid (x .recharge))
-      ≡ rechargeNumber (whole r a (now b) (now l) (now m)) (cyclesBy r) (energyIn (now l)) (distanceIn (now l)) (a .after) (a .charge))
+      numberOf (figureSaid (x .recharge)) ≡ rechargeNumber (whole r a (now b) (now l) (now m)) (x .range) (a .after) (a .charge))
   -- the figures of the report: 1 and 2, as of `read`
   pub figures-of-number : (c : FiguresCall) → (let (r, (b, (l, (m, _)))) = c .args in
       c .answer .refusal ≡ readGround r (now b) (now l) (now m))

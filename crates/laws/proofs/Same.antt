@@ -1,6 +1,6 @@
 -- Closing looks at the finished cycles only: energies and distances that agree there close alike.
 -- Assumes nothing.
-use mathlib.Core.Path.{_≡_, refl, ap, ap₂}
+use mathlib.Core.Path.{_≡_, ap, ap₂}
 use Prim.Native.Nat.{ℕ, _+_, _-_, _*_, _/_, _≤_, _<_}
 use native.Mathlib.Omega.{arith}
 use lib.Dec.{leb}
@@ -10,13 +10,8 @@ use Rattle.rules.specs.Words.{sum, unless, settled, up}
 use Rattle.numbers.proofs.Range.{fold-same}
 use Rattle.numbers.proofs.Tests.{all-same}
 use Rattle.rules.specs.declared.Charge.{Charge}
-use Rattle.rules.specs.declared.Charge.the-variants.{Absent as absent, Wh as wh}
-use Rattle.rules.specs.declared.Figure.the-variants.{Is}
-use Rattle.rules.specs.declared.Figure.the-variants as figure
-use Rattle.rules.specs.declared.Closing.{Closing}
 use Rattle.rules.specs.declared.ClosingAnswer.the-variants.{Closed, Refused}
-use Rattle.rules.specs.Closing.{recharge, weighing, weight, mostRate, isRate, rateOf, weightedFigure, rangeFigure, closingRefusal, rechargeFigure, rechargeRefusal}
-use Rattle.rules.specs.Closing.{rechargeBy, closingBy}
+use Rattle.rules.specs.Closing.{weighing, weight, isRate, rateOf, weightedFigure, rangeFigure, closingRefusal, together, rechargeBy, closingBy}
 use Rattle.rules.specs.Bench.{mostCycles}
 
 module _ (E : ℤ) (n : ℕ) (few : n ≤ mostCycles) (e d e′ d′ : ℕ → ℤ) (he : (c : ℕ) → c < mostCycles → e c ≡ e′ c) (hd : (c : ℕ) → c < mostCycles → d c ≡ d′ c) where
@@ -50,22 +45,8 @@ module _ (E : ℤ) (n : ℕ) (few : n ≤ mostCycles) (e d e′ d′ : ℕ → �
       (unless 12 (q i)
       (unless 13 (leb 1 (range-same i)) 0)))))
 
-  -- with F and A
-  module _ (F : ℤ) (A : ℕ) where
-    recharge-same : rechargeFigure E n e d F A ≡ rechargeFigure E n e′ d′ F A
-    recharge-same = ap (recharge (up E) (up (E +ℤ F)) A) range-same
-
-    recharge-refusal-same : rechargeRefusal E n e d F A ≡ rechargeRefusal E n e′ d′ F A
-    unfolding rechargeRefusal
-    recharge-refusal-same = ap (λ (f : ℕ). unless 14 (leZ (pos 1) (E +ℤ F)) (unless 12 (leb f mostRate) 0)) recharge-same
-
   -- the whole closing, with F and the recharge
-  recharged-same : (F : ℤ) (charge : Charge) → rechargeBy E n e d F charge ≡ rechargeBy E n e′ d′ F charge
-  recharged-same F absent = refl
-  recharged-same F (wh A) =
-      λ i. settled (recharge-refusal-same F A i) (Is (recharge-same F A i)) (figure.Refused (recharge-refusal-same F A i))
-
   pub closing-same : (F : ℤ) (charge : Charge) → closingBy E n e d F charge ≡ closingBy E n e′ d′ F charge
   closing-same F charge = λ i.
-      let figures : Closing = record { weighted = weighted-same i; range = range-same i; recharge = recharged-same F charge i } in
+      let figures = together (weighted-same i) (range-same i) (rechargeBy E (range-same i) F charge) in
       settled (refusal-same i) (Closed figures) (Refused (refusal-same i))

@@ -71,16 +71,16 @@ pub record Added (w : Width) (n : ℕ) (f : ℕ → ℤ) (s k : ℕ) (x : ℤ) :
 pub summed-all : {w : Width} {n : ℕ} {f : ℕ → ℤ} {s k : ℕ} → Summed w n f s k → n ≤ k → toZ w s ≡ sumℤ f n
 summed-all {n = n} {f} {k = k} p h = let e : k ≡ n = omega arith in p .is ∙ ap (sumℤ f) e
 
--- of terms within b either way
-pub added : {w : Width} {b n : ℕ} {f : ℕ → ℤ} {s k : ℕ} {x : ℤ} → T (ltb (n * b) (2 ^ hbits w)) → ((k : ℕ) → k < n → Sized b (f k))
+-- of at most m terms, within b either way
+pub added : {w : Width} {m b n : ℕ} {f : ℕ → ℤ} {s k : ℕ} {x : ℤ} → n ≤ m → T (ltb (m * b) (2 ^ hbits w)) → ((k : ℕ) → k < n → Sized b (f k))
     → Summed w n f s k → k < n → x ≡ f k → Added w n f s k x
-added {w} {b} {n} {f} {s} {k} {x} small h p l term = record { fits = fits; summed = record { most = omega arith; is = read fits ∙ more } }
+added {w} {m} {b} {n} {f} {s} {k} {x} few small h p l term = record { fits = fits; summed = record { most = omega arith; is = read fits ∙ more } }
   where
     more : toZ w s +ℤ x ≡ sumℤ f (k + 1)
     more = ap₂ _+ℤ_ (p .is) term ∙ sym (fold-more _+ℤ_ (pos 0) f k)
 
-    sized : Sized (n * b) (sumℤ f (k + 1))
-    sized = weaken (mul-le-mul-right b (let g : k + 1 ≤ n = omega arith in g)) (sized-sum b f (k + 1) (λ j m. h j (omega arith)))
+    sized : Sized (m * b) (sumℤ f (k + 1))
+    sized = weaken (mul-le-mul-right b (let g : k + 1 ≤ m = omega arith in g)) (sized-sum b f (k + 1) (λ j m. h j (omega arith)))
 
     fits : SFits w (toZ w s +ℤ x)
     fits = rw more (sfits w small sized)

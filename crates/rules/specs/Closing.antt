@@ -90,14 +90,21 @@ module _ (E : ℤ) (n : ℕ) (e d : ℕ → ℤ) where
       (unless 12 (allBelow n (λ c. isRate (rateOf e d c)))
       (unless 13 (leb 1 rangeFigure) 0)))))
 
-  -- "Recharge: whatever closing refuses, then absent, 14, 12.": 14 and 12, with F and A; 0 where nothing is refused
-  abbrev pub rechargeFigure : ℤ → ℕ → ℕ
-  rechargeFigure F A = recharge (up E) (up (E +ℤ F)) A rangeFigure
+-- the whole energy E, the range R, and F
+module _ (E : ℤ) (R : ℕ) (F : ℤ) where
+  -- "Recharge: whatever closing refuses, then absent, 14, 12.": 14 and 12, with A; 0 where nothing is refused
+  abbrev pub rechargeFigure : ℕ → ℕ
+  rechargeFigure A = recharge (up E) (up (E +ℤ F)) A R
 
-  unfoldable pub rechargeRefusal : ℤ → ℕ → ℕ
-  rechargeRefusal F A =
+  unfoldable pub rechargeRefusal : ℕ → ℕ
+  rechargeRefusal A =
       unless 14 (leZ (pos 1) (E +ℤ F))
-      (unless 12 (leb (rechargeFigure F A) mostRate) 0)
+      (unless 12 (leb (rechargeFigure A) mostRate) 0)
+
+  -- "A missing 7 gives the recharge figure "absent"."; 14 and 12, or the figure
+  abbrev pub rechargeBy : Charge → Figure
+  rechargeBy absent = Absent
+  rechargeBy (wh A) = let refusal = rechargeRefusal A in settled refusal (Is (rechargeFigure A)) (figure.Refused refusal)
 
 -- ---- as the sheet has them
 
@@ -107,14 +114,9 @@ together W R recharge = record { weighted = W; range = R; recharge = recharge }
 
 -- n finished cycles of energies e and distances d, the whole energy E; with F and the recharge
 module _ (E : ℤ) (n : ℕ) (e d : ℕ → ℤ) (F : ℤ) where
-  -- "A missing 7 gives the recharge figure "absent"."; 14 and 12, or the figure
-  abbrev pub rechargeBy : Charge → Figure
-  rechargeBy absent = Absent
-  rechargeBy (wh A) = let refusal = rechargeRefusal E n e d F A in settled refusal (Is (rechargeFigure E n e d F A)) (figure.Refused refusal)
-
   -- document 02, L6: "a recharge refusal still shows weighted consumption and range"
   abbrev pub closingFigures : Charge → Closing
-  closingFigures charge = together (weightedFigure E n e d) (rangeFigure E n e d) (rechargeBy charge)
+  closingFigures charge = let R = rangeFigure E n e d in together (weightedFigure E n e d) R (rechargeBy E R F charge)
 
   -- "Recharge: whatever closing refuses, then absent, 14, 12."; document 02, L6: "Make them one operation."
   abbrev pub closingBy : Charge → ClosingAnswer

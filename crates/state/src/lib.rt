@@ -1,19 +1,20 @@
 // A started run's state, and the tests that come before it or its memory is touched.
+mod own;
+
 use cycle::end_of;
 use cycle::is_cycle;
 use cycle::seconds_of;
 use ledger::whole::is_bounded;
 use numbers::less;
 use numbers::wide;
+use own::are_same;
+use own::is_run;
 use rules::End;
 use rules::Sample;
 use rules::Tolerances;
-use rules::limits::LEAST_SECONDS;
 use rules::limits::LEDGER_NUMBERS;
 use rules::limits::MAP_WORDS;
-use rules::limits::MOST_CYCLES;
 use rules::limits::MOST_OFFERED;
-use rules::limits::MOST_SECONDS;
 use values::is_sample;
 use values::is_tolerable;
 ghost use mathlib.Core.Path.{_≡_};
@@ -21,13 +22,8 @@ ghost use mathlib.Core.Bool.{true};
 ghost use Prim.Native.Nat.{_≤_, _<_};
 ghost use Rattle.rules.specs.Bench.{mostCycles};
 ghost use Rattle.rules.specs.Cycle.{seconds, valid};
-ghost use Rattle.state.specs.State.{endOrZero, endsOf, sameEnds, isProgress, areEnds, isRun, isLent, isStarts, ground};
+ghost use Rattle.state.specs.State.{endOrZero, endsOf, isRun, isLent, isStarts, ground};
 ghost use Rattle.state.specs.Refusals.{startRefusal, sampleRefusal, cyclesBy, lastCycle};
-
-// As many cycles, and as many seconds, as the numbers beside them are wide.
-const CYCLES: u32 = MOST_CYCLES as u32;
-
-const MOST_END: u16 = MOST_SECONDS as u16;
 
 // The seconds at which the phases end; 0 for a phase that does not exist.
 pub struct Ends {
@@ -78,85 +74,6 @@ pub fn ends_of(cycle: &[u8]) -> Ends
         third: end_or_zero(cycle, 2),
         fourth: end_or_zero(cycle, 3),
     }
-}
-
-fn are_same(d: Ends, e: Ends) -> bool
-    ensures { λ r. ⌜ r ≡ sameEnds d e ⌝ }
-{
-    if d.first != e.first {
-        return false;
-    }
-    if d.second != e.second {
-        return false;
-    }
-    if d.third != e.third {
-        return false;
-    }
-    d.fourth == e.fourth
-}
-
-fn are_ends(e: Ends) -> bool
-    ensures { λ r. ⌜ r ≡ areEnds e ⌝ }
-{
-    if MOST_END < e.first {
-        return false;
-    }
-    if MOST_END < e.second {
-        return false;
-    }
-    if MOST_END < e.third {
-        return false;
-    }
-    e.fourth <= MOST_END
-}
-
-// Whether the samples offered and counted are such as the end says.
-fn is_progress(progress: Progress, most: u32) -> bool
-    ensures { λ r. ⌜ r ≡ isProgress (progress .end) most (progress .offered) (progress .counted) ⌝ }
-{
-    let end = progress.end;
-    match end {
-        End::None => {
-            if progress.counted != progress.offered {
-                return false;
-            }
-            progress.counted < most
-        }
-        End::Stop => {
-            if progress.offered <= progress.counted {
-                return false;
-            }
-            progress.counted < most
-        }
-        End::Limit => {
-            if progress.counted != most {
-                return false;
-            }
-            most <= progress.offered
-        }
-    }
-}
-
-// Whether no number of the state is beyond its limits.
-fn is_run(run: Run) -> bool
-    ensures { λ r. ⌜ r ≡ isRun run ⌝ }
-{
-    if run.track.seconds < LEAST_SECONDS {
-        return false;
-    }
-    if MOST_SECONDS < run.track.seconds {
-        return false;
-    }
-    if !are_ends(run.track.ends) {
-        return false;
-    }
-    if !is_tolerable(run.track.tolerances) {
-        return false;
-    }
-    if MOST_OFFERED < run.progress.offered {
-        return false;
-    }
-    is_progress(run.progress, CYCLES * (20 * run.track.seconds))
 }
 
 // Whether ledger and map are long enough, and no number of ledger or state is out of bounds.

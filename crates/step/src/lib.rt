@@ -1,39 +1,37 @@
 // One accepted sample.
-use cycle::end_of;
+mod places;
+
 use cycle::phase_of;
-use cycle::seconds_of;
 use ledger::row::add_sample;
 use map::mark_if;
 use map::open_map;
-use numbers::smaller;
+use places::counted_by;
+use places::offered_by;
+use places::until_in;
 use rules::End;
 use rules::Moment;
 use rules::Tolerances;
-use rules::limits::MOST_CYCLES;
 use state::Progress;
 use state::Run;
 use window::Window;
-use window::shift;
 use window::verdict_in;
 use window::window_at;
 ghost use mathlib.Core.Path.{_≡_};
-ghost use mathlib.Core.Bool.{true, not, cond};
-ghost use Prim.Native.Nat.{ℕ, _+_, _*_, _<_, _≤_, min};
-ghost use lib.Dec.{ltb};
+ghost use mathlib.Core.Bool.{true, not};
+ghost use Prim.Native.Nat.{ℕ, _+_, _*_, _<_, _≤_};
 ghost use lib.ListN.{length};
 ghost use Rattle.numbers.specs.Whole.{Sized};
 ghost use Rattle.laws.specs.Beside.{isMoment, isOpen};
 ghost use Rattle.rules.specs.Bench.{mostTimeTolerance, mostOffered, mostPositions, mostPhases, mostCycles};
-ghost use Rattle.rules.specs.Cycle.{phaseEnd, seconds, phaseAt, positions, valid};
+ghost use Rattle.rules.specs.Cycle.{seconds, valid};
 ghost use Rattle.rules.specs.Band.{insideOf};
 ghost use Rattle.window.specs.Moving.{leastIn, greatestIn};
 ghost use Rattle.map.specs.Map.{opened, markedIf};
 ghost use Rattle.ledger.specs.Row.{at, isOver, sampleAdded, mostHeld};
-ghost use Rattle.rules.specs.declared.End.the-variants.{None as none, Limit as limit};
 ghost use Rattle.rules.specs.Shown.{mapWords, ledgerNumbers};
 ghost use Rattle.rules.specs.Regular.{plan};
 ghost use Rattle.state.specs.State.{left};
-ghost use Rattle.step.specs.Step.{standing, nextOf, offeredOne, countedOne, Counts, oneJudged, oneTaken, Kept, withProgress};
+ghost use Rattle.step.specs.Step.{standing, oneJudged, oneTaken, Kept, withProgress};
 
 // Where a run stands while samples are taken: row, position and phase of the next sample and the window of its position, beside its progress.
 // Up to position `until` only the ends of the window move.
@@ -52,14 +50,6 @@ struct Next {
     row: usize,
     position: u32,
     phase: usize,
-}
-
-// Up to which position phase and window stay what they are, but for the window's ends.
-fn until_in(cycle: &[u8], window: Window, phase: usize) -> u32
-    requires { ⌜ 2 + 2 * phase < length (now cycle) ⌝ }
-    ensures { λ r. ⌜ r ≡ min (window .until) (20 * phaseEnd (now (cycle .entry)) phase) ⌝ }
-{
-    smaller(window.until, 20 * (end_of(cycle, phase) as u32))
 }
 
 // Where the run stands.
@@ -93,119 +83,6 @@ pub fn with_going(run: Run, g: Going) -> Run
     let track = run.track;
     let progress = g.progress;
     Run { track, progress }
-}
-
-// The phase of a position, from that of the position before.
-fn next_phase(cycle: &[u8], phase: usize, position: u32) -> usize
-    requires { ⌜ (valid (now cycle) ≡ true) × (position + 1 < positions (now cycle)) × (phase ≡ phaseAt (now cycle) position) ⌝ }
-    ensures { λ r. ⌜ r ≡ phaseAt (now (cycle .entry)) (position + 1) ⌝ }
-{
-    if position + 1 < 20 * (end_of(cycle, phase) as u32) {
-        return phase;
-    }
-    phase + 1
-}
-
-// A sample more is offered and not counted: with it the run has this end.
-fn offered_by(g: Going, end: End) -> Going
-    requires { ⌜ g .progress .offered < mostOffered ⌝ }
-    ensures { λ r. ⌜ r ≡ offeredOne g end ⌝ }
-{
-    let window = g.window;
-    let progress = g.progress;
-    Going {
-        progress: Progress {
-            offered: progress.offered + 1,
-            counted: progress.counted,
-            end,
-        },
-        row: g.row,
-        position: g.position,
-        phase: g.phase,
-        window,
-        until: g.until,
-    }
-}
-
-// The end when a cycle is finished: "limit" after 64 of them.
-fn end_after(rows: usize) -> End
-    ensures { λ r. ⌜ r ≡ cond (ltb rows mostCycles) none limit ⌝ }
-{
-    if rows < MOST_CYCLES {
-        return End::None;
-    }
-    End::Limit
-}
-
-// Where the sample behind a counted one stands, and the run's end with that.
-fn next_place(cycle: &[u8], w: u32, g: Going) -> Next
-    requires { ⌜ Counts (now cycle) w g ⌝ }
-    ensures { λ r. ⌜ r ≡ nextOf (now (cycle .entry)) (g .progress .counted + 1) ⌝ }
-{
-    let position = g.position;
-    if position + 1 < 20 * seconds_of(cycle) {
-        return Next {
-            end: End::None,
-            row: g.row,
-            position: position + 1,
-            phase: next_phase(cycle, g.phase, position),
-        };
-    }
-    let row = g.row + 1;
-    Next {
-        end: end_after(row),
-        row,
-        position: 0,
-        phase: 0,
-    }
-}
-
-// A sample that counts, behind which phase, cycle or window may be others: all is worked out anew.
-fn turned_by(cycle: &[u8], w: u32, g: Going) -> Going
-    requires { ⌜ Counts (now cycle) w g ⌝ }
-    ensures { λ r. ⌜ r ≡ countedOne (now (cycle .entry)) w g ⌝ }
-{
-    let next = next_place(cycle, w, g);
-    let end = next.end;
-    let window = window_at(cycle, w, next.position);
-    let progress = g.progress;
-    Going {
-        progress: Progress {
-            offered: progress.offered + 1,
-            counted: progress.counted + 1,
-            end,
-        },
-        row: next.row,
-        position: next.position,
-        phase: next.phase,
-        window,
-        until: until_in(cycle, window, next.phase),
-    }
-}
-
-// A sample that counts.
-fn counted_by(cycle: &[u8], w: u32, g: Going) -> Going
-    requires { ⌜ Counts (now cycle) w g ⌝ }
-    ensures { λ r. ⌜ r ≡ countedOne (now (cycle .entry)) w g ⌝ }
-{
-    let position = g.position;
-    if g.until <= position + 1 {
-        return turned_by(cycle, w, g);
-    }
-    let window = g.window;
-    let progress = g.progress;
-    Going {
-        progress: Progress {
-            offered: progress.offered + 1,
-            counted: progress.counted + 1,
-            end: End::None,
-        },
-        row: g.row,
-        position: position + 1,
-        phase: g.phase,
-        window: shift(cycle, w, position, window),
-        until: g.until,
-    }
 }
 
 // Whether the speed v is outside in a window, with the tolerance s.

@@ -10,9 +10,10 @@ use lib.Signed.{leZ}
 use mathlib.Core.Bool.{true}
 use Rattle.numbers.proofs.Signed.{read}
 use Rattle.numbers.proofs.Tests.{both}
+use Rattle.rules.specs.declared.Charge.{Charge}
 use Rattle.rules.specs.declared.Charge.the-variants.{Wh as wh}
-use Rattle.rules.specs.Closing.{isCharge, mostCharge}
-use Rattle.consumption.specs.Figures.{rechargedBy, chargedBy}
+use Rattle.rules.specs.Closing.{isCharge, mostCharge, rechargeBy}
+use Rattle.laws.specs.Answers.{figureSaid}
 use Rattle.consumption.proofs.charged.Statement.{statement}
 use Rattle.consumption.proofs.charged.Tie as tie
 
@@ -38,7 +39,7 @@ recharged-requires c κs =
 returns : tie.Need-returns
 returns c =
     let a = c .before .before .args in
-    ap (chargedBy (a .range) (a .total) (a .after)) (sym (c .enum-told .given .1))
+    ap (λ (x : Charge). figureSaid (rechargeBy (a .total) (a .range) (a .after) x)) (sym (c .enum-told .given .1))
 
 returns-2 : tie.Need-returns-2
 returns-2 c =
@@ -47,8 +48,7 @@ returns-2 c =
     let E = read (s .fits .total) in
     let F = read (s .fits .after) in
     c .recharged .ensures
-    ∙ (λ i. rechargedBy (s .args .range) (E i) (F i) (known .charge .given .0 .0))
-    ∙ ap (chargedBy (s .args .range) (s .args .total) (s .args .after)) (sym (known .charge .given .1))
+    ∙ (λ i. figureSaid (rechargeBy (E i) (s .args .range) (F i) (sym (known .charge .given .1) i)))
 
 pub charged-spec : {M : Type 1} → statement M
 charged-spec =

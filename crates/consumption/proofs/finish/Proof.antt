@@ -10,9 +10,9 @@ use Rattle.rules.specs.Words.{up}
 use Rattle.laws.specs.Beside.{mostWhole}
 use Rattle.numbers.proofs.Signed.{read}
 use Rattle.numbers.proofs.Tests.{pass, stop, tests}
-use Rattle.rules.specs.Closing.{range}
-use Rattle.laws.specs.Answers.{gives}
-use Rattle.consumption.specs.Figures.{weighedBy, chargedBy, finishedBy}
+use Rattle.rules.specs.Closing.{range, rechargeBy}
+use Rattle.laws.specs.Answers.{gives, figureSaid}
+use Rattle.consumption.specs.Figures.{weighedBy, finishedBy}
 use Rattle.consumption.proofs.Weights.{Positive, positive, Cast, cast, machine}
 use Rattle.consumption.proofs.finish.Statement.{statement}
 use Rattle.consumption.proofs.finish.Tie as tie
@@ -77,7 +77,7 @@ returns-2 c =
     let r = range-is weighed in
     let E = read (s .fits .total) in
     let F = read (s .fits .after) in
-    let recharge = c .charged .ensures ∙ (λ i. chargedBy (r i) (E i) (F i) (s .args .charge)) in
+    let recharge = c .charged .ensures ∙ (λ i. figureSaid (rechargeBy (E i) (r i) (F i) (s .args .charge))) in
     pass _ (omega (tests, r)) (λ i. gives (record { weighted = W i; range = r i; recharge = recharge i }))
 
 pub finish-spec : {M : Type 1} → statement M

@@ -1,8 +1,8 @@
 -- `consumption::recharged` meets its contract: 14 by the sum's sign, 12 by the quotient's size, or the figure.
 -- Assumes nothing.
 use mathlib.Core.Bool.{Bool, true, false, not}
-use mathlib.Core.Path.{_≡_, ap, ap₂, sym, _∙_}
-use Prim.Native.Nat.{ℕ, _+_, _*_, _/_}
+use mathlib.Core.Path.{_≡_, refl, ap, ap₂, sym, _∙_}
+use Prim.Native.Nat.{ℕ, suc, _+_, _*_, _/_}
 use native.Mathlib.Omega.{arith}
 use borrow.Author.Needs.{needs}
 use lib.IntN.{ℤ, pos, _+ℤ_}
@@ -11,16 +11,18 @@ use mir.Syntax.{w64}
 use mir.Val.{toZ, ofZ}
 use Rattle.rules.specs.Words.{up}
 use Rattle.numbers.specs.Whole.{Sized}
-use Rattle.numbers.proofs.Tests.{pass, stop, tests}
+use Rattle.numbers.proofs.Tests.{pass, stop, tests, settled-taken, settled-answer}
 use Rattle.numbers.proofs.Whole.{le-up, le-not, abs-is, sized-add}
 use Rattle.numbers.proofs.Signed.{read, sum-fits, sum-read}
 use Rattle.wide.specs.Ratio.{ratio}
 use Rattle.wide.proofs.Answers.{is-quotient, over-quotient}
-use Rattle.rules.specs.Closing.{recharge, mostTransfer}
-use Rattle.laws.specs.Answers.{gives, is}
+use Rattle.rules.specs.declared.Charge.the-variants.{Wh as wh}
+use Rattle.rules.specs.declared.Figure.the-variants.{Is}
+use Rattle.rules.specs.Closing.{recharge, mostTransfer, rechargeFigure, rechargeRefusal, rechargeBy}
+use Rattle.laws.specs.Answers.{Said, gives, refuses, Measure, is, figureSaid}
+use Rattle.laws.proofs.Answers.{figure-or}
 use Rattle.laws.specs.Beside.{mostWhole}
 use Rattle.laws.proofs.Recharge.{twice}
-use Rattle.consumption.specs.Figures.{rechargedBy}
 use Rattle.consumption.proofs.Weights.{positive, cast}
 use Rattle.consumption.proofs.recharged.Statement.{statement}
 use Rattle.consumption.proofs.recharged.Tie as tie
@@ -52,9 +54,22 @@ some c = tested (c .before) false (c .if1 .left)
 add-both : tie.Need-add-both
 add-both c = sum-fits w64 tt (c .pre .0 .3) (c .pre .1 .0)
 
+-- 14 or 12 as the answer, or the figure
+abbrev refusal : tie.Start → ℕ
+refusal s = rechargeRefusal (E s) (s .args .range) (s .args .after) (s .args .wh)
+
+abbrev figure-by : tie.Start → ℕ
+figure-by s = rechargeFigure (E s) (s .args .range) (s .args .after) (s .args .wh)
+
+abbrev by-rules : tie.Start → Said Measure
+by-rules s = figureSaid (rechargeBy (E s) (s .args .range) (s .args .after) (wh (s .args .wh)))
+
+refused-so : (s : tie.Start) {k : ℕ} → suc k ≡ refusal s → refuses (suc k) ≡ by-rules s
+refused-so s {k} h = settled-answer refuses (gives (is (figure-by s))) h (λ (z : suc k ≡ 0). omega arith) ∙ sym (figure-or (refusal s) (Is (figure-by s)))
+
 returns : tie.Need-returns
-unfolding rechargedBy
-returns c = stop _ (tested (c .before) true (c .if1 .taken))
+unfolding rechargeRefusal
+returns c = refused-so (c .before) (stop _ (tested (c .before) true (c .if1 .taken)))
 
 cast-divided : tie.Need-cast-divided
 cast-divided c = let a = c .before in cast tt (read (a .fits .total)) (positive _ _ (a .pre .0 .3) (a .pre .0 .2)) .fits
@@ -84,22 +99,25 @@ figure : (c : tie.After-r) → (let s = c .before .before .before .before in
 figure c = is-quotient _ _ _ _ (sym (c .r .given .1) ∙ quotient (c .before .before)) ∙ twice _ _ _ _
 
 returns-2 : tie.Need-returns-2
-unfolding rechargedBy
+unfolding rechargeRefusal
 returns-2 c =
     let k = c .before .before in
-    pass _ (some (k .before .before .before)) (stop _ (omega (tests, figure k)))
+    let on = k .before .before .before in
+    refused-so (on .before) (pass 14 (some on) (stop _ (omega (tests, figure k))))
 
 enum-told : tie.Need-enum-told
 enum-told c = search needs
 
 returns-3 : tie.Need-returns-3
-unfolding rechargedBy
+unfolding rechargeRefusal
 returns-3 c =
     let k = c .before .before in
-    pass _ (some (k .before .before .before)) (pass _ (omega (tests, figure k)) (ap (λ (n : ℕ). gives (is n)) (figure k)))
+    let on = k .before .before .before in
+    let none : refusal (on .before) ≡ 0 = sym (pass 14 (some on) (pass 12 (omega (tests, figure k)) refl)) in
+    ap (λ (n : ℕ). gives (is n)) (figure k) ∙ sym (settled-taken _ none) ∙ sym (figure-or (refusal (on .before)) (Is (figure-by (on .before))))
 
 returns-4 : tie.Need-returns-4
-unfolding rechargedBy
+unfolding rechargeRefusal
 returns-4 c =
     let k = c .before .before in
     let s = k .before .before in
@@ -107,7 +125,7 @@ returns-4 c =
     let large =
     over-quotient _ (up (EF s)) (omega (arith, le-up (pos 1) (EF s) more)) (omega (arith, abs-is (EF s), sum-sized s .size))
     (sym (c .enum-told .given .1) ∙ quotient k) in
-    pass _ more (stop _ (omega (tests, twice (up (s .args .total)) (up (EF s)) (s .args .wh) (s .args .range))))
+    refused-so s (pass 14 more (stop _ (omega (tests, twice (up (s .args .total)) (up (EF s)) (s .args .wh) (s .args .range)))))
 
 pub recharged-spec : {M : Type 1} → statement M
 recharged-spec =

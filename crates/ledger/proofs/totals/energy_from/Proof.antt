@@ -2,19 +2,15 @@
 -- Assumes nothing.
 use mathlib.Core.List.{List}
 use mathlib.Core.Path.{refl, _∙_}
-use Prim.Native.Nat.{ℕ, _+_, _-_, _*_, _^_, _≤_, _<_}
-use native.Mathlib.Nat.{mul-le-mul-right}
+use Prim.Native.Nat.{ℕ, _+_, _-_, _≤_}
 use native.Mathlib.Omega.{arith}
-use borrow.Author.Tests.{lt-ltb}
 use lib.IntN.{ℤ}
 use mir.Syntax.{w64}
-use mir.Val.{hbits, toZ, ofZ}
-use Rattle.rules.specs.Bench.{mostPhases, mostCycles}
-use Rattle.rules.specs.Shown.{mostEnergy}
+use mir.Val.{toZ, ofZ}
+use Rattle.rules.specs.Bench.{mostCycles}
 use Rattle.rules.specs.Words.{fold}
 use Rattle.numbers.proofs.Signed.{read}
 use Rattle.numbers.proofs.Sums.{Summed, Added, added, summed-all}
-use Rattle.numbers.proofs.Tests.{true-T}
 use Rattle.ledger.specs.Row.{energyIn}
 use Rattle.ledger.proofs.Bounded.{energy-sized}
 use Rattle.ledger.proofs.totals.energy_from.Statement.{statement}
@@ -51,8 +47,7 @@ one-more : (c : tie.After-energy-in Inv-loop μ-loop) → (
 one-more c =
     let s = c .before .before .before in
     let few : mostCycles - s .args .a ≤ mostCycles = omega arith in
-    let small : (mostCycles - s .args .a) * (mostPhases * mostEnergy) < 2 ^ hbits w64 = omega (arith, mul-le-mul-right (mostPhases * mostEnergy) few) in
-    added (true-T (lt-ltb _ _ small)) (λ k l. energy-sized _ (s .pre .0) (s .args .a + k) (omega (arith, s .pre .1))) (c .before .before .loop .inv)
+    added few tt (λ k l. energy-sized _ (s .pre .0) (s .args .a + k) (omega (arith, s .pre .1))) (c .before .before .loop .inv)
     (c .before .loop-test .taken) (read (record { sfits = c .energy-in .ok }) ∙ c .energy-in .ensures)
 
 add-sum : tie.Need-add-sum Inv-loop μ-loop

@@ -2,18 +2,15 @@
 -- Assumes nothing.
 use mathlib.Core.Path.{refl}
 use mathlib.Core.List.{List}
-use Prim.Native.Nat.{ℕ, _+_, _-_, _*_, _^_, _<_}
-use native.Mathlib.Nat.{mul-le-mul-right}
+use Prim.Native.Nat.{ℕ, _+_, _-_, _*_, _<_}
 use native.Mathlib.Omega.{arith}
-use borrow.Author.Tests.{lt-ltb}
 use lib.IntN.{ℤ}
 use mir.Syntax.{w64}
-use mir.Val.{hbits, toZ, ofZ}
+use mir.Val.{toZ, ofZ}
 use Rattle.rules.specs.Words.{fold}
 use Rattle.numbers.proofs.Signed.{read}
 use Rattle.numbers.proofs.Sums.{Summed, Added, added, summed-all}
-use Rattle.numbers.proofs.Tests.{true-T}
-use Rattle.rules.specs.Shown.{ledgerNumbers, mostEnergy}
+use Rattle.rules.specs.Shown.{ledgerNumbers}
 use Rattle.ledger.specs.Row.{at}
 use Rattle.ledger.proofs.Bounded.{bounded-long, bounded-sized}
 use Rattle.ledger.proofs.totals.sum_by.Statement.{statement}
@@ -56,8 +53,7 @@ one-more : (c : tie.After-sum Inv-loop μ-loop) → (
     Added w64 (a .n) (from (a .ledger .now) (a .a) (a .d)) (at-k .sum) (at-k .k) (toZ w64 (ofZ w64 (from (a .ledger .now) (a .a) (a .d) (at-k .k)))))
 one-more c =
     let s = c .before .before .before in
-    let small : s .args .n * mostEnergy < 2 ^ hbits w64 = omega (arith, mul-le-mul-right mostEnergy (s .pre .1)) in
-    added (true-T (lt-ltb _ _ small)) (λ j l. bounded-sized _ (s .pre .0) (s .args .a + s .args .d * j) (s .pre .2 .within j l)) (c .before .before .loop .inv)
+    added (s .pre .1) tt (λ j l. bounded-sized _ (s .pre .0) (s .args .a + s .args .d * j) (s .pre .2 .within j l)) (c .before .before .loop .inv)
     (c .before .loop-test .taken) (read (record { sfits = c .sum .given }))
 
 add-sum-2 : tie.Need-add-sum-2 Inv-loop μ-loop

@@ -1,10 +1,10 @@
--- `state::is_progress` meets its contract: in each arm the end is known, and the answer rewrites with the test that led there.
+-- `state::own::is_progress` meets its contract: in each arm the end is known, and the answer rewrites with the test that led there.
 -- Assumes nothing.
 use borrow.Author.Needs.{needs}
 use borrow.Author.Tests.{lt-ltb, le-ltb, eq-eqb, ne-eqb}
 use Rattle.state.specs.State.{isProgress}
-use Rattle.state.proofs.is_progress.Statement.{statement}
-use Rattle.state.proofs.is_progress.Tie as tie
+use Rattle.state.proofs.own.is_progress.Statement.{statement}
+use Rattle.state.proofs.own.is_progress.Tie as tie
 
 enum-told : tie.Need-enum-told
 enum-told c = search needs

@@ -1,9 +1,9 @@
--- `state::are_ends` meets its contract: each answer rewrites with the tests that led there.
+-- `state::own::are_ends` meets its contract: each answer rewrites with the tests that led there.
 -- Assumes nothing.
 use borrow.Author.Tests.{le-leb, lt-leb}
 use Rattle.state.specs.State.{areEnds}
-use Rattle.state.proofs.are_ends.Statement.{statement}
-use Rattle.state.proofs.are_ends.Tie as tie
+use Rattle.state.proofs.own.are_ends.Statement.{statement}
+use Rattle.state.proofs.own.are_ends.Tie as tie
 
 returns : tie.Need-returns
 unfolding areEnds

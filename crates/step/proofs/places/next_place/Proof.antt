@@ -1,4 +1,4 @@
--- `step::next_place` meets its contract: the next sample stands at the next position, or at the first of the next cycle.
+-- `step::places::next_place` meets its contract: the next sample stands at the next position, or at the first of the next cycle.
 -- Assumes nothing.
 use mathlib.Core.Path.{_≡_, sym, ap, _∙_}
 use Prim.Native.Nat.{_<_}
@@ -10,8 +10,8 @@ use Rattle.laws.proofs.Sound.{Sound, sound}
 use Rattle.rules.specs.Bench.{mostPositions, mostCycles}
 use Rattle.step.proofs.Standing.{position-is, row-is, phase-is, position-most, row-small}
 use Rattle.step.proofs.Placing.{next-within, next-first}
-use Rattle.step.proofs.next_place.Statement.{statement}
-use Rattle.step.proofs.next_place.Tie as tie
+use Rattle.step.proofs.places.next_place.Statement.{statement}
+use Rattle.step.proofs.places.next_place.Tie as tie
 
 -- the sound cycle, and where the run stands, at the entry
 module _ (c : tie.Start) where

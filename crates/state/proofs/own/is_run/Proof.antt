@@ -1,4 +1,4 @@
--- `state::is_run` meets its contract: each answer rewrites with the tests that led there.
+-- `state::own::is_run` meets its contract: each answer rewrites with the tests that led there.
 -- Assumes nothing.
 use mathlib.Core.Bool.{true}
 use mathlib.Core.Path.{_≡_, sym, _∙_}
@@ -6,8 +6,8 @@ use borrow.Author.Needs.{needs}
 use borrow.Author.Tests.{not-true, not-false, le-leb, lt-leb}
 use Rattle.rules.specs.Bench.{tolerable}
 use Rattle.state.specs.State.{areEnds, isRun}
-use Rattle.state.proofs.is_run.Statement.{statement}
-use Rattle.state.proofs.is_run.Tie as tie
+use Rattle.state.proofs.own.is_run.Statement.{statement}
+use Rattle.state.proofs.own.is_run.Tie as tie
 
 -- what the tests that passed say
 fine-ends : (c : tie.Else3) → areEnds (c .before .before .before .before .before .before .args .run .track .ends) ≡ true

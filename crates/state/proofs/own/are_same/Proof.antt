@@ -1,9 +1,9 @@
--- `state::are_same` meets its contract: each answer rewrites with the tests that led there.
+-- `state::own::are_same` meets its contract: each answer rewrites with the tests that led there.
 -- Assumes nothing.
 use borrow.Author.Tests.{eq-eqb, ne-eqb}
 use Rattle.state.specs.State.{sameEnds}
-use Rattle.state.proofs.are_same.Statement.{statement}
-use Rattle.state.proofs.are_same.Tie as tie
+use Rattle.state.proofs.own.are_same.Statement.{statement}
+use Rattle.state.proofs.own.are_same.Tie as tie
 
 returns : tie.Need-returns
 unfolding sameEnds

@@ -1,9 +1,9 @@
--- `step::end_after` meets its contract: each answer rewrites with the test that led there.
+-- `step::places::end_after` meets its contract: each answer rewrites with the test that led there.
 -- Assumes nothing.
 use borrow.Author.Tests.{lt-ltb, le-ltb}
 use Rattle.rules.specs.Bench.{mostCycles}
-use Rattle.step.proofs.end_after.Statement.{statement}
-use Rattle.step.proofs.end_after.Tie as tie
+use Rattle.step.proofs.places.end_after.Statement.{statement}
+use Rattle.step.proofs.places.end_after.Tie as tie
 
 returns : tie.Need-returns
 returns c = rw (lt-ltb _ mostCycles (c .if1 .taken))

@@ -1,4 +1,4 @@
--- `step::turned_by` meets its contract: where the next sample stands, with the window worked out anew.
+-- `step::places::turned_by` meets its contract: where the next sample stands, with the window worked out anew.
 -- Assumes nothing.
 use mathlib.Core.Path.{ap}
 use Prim.Native.Nat.{_+_, _<_}
@@ -9,8 +9,8 @@ use Rattle.rules.specs.Regular.{positionOf}
 use Rattle.laws.proofs.Sound.{Sound, sound, real, phase-exists}
 use Rattle.step.specs.Step.{Next}
 use Rattle.step.proofs.Placing.{turned-is}
-use Rattle.step.proofs.turned_by.Statement.{statement}
-use Rattle.step.proofs.turned_by.Tie as tie
+use Rattle.step.proofs.places.turned_by.Statement.{statement}
+use Rattle.step.proofs.places.turned_by.Tie as tie
 
 good : (c : tie.Start) → Sound (c .args .cycle .now)
 good c = sound _ (c .pre .sound)

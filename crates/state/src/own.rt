@@ -1,0 +1,98 @@
+// Whether the numbers of a state are within their limits.
+use crate::Ends;
+use crate::Progress;
+use crate::Run;
+use rules::End;
+use rules::limits::LEAST_SECONDS;
+use rules::limits::MOST_CYCLES;
+use rules::limits::MOST_OFFERED;
+use rules::limits::MOST_SECONDS;
+use values::is_tolerable;
+ghost use mathlib.Core.Path.{_≡_};
+ghost use Prim.Native.Nat.{_<_};
+ghost use Rattle.rules.specs.Cycle.{seconds};
+ghost use Rattle.state.specs.State.{sameEnds, isProgress, areEnds, isRun};
+
+// As many cycles, and as many seconds, as the numbers beside them are wide.
+const CYCLES: u32 = MOST_CYCLES as u32;
+
+const MOST_END: u16 = MOST_SECONDS as u16;
+
+pub fn are_same(d: Ends, e: Ends) -> bool
+    ensures { λ r. ⌜ r ≡ sameEnds d e ⌝ }
+{
+    if d.first != e.first {
+        return false;
+    }
+    if d.second != e.second {
+        return false;
+    }
+    if d.third != e.third {
+        return false;
+    }
+    d.fourth == e.fourth
+}
+
+fn are_ends(e: Ends) -> bool
+    ensures { λ r. ⌜ r ≡ areEnds e ⌝ }
+{
+    if MOST_END < e.first {
+        return false;
+    }
+    if MOST_END < e.second {
+        return false;
+    }
+    if MOST_END < e.third {
+        return false;
+    }
+    e.fourth <= MOST_END
+}
+
+// Whether the samples offered and counted are such as the end says.
+fn is_progress(progress: Progress, most: u32) -> bool
+    ensures { λ r. ⌜ r ≡ isProgress (progress .end) most (progress .offered) (progress .counted) ⌝ }
+{
+    let end = progress.end;
+    match end {
+        End::None => {
+            if progress.counted != progress.offered {
+                return false;
+            }
+            progress.counted < most
+        }
+        End::Stop => {
+            if progress.offered <= progress.counted {
+                return false;
+            }
+            progress.counted < most
+        }
+        End::Limit => {
+            if progress.counted != most {
+                return false;
+            }
+            most <= progress.offered
+        }
+    }
+}
+
+// Whether no number of the state is beyond its limits.
+pub fn is_run(run: Run) -> bool
+    ensures { λ r. ⌜ r ≡ isRun run ⌝ }
+{
+    if run.track.seconds < LEAST_SECONDS {
+        return false;
+    }
+    if MOST_SECONDS < run.track.seconds {
+        return false;
+    }
+    if !are_ends(run.track.ends) {
+        return false;
+    }
+    if !is_tolerable(run.track.tolerances) {
+        return false;
+    }
+    if MOST_OFFERED < run.progress.offered {
+        return false;
+    }
+    is_progress(run.progress, CYCLES * (20 * run.track.seconds))
+}
