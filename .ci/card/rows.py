@@ -1,6 +1,10 @@
 #!/usr/bin/env python3
 """The rows of the test card that a program runs: rows.py FOLDER writes the records to FOLDER/stdin, each behind its length (4 bytes, big-endian),
-and what is to be printed to FOLDER/stdout, each with an empty line behind it. What is to be printed is worked out by hand from document 01."""
+and what is to be printed to FOLDER/stdout, each with an empty line behind it. What is to be printed is worked out by hand from documents 01 and 02:
+
+A sample GOOD draws 720,000. The interval from one GOOD to the next has the sum of both, 1,440,000, and a distance of 100 + 100 = 200. With T = 2 a cycle has
+40 intervals: e = 57,600,000 and d = 8,000, so q = 100 e / d = 720,000. Without a stop n samples close n - 1 intervals: the 41st closes the first cycle, the
+121st the third. A run that is stopped by sample m (from 0) has closed m. Range is 5 E / (72 W), with W = 720,000 that is E / 10,368,000."""
 import sys
 
 OWN, OTHER = b"LTESTVEH000000001", b"LTESTVEH000000002"
@@ -45,7 +49,14 @@ LEVEL = cycle([2], [100, 100, 100])
 DRAFT = tolerances(30, 20, 300)
 NAMED = MARK + NUMBER
 HEAD = NAMED + LEVEL + DRAFT
-DRIVEN = HEAD + block(0, *[GOOD] * 120)
+# document 01's example has 120 samples; one more closes the third cycle
+EXAMPLE = HEAD + block(0, *[GOOD] * 120)
+DRIVEN = HEAD + block(0, *[GOOD] * 121)
+# far outside, and as much energy as a sample can draw
+FAR = (1500, 15000, -10000)
+# T = 2 again, of two phases with 20 positions each, driven with three kinds of samples; three cycles, and one sample more
+MIDDLE, QUICK, SLACK = [GOOD] * 20, [(120, 6000, -150)] * 20, [(80, 6000, -110)] * 20
+JOINT = NAMED + cycle([1, 2], [100] * 3) + DRAFT + block(0, *MIDDLE, *QUICK, *SLACK, *MIDDLE, *QUICK, *SLACK, (100, 6000, -500))
 NUMBER_I = field(2, b"ITESTVEH000000001")
 
 
@@ -58,12 +69,22 @@ def told(end="none 0", cycles=0, outside=0, passed=0, drawn=0, closing=("refused
 
 
 def driven(ac, passed=0):
-    """The paper's example, with another last line."""
-    return told("none 120", 3, 0, passed, 86400000, ["weighted 720000", "range 16", ac])
+    """Document 01's example with one sample more, and with another last line: E = 120 x 1,440,000, and 864,000,000 / 51,840,000 = 16.66.. metres."""
+    return told("none 121", 3, 0, passed, 172800000, ["weighted 720000", "range 16", ac])
 
 
-def closed(*closing, drawn=86400000, outside=0):
-    return told("none 120", 3, outside, 0, drawn, closing)
+def closed(*closing, drawn=172800000, outside=0):
+    return told("none 121", 3, outside, 0, drawn, closing)
+
+
+def joined(ac):
+    """JOINT. Its kinds of samples draw 720,000, 900,000 and 660,000, its last sample 3,000,000. In a phase 19 intervals have both ends in it: 27,360,000,
+    34,200,000 or 25,080,000, over 3,800, 4,560 or 3,040. The 20th goes on to the first sample behind the phase, and is of the phase and cycle that it comes from.
+    e_1 = 27,360,000 + 1,620,000 + 34,200,000 + 1,560,000 = 64,740,000; d_1 = 3,800 + 220 + 4,560 + 200 = 8,780; q_1 = 737,357 (.63)
+    e_2 = 25,080,000 + 1,380,000 + 27,360,000 + 1,620,000 = 55,440,000; d_2 = 3,040 + 180 + 3,800 + 220 = 7,240; q_2 = 765,745 (.85)
+    e_3 = 34,200,000 + 1,560,000 + 25,080,000 + 3,660,000 = 64,500,000; d_3 = 4,560 + 200 + 3,040 + 180 = 7,980; q_3 = 808,270 (.67)
+    E is their sum; W = (q_1 e_1 + q_2 e_2 + q_3 e_3) / E = 142,322,809,980,000 / 184,680,000 = 770,645.49..; 923,400,000 / 55,486,440 = 16.64.. metres."""
+    return told("none 121", 3, 0, 0, 184680000, ["weighted 770645", "range 16", ac])
 
 
 def from_number(text):
@@ -72,14 +93,15 @@ def from_number(text):
 
 
 ROWS = [
-    # document 01's example, and the rows of the test card that are not marked P
+    # document 01's example, 119 x 1,440,000 and two cycles; with one sample more; and the rows of the test card that are not marked P
+    (EXAMPLE + recharge(15), told("none 120", 2, 0, 0, 171360000)),
     (DRIVEN + recharge(15), driven("ac 937500")),
     (NAMED + cycle([2401], [0] * 2402), refused(2, 3)),
     (HEAD, told()),
     (NAMED + cycle([2400], [1500] * 2401) + DRAFT, told()),
     (NAMED + cycle([1], [0, 0]), refused(8, 3)),
     (HEAD + field(5, OWN + bytes(4)), refused(8, 5)),
-    (HEAD + block(0, *[GOOD] * 200), told("none 200", 5, 0, 0, 144000000, ["weighted 720000", "range 27", "ac -"])),
+    (HEAD + block(0, *[GOOD] * 200), told("none 200", 4, 0, 0, 286560000, ["weighted 720000", "range 27", "ac -"])),
     (HEAD + block(0, *[GOOD] * 201), refused(8, 5)),
     (b"", refused(15, 1)),
     # 2: a cycle that breaks a rule, or whose length does not match
@@ -112,6 +134,8 @@ ROWS = [
     (HEAD + block(0, (0, 0, -10001)), refused(5, 5)),
     (HEAD + block(0, GOOD, GOOD, (1501, 0, 0)), refused(5, 5)),
     (HEAD + block(0, (1500, 15000, 10000), (0, 15000, -10000)), told("none 2", outside=2)),
+    (HEAD + block(0, (1500, 15000, -10000), (0, 15000, -10000)), told("none 2", outside=2, drawn=300000000)),
+    (HEAD + block(0, (1500, 15000, 10000), (0, 15000, 10000)), told("none 2", outside=2, drawn=-300000000)),
     # 6: the first number of a block
     (HEAD + block(1, GOOD), refused(6, 5)),
     (HEAD + block(0, GOOD) + block(0, GOOD), refused(6, 6)),
@@ -183,29 +207,49 @@ ROWS = [
     (HEAD + block(1, (1501, 0, 0), number=OTHER), told(passed=1)),
     (HEAD + block(1, (1501, 0, 0)), refused(6, 5)),
     (DRIVEN + block(7, (9000, 0, 0), number=OTHER) + recharge(15), driven("ac 937500", 1)),
-    # stops: the card's runs of every speed 131
-    (NAMED + LEVEL + tolerances(30, 20, 3) + block(0, *[(131, 6000, -120)] * 10), told("stop 3", 0, 4, 0, 2160000)),
-    (NAMED + LEVEL + tolerances(30, 20, 5) + block(0, *[(131, 6000, -120)] * 10), told("stop 5", 0, 6, 0, 3600000)),
-    (NAMED + LEVEL + tolerances(31, 20, 3) + block(0, *[(131, 6000, -120)] * 10), told("none 10", 0, 0, 0, 7200000)),
-    (NAMED + LEVEL + tolerances(30, 20, 39) + block(0, *[(131, 6000, -120)] * 40), told("stop 39", 0, 40, 0, 28080000)),
-    (NAMED + LEVEL + tolerances(30, 20, 40) + block(0, *[(131, 6000, -120)] * 40), told("none 40", 1, 40, 0, 28800000)),
+    # stops: the card's runs of every speed 131. The stopping sample closes the last interval: 3, 5 and 39 intervals; without a stop 9, 39 and 40
+    (NAMED + LEVEL + tolerances(30, 20, 3) + block(0, *[(131, 6000, -120)] * 10), told("stop 3", 0, 4, 0, 4320000)),
+    (NAMED + LEVEL + tolerances(30, 20, 5) + block(0, *[(131, 6000, -120)] * 10), told("stop 5", 0, 6, 0, 7200000)),
+    (NAMED + LEVEL + tolerances(31, 20, 3) + block(0, *[(131, 6000, -120)] * 10), told("none 10", 0, 0, 0, 12960000)),
+    (NAMED + LEVEL + tolerances(30, 20, 39) + block(0, *[(131, 6000, -120)] * 40), told("stop 39", 0, 40, 0, 56160000)),
+    (NAMED + LEVEL + tolerances(30, 20, 40) + block(0, *[(131, 6000, -120)] * 40), told("none 40", 0, 40, 0, 56160000)),
+    (NAMED + LEVEL + tolerances(30, 20, 40) + block(0, *[(131, 6000, -120)] * 41), told("none 41", 1, 41, 0, 57600000)),
     # a sample behind the stopping one is still checked: the block is refused entire, and the stop with it
     (NAMED + LEVEL + tolerances(30, 20, 0) + block(0, (131, 6000, -120), (1501, 0, 0)), refused(5, 5)),
     (NAMED + LEVEL + tolerances(30, 20, 0) + block(0, (131, 6000, -120), GOOD) + block(2, GOOD), told("stop 0", 0, 1, 0, 0)),
-    # the limit of 64 cycles, and samples after it
-    (HEAD + blocks(2565, GOOD), told("limit 2560", 64, 0, 0, 1843200000, ["weighted 720000", "range 355", "ac -"])),
+    # open and closed intervals: one sample closes none; two samples in two blocks, with another vehicle's between them, close one: 720,000 + 0
+    (HEAD + block(0, GOOD), told("none 1")),
+    (HEAD + block(0, GOOD) + block(0, FAR, number=OTHER) + block(1, (100, 6000, 0)), told("none 2", 0, 0, 1, 720000)),
+    # joints of phases and of cycles
+    (JOINT, joined("ac -")),
+    # a stop by a sample that draws 1,440,000. At the first position of the second cycle: 39 x 1,440,000 + 2,160,000, and the first cycle is finished.
+    # At the last position of the first: 38 x 1,440,000 + 2,160,000, and it is not. What follows changes nothing
+    (NAMED + LEVEL + tolerances(30, 20, 0) + block(0, *[GOOD] * 40, (131, 6000, -240), FAR), told("stop 40", 1, 1, 0, 58320000)),
+    (NAMED + LEVEL + tolerances(30, 20, 0) + block(0, *[GOOD] * 39, (131, 6000, -240), FAR), told("stop 39", 0, 1, 0, 56880000)),
+    # the limit of 64 cycles, and samples after it: 2560 samples close 2559 intervals and 63 cycles; one more closes the last, and is not judged
+    (HEAD + blocks(2560, GOOD), told("none 2560", 63, 0, 0, 3684960000, ["weighted 720000", "range 355", "ac -"])),
+    (HEAD + blocks(2561, GOOD), told("limit 2560", 64, 0, 0, 3686400000, ["weighted 720000", "range 355", "ac -"])),
+    (HEAD + blocks(2565, GOOD), told("limit 2560", 64, 0, 0, 3686400000, ["weighted 720000", "range 355", "ac -"])),
+    # the sample that brings the limit meets 6 and 5 as any other
+    (HEAD + blocks(2560, GOOD) + block(2559, GOOD), refused(6, 18)),
+    (HEAD + blocks(2560, GOOD) + block(2560, (1501, 0, 0)), refused(5, 18)),
     # closing: 10, 11, 12, 13
-    (HEAD + block(0, *[GOOD] * 119), told("none 119", 2, 0, 0, 85680000)),
-    (HEAD + block(0, *[(100, 6000, 120)] * 120), closed("refused 11", drawn=-86400000)),
-    (HEAD + transfer(0, -28800001) + block(0, *[GOOD] * 120), closed("refused 11")),
-    (HEAD + transfer(0, -28800000) + block(0, *[GOOD] * 120), closed("weighted 720000", "range 11", "ac -")),
-    (NAMED + cycle([2], [0] * 3) + DRAFT + block(0, *[(0, 6000, -120)] * 120), closed("refused 12")),
-    (NAMED + cycle([2], [0] * 3) + DRAFT + block(0, *[(1, 6000, -120)] * 120), closed("refused 12")),
-    (NAMED + cycle([2], [0] * 3) + DRAFT + block(0, *[(1, 1, -1)] * 120), closed("refused 13", drawn=120)),
-    # recharge: absent, 14, 12; a figure of 0 is a figure
+    (HEAD + block(0, *[GOOD] * 80), told("none 80", 1, 0, 0, 113760000)),
+    (HEAD + block(0, *[GOOD] * 81), told("none 81", 2, 0, 0, 115200000)),
+    (HEAD + block(0, *[GOOD] * 120), told("none 120", 2, 0, 0, 171360000)),
+    (HEAD + block(0, *[(100, 6000, 120)] * 121), closed("refused 11", drawn=-172800000)),
+    # field 6 is doubled: E = 172,800,000 - 57,600,002 is below e_1 + e_2 = 115,200,000, and one unit of the field more makes it equal
+    (HEAD + transfer(0, -28800001) + block(0, *[GOOD] * 121), closed("refused 11")),
+    (HEAD + transfer(0, -28800000) + block(0, *[GOOD] * 121), closed("weighted 720000", "range 11", "ac -")),
+    # d = 0; then d = 80 and q = 72,000,000; then e = 80, d = 80, q = 100, E = 240 and 1200 / 7200 metres
+    (NAMED + cycle([2], [0] * 3) + DRAFT + block(0, *[(0, 6000, -120)] * 121), closed("refused 12")),
+    (NAMED + cycle([2], [0] * 3) + DRAFT + block(0, *[(1, 6000, -120)] * 121), closed("refused 12")),
+    (NAMED + cycle([2], [0] * 3) + DRAFT + block(0, *[(1, 1, -1)] * 121), closed("refused 13", drawn=240)),
+    # recharge: absent, 14, 12; a figure of 0 is a figure. F is doubled too: E + F = 0, and with one unit of the field more 2
     (DRIVEN, driven("ac -")),
     (DRIVEN + transfer(1, -86400000), driven("ac -")),
     (DRIVEN + transfer(1, -86400000) + recharge(15), driven("refused 14")),
+    (DRIVEN + transfer(1, -86399999) + recharge(15), driven("refused 12")),
     (DRIVEN + recharge(161), driven("refused 12")),
     (DRIVEN + recharge(160), driven("ac 10000000")),
     (DRIVEN + transfer(1, 10**13) + recharge(1), driven("ac 0")),

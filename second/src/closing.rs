@@ -13,7 +13,8 @@ pub struct Figures {
 }
 
 /// The closing: 10, 11, 12, 13 in that order, each over all finished cycles.
-/// `energy` is E, with the transfer before the test.
+/// `energy` is E, with the transfer before the test, in units of 0.25 mJ as
+/// all energies here.
 pub fn close(finished: &[Finished], energy: i128) -> Result<Figures, u8> {
     if finished.len() < 3 {
         return Err(10);
@@ -49,9 +50,9 @@ pub fn weighted(e1: i128, e2: i128, energy: i128, q: &[i128]) -> i128 {
     above / (energy * others)
 }
 
-/// Range = floor(5E / (36W)) metres.
+/// Range = floor(5E / (72W)) metres.
 fn range(energy: i128, weighted: i128) -> i128 {
-    5 * energy / (36 * weighted)
+    5 * energy / (72 * weighted)
 }
 
 /// The recharge figure after a closing that gave its figures: absent, 14, 12.

@@ -89,15 +89,19 @@ fn act(words: &[&str]) -> Result<ExitCode, Failure> {
         ["agree", kind, count, first_seed, options @ ..] => {
             let text = String::from_utf8_lossy(&read_all()?).into_owned();
             let found = agree(&text, kind, number(count)?, number(first_seed)?, &numbers(options)?);
-            match found.ok_or(Failure::Words)? {
-                Ok(text) => print(text.as_bytes()),
-                Err(text) => {
-                    print(text.as_bytes())?;
-                    Ok(ExitCode::from(1))
-                }
-            }
+            answer_agree(found.ok_or(Failure::Words)?)
         }
         _ => Err(Failure::Words),
+    }
+}
+
+fn answer_agree(found: Result<String, String>) -> Result<ExitCode, Failure> {
+    match found {
+        Ok(text) => print(text.as_bytes()),
+        Err(text) => {
+            print(text.as_bytes())?;
+            Ok(ExitCode::from(1))
+        }
     }
 }
 

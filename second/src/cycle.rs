@@ -120,6 +120,13 @@ impl Cycle {
     }
 }
 
+impl Gate {
+    /// Is the speed inside?
+    pub fn takes(&self, speed: i16) -> bool {
+        self.least <= speed && speed <= self.most
+    }
+}
+
 impl Band {
     /// The paper's sentence: inside when lo <= 20v + 20s and 20v <= hi + 20s.
     pub fn verdict(&self, s: i128, v: i128) -> Verdict {

@@ -51,14 +51,15 @@ pub fn outside(chance: &mut Chance, gate: &Gate) -> u16 {
 pub enum Power {
     Steady,
     Regenerating,
+    Braking,
     Tiny,
     Huge,
 }
 
 /// A usual power, or now and then an unusual one.
 pub fn some_power(chance: &mut Chance) -> Power {
-    use Power::{Huge, Regenerating, Steady, Tiny};
-    chance.pick(&[Steady, Steady, Steady, Regenerating, Regenerating, Tiny, Huge])
+    use Power::{Braking, Huge, Regenerating, Steady, Tiny};
+    chance.pick(&[Steady, Steady, Steady, Regenerating, Regenerating, Braking, Tiny, Huge])
 }
 
 /// A sample with the speed given.
@@ -66,6 +67,7 @@ pub fn sample(chance: &mut Chance, speed: u16, power: Power) -> Raw {
     let (voltage, current) = match power {
         Power::Steady => (chance.between(5500, 6500), chance.between(-400, -50)),
         Power::Regenerating => (chance.between(5000, 7000), chance.between(-300, 220)),
+        Power::Braking => (chance.between(5000, 7000), chance.between(-100, 200)),
         Power::Tiny => (chance.between(0, 20), chance.between(-20, 5)),
         Power::Huge => (chance.pick(&[15000, 14999]), chance.pick(&[-10000, -9999, 10000, -5000])),
     };

@@ -145,6 +145,13 @@ fn spoil_first_number(chance: &mut Chance, one: &mut Vec<u8>) {
     one[20..24].copy_from_slice(&chance.pick(&other).to_be_bytes());
 }
 
+/// Refusal 6: another first number in the last block, if that is an own one.
+pub fn spoil_last_block(chance: &mut Chance, fields: &mut [Vec<u8>]) {
+    if let Some(last) = fields.iter_mut().rfind(|field| field[0] == 5) {
+        spoil_first_number(chance, last);
+    }
+}
+
 /// Refusal 8: tag, length, mark or kind.
 fn spoil_form(chance: &mut Chance, fields: &mut Vec<Vec<u8>>) {
     let at = chance.below(fields.len());

@@ -7,8 +7,9 @@ use crate::million::{add_blocks, add_foreign, start};
 use crate::record::MOST;
 use crate::write::{block, transfer, Raw};
 
-/// A sample inside the band, and one with a forbidden speed.
+/// Two samples inside the band, and one with a forbidden speed.
 const GOOD: Raw = Raw { speed: 300, voltage: 6000, current: -100 };
+const FAST: Raw = Raw { speed: 310, voltage: 6000, current: -130 };
 const BAD: Raw = Raw { speed: 1501, voltage: 6000, current: -100 };
 
 /// The full record of a seed; twelve seeds in a row show all cases.
@@ -27,7 +28,8 @@ fn full_of_samples(chance: &mut Chance, draft: &Draft, case: u64) -> Vec<u8> {
     let room = 1 + chance.below(199);
     let offered = MOST - room;
     let mut bytes = start(draft);
-    add_blocks(&mut bytes, draft, &vec![GOOD; offered], 0, 200);
+    let samples: Vec<Raw> = (0..offered).map(|at| [GOOD, GOOD, FAST][at % 3]).collect();
+    add_blocks(&mut bytes, draft, &samples, 0, 200);
     let own = |first: usize, samples: &[Raw]| block(&draft.vehicle, first as u32, samples);
     let too_many = vec![GOOD; room + 1];
     let fits = own(offered, &too_many[1..]);

@@ -1,4 +1,5 @@
-//! An independent second program, written from the rules paper alone.
+//! An independent second program, written from the papers alone: document 01,
+//! the rules, and document 02, the requests, of which L2 is in it.
 //!
 //! It holds the whole record in memory, collects all accepted samples first
 //! and only then drives the run over them, cycle by cycle.
@@ -17,6 +18,7 @@ pub mod sheet;
 
 pub mod ask;
 pub mod breakage;
+pub mod brink;
 pub mod chance;
 pub mod corners;
 pub mod draft;
@@ -29,6 +31,7 @@ pub mod million;
 pub mod nearby;
 pub mod recharge;
 pub mod small;
+pub mod wish;
 pub mod write;
 
 pub mod command;

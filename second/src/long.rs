@@ -23,13 +23,14 @@ pub fn long(seed: u64) -> Vec<u8> {
     fields.concat()
 }
 
-/// T and a number of samples: usual, T = 2400, or enough for 64 cycles.
+/// T and a number of samples: usual, T = 2400, or about 64 cycles and more.
 fn some_length(chance: &mut Chance) -> (usize, usize) {
-    match chance.below(4) {
+    match chance.below(5) {
         0 => (2400, 144_000 + chance.below(60_000)),
-        1 => {
+        1 | 2 => {
             let seconds = 80 + chance.below(30);
-            (seconds, 64 * 20 * seconds + chance.below(5_000))
+            let after = chance.below(5_000);
+            (seconds, 64 * 20 * seconds - 1 + chance.pick(&[0, 1, 2, after, after, after]))
         }
         _ => (300 + chance.below(1200), 100_000 + chance.below(100_000)),
     }

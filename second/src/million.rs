@@ -8,7 +8,7 @@ use crate::write::{block, head, recharge, transfer, Raw};
 
 /// `count` samples that follow a cycle of 1800 seconds closely, in blocks of
 /// `size`; the time tolerance is the one given or else the seed's. The run does
-/// not stop; 64 cycles are 2,304,000 samples.
+/// not stop; 64 cycles are 2,304,000 samples, and the one after them brings the limit.
 pub fn million(seed: u64, size: usize, count: usize, time_tolerance: Option<u16>) -> Vec<u8> {
     let chance = &mut Chance::new(seed);
     let mut draft = long_draft(chance, 1800);

@@ -6,7 +6,7 @@ use crate::write::{block, head, recharge, transfer, Raw, Vehicle};
 const OWN: Vehicle = *b"LTESTVEH000000001";
 const OTHER: Vehicle = *b"LTESTVEH000000002";
 const GOOD: Raw = Raw { speed: 100, voltage: 6000, current: -120 };
-const FAST: Raw = Raw { speed: 131, voltage: 6000, current: -120 };
+const FAST: Raw = Raw { speed: 131, voltage: 6000, current: -125 };
 
 /// The record that the others are made from.
 pub fn whole() -> Vec<u8> {

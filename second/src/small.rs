@@ -1,34 +1,52 @@
-//! Small records: a mix, by seed, of good records, stops, limits, corners of
-//! the closing, planted faults and broken bytes.
+//! Small records: a mix, by seed, of good records, joints, stops, limits,
+//! corners of the closing, planted faults and broken bytes.
 
 use crate::breakage::break_bytes;
+use crate::brink::{brink, limit, stop_at_joint};
 use crate::chance::Chance;
 use crate::corners::corner;
 use crate::draft::{sprinkle_foreign, Draft};
-use crate::drive::{drive_inside, drive_mixed, middle, outside, sample, some_power, Power};
+use crate::drive::{drive_inside, drive_mixed, some_power, Power};
 use crate::faults::{crowd, plant_some};
-use crate::write::Raw;
 
 /// The small record of a seed.
 pub fn small(seed: u64) -> Vec<u8> {
     let chance = &mut Chance::new(seed);
     match chance.below(100) {
         0..=22 => plain(chance).concat(),
-        23..=33 => mixed(chance).concat(),
-        34..=46 => brink(chance).concat(),
-        47..=49 => limit(chance).concat(),
-        50..=71 => corner(chance).concat(),
-        72..=88 => faulty(chance).concat(),
-        89..=92 => crowded(chance).concat(),
+        23..=27 => joint(chance).concat(),
+        28..=35 => mixed(chance).concat(),
+        36..=44 => brink(chance).concat(),
+        45..=48 => stop_at_joint(chance).concat(),
+        49..=52 => limit(chance).concat(),
+        53..=75 => corner(chance).concat(),
+        76..=91 => faulty(chance).concat(),
+        92..=95 => crowded(chance).concat(),
         _ => broken(chance),
     }
 }
 
-/// A good record that finishes three cycles and more.
+/// A good record that finishes three cycles and more: a sample follows the
+/// last position of the third.
 fn plain(chance: &mut Chance) -> Vec<Vec<u8>> {
     let mut draft = small_draft(chance, 200, 1000);
-    let count = chance.between(3, 6) as usize * draft.positions() + chance.below(40);
+    let count = chance.between(3, 6) as usize * draft.positions() + 1 + chance.below(40);
     draft.samples = drive_inside(chance, &draft.gates(), count, Power::Steady);
+    written(chance, draft)
+}
+
+/// The samples end at a joint of two phases or two cycles: with the last
+/// position before it or the first one after it, or beside these. The first
+/// joint is the start, with no sample or one.
+fn joint(chance: &mut Chance) -> Vec<Vec<u8>> {
+    let mut draft = small_draft(chance, 200, 1000);
+    let mut count = chance.pick(&[0, 1, 3, 3]) * draft.positions();
+    if chance.one_in(2) {
+        count += 20 * usize::from(chance.pick(&draft.phase_ends));
+    }
+    count = (count + chance.pick(&[1, 1, 1, 2, 2, 2, 0, 3])).saturating_sub(1);
+    let power = some_power(chance);
+    draft.samples = drive_inside(chance, &draft.gates(), count, power);
     written(chance, draft)
 }
 
@@ -39,36 +57,6 @@ fn mixed(chance: &mut Chance) -> Vec<Vec<u8>> {
     let power = some_power(chance);
     let rarity = chance.pick(&[2, 10, 30, 100]);
     draft.samples = drive_mixed(chance, &draft.gates(), count, power, rarity);
-    written(chance, draft)
-}
-
-/// Each cycle has as many samples outside as the allowance bears, or a few
-/// less; in one cycle there may be one more, often at the last position.
-fn brink(chance: &mut Chance) -> Vec<Vec<u8>> {
-    let cycles = chance.between(4, 6) as usize;
-    let seconds = chance.between(2, 4) as usize;
-    let (mut draft, allowance) = brink_draft(chance, seconds);
-    drive_cycles(chance, &mut draft, cycles);
-    let stop = if chance.one_in(2) { chance.below(cycles) } else { cycles };
-    put_outside(chance, &mut draft, allowance, stop);
-    if chance.one_in(6) {
-        spoil_last_sample(&mut draft);
-    }
-    written(chance, draft)
-}
-
-/// About 64 cycles: the limit, one sample short of it, beyond it, or a stop
-/// at the last position of cycle 64.
-fn limit(chance: &mut Chance) -> Vec<Vec<u8>> {
-    let (mut draft, allowance) = brink_draft(chance, 2);
-    drive_cycles(chance, &mut draft, 64);
-    let stop = if chance.one_in(5) { 63 } else { 64 };
-    put_outside(chance, &mut draft, allowance, stop);
-    match chance.below(4) {
-        0 => draft.samples.truncate(64 * 40 - 1),
-        1 => {}
-        _ => drive_cycles(chance, &mut draft, 1),
-    }
     written(chance, draft)
 }
 
@@ -108,62 +96,8 @@ fn small_draft(chance: &mut Chance, least: u16, most: u16) -> Draft {
     Draft::new(chance, points, tolerances)
 }
 
-/// A draft in which every position has speeds inside and outside, and an
-/// allowance that a cycle can pass.
-fn brink_draft(chance: &mut Chance, seconds: usize) -> (Draft, usize) {
-    let points = some_points(chance, seconds, 300, 900);
-    let allowance = chance.pick(&[0, 1, 2, 5, 20, 38, 39]);
-    let tolerances = [chance.between16(1, 60), chance.between16(0, 40), allowance];
-    (Draft::new(chance, points, tolerances), usize::from(allowance))
-}
-
-/// Adds whole cycles in the middle of the band.
-fn drive_cycles(chance: &mut Chance, draft: &mut Draft, cycles: usize) {
-    let gates = draft.gates();
-    for at in 0..cycles * gates.len() {
-        let one = sample(chance, middle(&gates[at % gates.len()]), Power::Steady);
-        draft.samples.push(one);
-    }
-}
-
-/// Puts samples outside into every cycle; in cycle `stop` one too many.
-fn put_outside(chance: &mut Chance, draft: &mut Draft, allowance: usize, stop: usize) {
-    let gates = draft.gates();
-    for (cycle, lap) in draft.samples.chunks_mut(gates.len()).enumerate() {
-        for at in outside_places(chance, lap.len(), allowance, cycle == stop) {
-            lap[at].speed = outside(chance, &gates[at]);
-        }
-    }
-}
-
-fn outside_places(
-    chance: &mut Chance,
-    positions: usize,
-    allowance: usize,
-    too_many: bool,
-) -> Vec<usize> {
-    if !too_many {
-        let fewer = if chance.one_in(2) { allowance } else { chance.below(allowance + 1) };
-        return chance.some_of(fewer.min(positions), positions);
-    }
-    let mut places = chance.some_of(allowance, positions - 1);
-    if chance.one_in(2) {
-        places.push(positions - 1);
-    } else {
-        places = chance.some_of(allowance + 1, positions);
-    }
-    places
-}
-
-/// A bad value in the last sample, behind any stop.
-fn spoil_last_sample(draft: &mut Draft) {
-    if let Some(last) = draft.samples.last_mut() {
-        *last = Raw { speed: 1501, ..*last };
-    }
-}
-
 /// Adds transfers and a few foreign blocks, and writes the fields.
-fn written(chance: &mut Chance, mut draft: Draft) -> Vec<Vec<u8>> {
+pub fn written(chance: &mut Chance, mut draft: Draft) -> Vec<Vec<u8>> {
     draft.add_usual_transfers(chance);
     let mut fields = draft.fields(chance);
     if chance.one_in(3) {

@@ -1,8 +1,11 @@
-//! The rows on the paper's test card, with values worked out by hand.
+//! The rows on document 01's test card, with values worked out by hand; the
+//! energies by document 02, L2.
 
 mod common;
 
-use common::{example, line, refused, sheet_of, start, with, EXAMPLE, GOOD, OWN};
+use common::{
+    example, example_of, line, refused, sheet_of, start, with, EXAMPLE, EXAMPLE_OF_120, GOOD, OWN,
+};
 use second::bench::Question;
 use second::closing::weighted;
 use second::cycle::{Cycle, Verdict};
@@ -38,19 +41,19 @@ fn band_with_a_wide_window() {
     assert!(!inside(10, 20, 131));
 }
 
-/// Points all 100, T = 2, every speed 131, 120 samples.
+/// Points all 100, T = 2, every speed 131, 121 samples.
 fn run_at_131(s: i128, allowance: i128) -> Run {
     let cycle = Cycle { phase_ends: vec![2], points: vec![100; 3] };
     let sample = Sample { speed: 131, voltage: 6000, current: -120 };
     let tolerances = Tolerances { speed: s, time: 20, allowance };
-    Run::drive(&cycle, &tolerances, &[sample; 120])
+    Run::drive(&cycle, &tolerances, &[sample; 121])
 }
 
 #[test]
 fn stop_at_sample_three_and_five() {
     let run = run_at_131(30, 3);
     assert_eq!((run.end, run.counted, run.outside), (End::Stop, 3, 4));
-    assert_eq!((run.drawn, run.finished.len()), (3 * 720_000, 0));
+    assert_eq!((run.closed, run.drawn, run.finished.len()), (3, 3 * 1_440_000, 0));
     let run = run_at_131(30, 5);
     assert_eq!((run.end, run.counted, run.outside), (End::Stop, 5, 6));
 }
@@ -58,25 +61,31 @@ fn stop_at_sample_three_and_five() {
 #[test]
 fn no_stop_with_one_step_more_of_tolerance() {
     let run = run_at_131(31, 3);
-    assert_eq!((run.end, run.counted, run.outside), (End::None, 120, 0));
+    assert_eq!((run.end, run.counted, run.outside), (End::None, 121, 0));
 }
 
 #[test]
 fn stop_at_the_last_position() {
     let run = run_at_131(30, 39);
     assert_eq!((run.end, run.counted, run.finished.len()), (End::Stop, 39, 0));
-    assert_eq!((run.outside, run.drawn), (40, 39 * 720_000));
+    assert_eq!((run.outside, run.drawn), (40, 39 * 1_440_000));
     let run = run_at_131(30, 40);
-    assert_eq!((run.end, run.counted, run.finished.len()), (End::None, 120, 3));
-    assert_eq!(run.outside, 120);
+    assert_eq!((run.end, run.counted, run.finished.len()), (End::None, 121, 3));
+    assert_eq!(run.outside, 121);
 }
 
+/// Two equal samples make one interval, to which each adds its product.
 #[test]
-fn drawn_energy_of_a_sample() {
-    let drawn = |voltage, current| Sample { speed: 0, voltage, current }.drawn();
-    assert_eq!(drawn(6000, -120), 720_000);
-    assert_eq!(drawn(6000, 120), -720_000);
-    assert_eq!(drawn(15000, -10000), 150_000_000);
+fn drawn_energy_of_an_interval() {
+    let cycle = Cycle { phase_ends: vec![2], points: vec![0; 3] };
+    let tolerances = Tolerances { speed: 30, time: 20, allowance: 0 };
+    let drawn = |voltage, current| {
+        let sample = Sample { speed: 0, voltage, current };
+        (sample.drawn(), Run::drive(&cycle, &tolerances, &[sample; 2]).drawn)
+    };
+    assert_eq!(drawn(6000, -120), (720_000, 1_440_000));
+    assert_eq!(drawn(6000, 120), (-720_000, -1_440_000));
+    assert_eq!(drawn(15000, -10000), (150_000_000, 300_000_000));
 }
 
 #[test]
@@ -88,7 +97,7 @@ fn weighted_rows() {
 #[test]
 fn lengths_of_the_cycle() {
     assert_eq!(with(2, cycle(&[2401], &[100; 2402])), refused(2, 3));
-    assert_eq!(line(&with(2, cycle(&[2400], &[100; 2401])), "end"), "end none 120");
+    assert_eq!(line(&with(2, cycle(&[2400], &[100; 2401])), "end"), "end none 121");
     assert_eq!(with(2, cycle(&[2], &[100; 3])), EXAMPLE);
     assert_eq!(with(2, cycle(&[1], &[100; 2])), refused(8, 3));
 }
@@ -122,6 +131,7 @@ fn empty_input() {
 
 #[test]
 fn the_example_sheet() {
+    assert_eq!(sheet_of(&example_of(120)), EXAMPLE_OF_120);
     assert_eq!(sheet_of(&example()), EXAMPLE);
 }
 
@@ -131,7 +141,7 @@ fn the_stop_rows_as_records() {
     fields.push(block(OWN, 0, &[Raw { speed: 131, ..GOOD }; 100]));
     fields[3] = second::write::tolerances([30, 20, 39]);
     let expected = "run LTESTVEH000000001\nend stop 39\ncycles 0\noutside 40\npassed 0\n\
-                    drawn 28080000\nrefused 10\n";
+                    drawn 56160000\nrefused 10\n";
     assert_eq!(sheet_of(&fields), expected);
 }
 

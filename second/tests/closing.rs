@@ -22,8 +22,8 @@ fn three() -> Vec<Finished> {
 #[test]
 fn worked_by_hand() {
     let figures = close(&three(), 650_000_000).unwrap();
-    assert_eq!(figures, Figures { weighted: 2_021_823, range: 44 });
-    assert_eq!(recharge(&figures, 650_000_000, 50_000_000, Some(20)), Ok(Some(422_077)));
+    assert_eq!(figures, Figures { weighted: 2_021_823, range: 22 });
+    assert_eq!(recharge(&figures, 650_000_000, 50_000_000, Some(20)), Ok(Some(844_155)));
     assert_eq!(recharge(&figures, 650_000_000, 50_000_000, None), Ok(None));
 }
 
@@ -70,10 +70,10 @@ fn twelve_by_itself() {
 #[test]
 fn thirteen_by_itself_and_after_twelve() {
     let short = cycles(&[(40, 40), (40, 40), (40, 40)]);
-    assert_eq!(close(&short, 719), Err(13));
-    assert_eq!(close(&short, 720), Ok(Figures { weighted: 100, range: 1 }));
+    assert_eq!(close(&short, 1439), Err(13));
+    assert_eq!(close(&short, 1440), Ok(Figures { weighted: 100, range: 1 }));
     let short_and_thin = cycles(&[(40, 40), (40, 40), (1, 101)]);
-    assert_eq!(close(&short_and_thin, 719), Err(12));
+    assert_eq!(close(&short_and_thin, 1439), Err(12));
 }
 
 #[test]
@@ -103,39 +103,62 @@ fn recharge_refusals_on_the_sheet() {
     assert!(sheet_of(&fields).ends_with("range 16\nrefused 14\n"));
     fields.pop();
     assert!(sheet_of(&fields).ends_with("range 16\nac -\n"));
-    let mut short = example();
-    short[4] = block(OWN, 0, &[GOOD; 119]);
+    let mut short = example_of(120);
     short.insert(5, transfer(1, -10_000_000_000_000));
-    assert!(sheet_of(&short).ends_with("drawn 85680000\nrefused 10\n"));
+    assert!(sheet_of(&short).ends_with("drawn 171360000\nrefused 10\n"));
+}
+
+/// F is twice what field 6 says, so E + F is odd where E is. The open cycle
+/// adds 720,000 and `units`: E = 173,520,000 + units, W = 720,000, range 16.
+#[test]
+fn sum_about_one() {
+    let last = |units: u16, after: i64| {
+        let mut samples = vec![GOOD; 121];
+        samples.push(Raw { speed: 100, voltage: units, current: -1 });
+        let mut fields = example();
+        fields[4] = block(OWN, 0, &samples);
+        fields.insert(5, transfer(1, after));
+        let sheet = sheet_of(&fields);
+        assert_eq!(line(&sheet, "range"), "range 16");
+        sheet.lines().last().unwrap().to_string()
+    };
+    assert_eq!(last(0, -86_760_000), "refused 14");
+    assert_eq!(last(1, -86_760_001), "refused 14");
+    assert_eq!(last(1, -86_760_000), "refused 12");
+    assert_eq!(last(0, -86_759_999), "refused 12");
+    assert_eq!(last(0, 0), "ac 937500");
+    assert_eq!(last(0, 86_760_000), "ac 468750");
+    assert_eq!(last(0, 173_520_000), "ac 312500");
 }
 
 /// The transfer before the test is in E and not in `drawn`; the open cycle is
-/// in both. E = 86,400,000 + 720,000 + 2,880,000, W = 720,000.
+/// in both. E = 172,800,000 + 1,440,000 + 2 × 2,880,000, W = 720,000.
 #[test]
 fn energy_with_transfer_and_open_cycle() {
     let mut fields = example();
-    fields[4] = block(OWN, 0, &[GOOD; 121]);
+    fields[4] = block(OWN, 0, &[GOOD; 122]);
     fields.insert(4, transfer(0, 2_880_000));
     let sheet = sheet_of(&fields);
-    assert_eq!(line(&sheet, "drawn"), "drawn 87120000");
+    assert_eq!(line(&sheet, "drawn"), "drawn 174240000");
     assert_eq!(line(&sheet, "range"), "range 17");
     assert_eq!(line(&sheet, "ac"), "ac 882352");
 }
 
-/// Energy given back in the open cycle: E = e_1 + e_2 is good, one unit less is 11.
+/// Energy given back in the open cycle, 720,000 - 2 × 29,160,000 - units:
+/// E = e_1 + e_2 is good, one unit less is 11.
 #[test]
 fn open_cycle_gives_back() {
     let back = |units: u16| {
         let give = |voltage, current| Raw { speed: 100, voltage, current };
-        let mut samples = vec![GOOD; 120];
-        samples.extend([give(2880, 10000), give(units, 1)]);
+        let mut samples = vec![GOOD; 121];
+        samples.extend([give(2916, 10000), give(units, 1)]);
         let mut fields = example();
         fields[4] = block(OWN, 0, &samples);
         sheet_of(&fields)
     };
     assert_eq!(line(&back(0), "weighted"), "weighted 720000");
     assert_eq!(line(&back(0), "range"), "range 11");
-    assert!(back(1).ends_with("drawn 57599999\nrefused 11\n"));
+    assert!(back(1).ends_with("drawn 115199999\nrefused 11\n"));
 }
 
 /// W is never above the weighting of the unrounded 100 e / d and less than 2

@@ -48,7 +48,7 @@ fn seven_for_foreign_blocks_and_its_neighbours() {
     assert_eq!(line(&second::sheet::sheet(&bytes), "passed"), "passed 4000000");
     assert_eq!(and(&bytes, &block(OTHER, 0, &[BAD])), refused(7, field));
     assert_eq!(and(&bytes, &block(FORBIDDEN, 0, &[BAD])), refused(4, field));
-    let own = and(&bytes, &block(OWN, 0, &[GOOD; 120]));
+    let own = and(&bytes, &block(OWN, 0, &[GOOD; 121]));
     assert_eq!(line(&own, "passed"), "passed 4000000");
     assert_eq!(line(&own, "range"), "range 16");
     bytes.extend(transfer(1, 0));

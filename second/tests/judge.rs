@@ -1,5 +1,6 @@
 //! The run against a naive judge that takes sample after sample and keeps
-//! the paper's nine numbers and its map; and the promise about blocks.
+//! document 01's nine numbers and its map, with document 02's open interval;
+//! against the sums over the closed intervals; and the promise about blocks.
 
 mod common;
 
@@ -11,11 +12,20 @@ use second::record::{read, Record};
 use second::run::{End, Finished, Run, Sample};
 use second::sheet::sheet;
 
+/// The interval that the next sample closes: where its earlier sample stands,
+/// and that sample.
+struct Open {
+    position: i128,
+    earlier: Sample,
+}
+
 /// The state of a naive judge.
 struct Judge {
     end: End,
     counted: usize,
+    closed: usize,
     position: i128,
+    open: Option<Open>,
     /// Nine numbers a cycle: phase energies, phase distances, outside count.
     ledger: Vec<[i128; 9]>,
     map: Vec<bool>,
@@ -24,12 +34,19 @@ struct Judge {
 
 impl Judge {
     fn new() -> Judge {
-        let (ledger, map) = (vec![[0; 9]], Vec::new());
-        Judge { end: End::None, counted: 0, position: 0, ledger, map, finished: 0 }
+        let (ledger, map, open) = (vec![[0; 9]], Vec::new(), None);
+        let (end, counted, closed, position, finished) = (End::None, 0, 0, 0, 0);
+        Judge { end, counted, closed, position, open, ledger, map, finished }
     }
 
+    /// A sample closes the open interval, then is judged, then begins its own.
     fn take(&mut self, record: &Record, sample: &Sample) {
         if self.end != End::None {
+            return;
+        }
+        self.close(&record.cycle, sample);
+        if self.finished == 64 {
+            self.end = End::Limit;
             return;
         }
         if self.position == 0 {
@@ -40,7 +57,24 @@ impl Judge {
             self.end = End::Stop;
             return;
         }
-        self.count(&record.cycle, sample);
+        self.counted += 1;
+        self.open = Some(Open { position: self.position, earlier: *sample });
+        self.position = (self.position + 1) % record.cycle.positions();
+    }
+
+    /// Enters the open interval into the phase and cycle of its earlier sample.
+    fn close(&mut self, cycle: &Cycle, later: &Sample) {
+        let Some(Open { position, earlier }) = self.open.take() else {
+            return;
+        };
+        let phase = cycle.phase_ends.iter().position(|end| position / 20 < *end).unwrap();
+        let nine = self.ledger.last_mut().unwrap();
+        nine[phase] += product(&earlier) + product(later);
+        nine[4 + phase] += i128::from(earlier.speed) + i128::from(later.speed);
+        self.closed += 1;
+        if position + 1 == cycle.positions() {
+            self.finished += 1;
+        }
     }
 
     /// Marks and counts an outside sample; true when the count is above the allowance.
@@ -50,27 +84,10 @@ impl Judge {
         if band.verdict(tolerances.speed, sample.speed.into()) == Verdict::Inside {
             return false;
         }
-        let open = self.ledger.last_mut().unwrap();
+        let nine = self.ledger.last_mut().unwrap();
         self.map[self.position as usize] = true;
-        open[8] += 1;
-        open[8] > tolerances.allowance
-    }
-
-    fn count(&mut self, cycle: &Cycle, sample: &Sample) {
-        let second = self.position / 20;
-        let phase = cycle.phase_ends.iter().position(|end| second < *end).unwrap();
-        let open = self.ledger.last_mut().unwrap();
-        open[phase] += -(i128::from(sample.voltage) * i128::from(sample.current));
-        open[4 + phase] += i128::from(sample.speed);
-        self.counted += 1;
-        self.position += 1;
-        if self.position == cycle.positions() {
-            self.position = 0;
-            self.finished += 1;
-            if self.finished == 64 {
-                self.end = End::Limit;
-            }
-        }
+        nine[8] += 1;
+        nine[8] > tolerances.allowance
     }
 
     /// The same run in the form of `Run`.
@@ -82,6 +99,7 @@ impl Judge {
         Run {
             end: self.end,
             counted: self.counted,
+            closed: self.closed,
             outside: self.ledger.iter().map(|nine| nine[8]).sum(),
             drawn: self.ledger.iter().map(energy).sum(),
             finished: finished.collect(),
@@ -89,20 +107,52 @@ impl Judge {
     }
 }
 
+/// -(voltage × current).
+fn product(sample: &Sample) -> i128 {
+    -(i128::from(sample.voltage) * i128::from(sample.current))
+}
+
+/// The run of a record, which the naive judge must find too.
+fn run_of(record: &Record) -> Run {
+    Run::drive(&record.cycle, &record.tolerances, &record.samples)
+}
+
+/// The records of the first small seeds that are not refused.
+fn some_records() -> impl Iterator<Item = (u64, Record)> {
+    (1..=1500).filter_map(|seed| Some((seed, read(&make("small", seed, &[]).unwrap()).ok()?)))
+}
+
 #[test]
 fn the_naive_judge_agrees() {
-    for seed in 1..=1500 {
-        let Ok(record) = read(&make("small", seed, &[]).unwrap()) else {
-            continue;
-        };
+    for (seed, record) in some_records() {
         let mut judge = Judge::new();
         for sample in &record.samples {
             judge.take(&record, sample);
             let ones = judge.map.iter().filter(|outside| **outside).count() as i128;
             assert_eq!(ones, judge.ledger.last().unwrap()[8]);
         }
-        let run = Run::drive(&record.cycle, &record.tolerances, &record.samples);
-        assert_eq!(run, judge.run(), "seed {seed}");
+        assert_eq!(run_of(&record), judge.run(), "seed {seed}");
+    }
+}
+
+/// Of n offered with m counted, min(n - 1, m) intervals are closed; a cycle is
+/// finished when all its 20T are. Energies and distances are sums over them.
+#[test]
+fn sums_over_the_closed_intervals() {
+    for (seed, record) in some_records() {
+        let (run, samples) = (run_of(&record), &record.samples);
+        assert_eq!(run.closed, run.counted.min(samples.len().saturating_sub(1)), "seed {seed}");
+        let energy = |j: usize| product(&samples[j]) + product(&samples[j + 1]);
+        let distance = |j: usize| i128::from(samples[j].speed) + i128::from(samples[j + 1].speed);
+        assert_eq!(run.drawn, (0..run.closed).map(energy).sum::<i128>(), "seed {seed}");
+        let positions = record.cycle.positions() as usize;
+        let finished = (0..run.closed / positions).map(|c| {
+            let all = c * positions..(c + 1) * positions;
+            Finished { energy: all.clone().map(energy).sum(), distance: all.map(distance).sum() }
+        });
+        assert_eq!(run.finished, finished.collect::<Vec<Finished>>(), "seed {seed}");
+        let limit = run.end == End::Limit;
+        assert_eq!(limit, run.end != End::Stop && samples.len() > 64 * positions, "seed {seed}");
     }
 }
 

@@ -1,13 +1,15 @@
-//! What the small records reach: every answer, and the corners that a word
+//! What the small records reach: every answer, and the places that a word
 //! pair alone does not show.
 
-use second::closing::{close, recharge};
+mod places;
+
+use places::places;
 use second::make::make;
-use second::record::{read, Record};
+use second::record::read;
 use second::run::{End, Run};
 use second::sheet::sheet;
 use second::survey::answers_of;
-use std::collections::BTreeMap;
+use std::collections::{BTreeMap, BTreeSet};
 
 const SEEDS: u64 = 5000;
 
@@ -60,64 +62,23 @@ fn the_time_tolerance_asked_for_and_no_stop() {
     }
 }
 
-/// The corners that one good record shows.
-fn corners(record: &Record) -> Vec<&'static str> {
-    let run = Run::drive(&record.cycle, &record.tolerances, &record.samples);
-    let energy = record.before + run.drawn;
-    let mut all = run_corners(record, &run);
-    if let Ok(figures) = close(&run.finished, energy) {
-        let first_two = run.finished[0].energy + run.finished[1].energy;
-        let figure = recharge(&figures, energy, record.after, record.recharge);
-        all.extend([
-            (energy == first_two, "E is e1 + e2 and good"),
-            (run.finished.iter().any(|c| c.energy == 1), "e_c is 1 and good"),
-            (figures.range == 1, "range 1"),
-            (energy + record.after < 1 && figure == Ok(None), "E + F < 1 without field 7"),
-            (energy + record.after == 1 && figure != Ok(None), "E + F is 1 with field 7"),
-            (figure == Ok(Some(10_000_000)), "recharge figure at its limit"),
-            (run.end == End::Stop, "stop and range"),
-            (run.end == End::Limit, "limit and range"),
-        ]);
-        for cycle in &run.finished {
-            let q = 100 * cycle.energy / cycle.distance;
-            all.extend([(q == 1, "q 1"), (q == 10_000_000, "q at its limit")]);
-        }
-    }
-    all.iter().filter(|(shown, _)| *shown).map(|(_, name)| *name).collect()
-}
-
-fn run_corners(record: &Record, run: &Run) -> Vec<(bool, &'static str)> {
-    let positions = record.cycle.positions() as usize;
-    let last = run.counted % positions == positions - 1;
-    let stop = run.end == End::Stop;
-    let stood_out = run.outside > 0 && run.end == End::None;
-    vec![
-        (stop && last, "stop at a last position"),
-        (stop && last && run.counted / positions == 63, "stop at the end of cycle 64"),
-        (stop && record.samples.len() > run.counted + 1, "samples behind a stop"),
-        (run.end == End::Limit && record.samples.len() > run.counted, "samples behind the limit"),
-        (run.end == End::Limit && record.samples.len() == run.counted, "limit with nothing left"),
-        (run.end == End::None && run.counted == 64 * positions - 1, "one short of the limit"),
-        (stood_out, "outside without a stop"),
-        (run.drawn < 0, "drawn below 0"),
-        (record.samples.is_empty(), "no samples"),
-        (record.passed > 0, "blocks passed over"),
-    ]
-}
-
 #[test]
-fn every_corner_is_reached() {
-    let mut seen: BTreeMap<&str, usize> = BTreeMap::new();
+fn every_place_is_reached() {
+    let mut seen: BTreeMap<&str, BTreeSet<u64>> = BTreeMap::new();
     for seed in 1..=SEEDS {
-        if let Ok(record) = read(&make("small", seed, &[]).unwrap()) {
-            for corner in corners(&record) {
-                *seen.entry(corner).or_default() += 1;
+        for (shown, place) in places(&make("small", seed, &[]).unwrap()) {
+            let seeds = seen.entry(place).or_default();
+            if shown {
+                seeds.insert(seed);
             }
         }
     }
-    println!("{seen:#?}");
-    assert_eq!(seen.len(), 20, "{seen:#?}");
-    assert!(seen.values().all(|times| *times >= 5), "{seen:#?}");
+    for (place, seeds) in &seen {
+        println!("{:>8}  {place}", seeds.len());
+    }
+    for (place, seeds) in seen {
+        assert!(seeds.len() >= 8, "{place} came {} times", seeds.len());
+    }
 }
 
 /// Refusal 7 and its neighbours come in full records.

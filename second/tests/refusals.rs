@@ -1,4 +1,5 @@
-//! Each refusal number of a record by itself, on the paper's example.
+//! Each refusal number of a record by itself, on document 01's example with
+//! one more sample.
 
 mod common;
 
@@ -45,7 +46,7 @@ fn cycles_that_are_taken() {
         cycle(&[2], &[0, 1500, 0]),
         cycle(&[1, 2, 3, 2400], &[100; 2401]),
     ] {
-        assert_eq!(line(&with(2, good), "end"), "end none 120");
+        assert_eq!(line(&with(2, good), "end"), "end none 121");
     }
 }
 
@@ -88,10 +89,10 @@ fn five_a_sample_value() {
 fn six_a_first_number() {
     assert_eq!(with(4, block(OWN, 1, &[GOOD])), refused(6, 5));
     let next = |first| with_also(5, block(OWN, first, &[GOOD]));
-    assert_eq!(next(119), refused(6, 6));
-    assert_eq!(next(121), refused(6, 6));
-    assert_eq!(next(1 << 31 | 120), refused(6, 6));
-    assert_eq!(line(&next(120), "end"), "end none 121");
+    assert_eq!(next(120), refused(6, 6));
+    assert_eq!(next(122), refused(6, 6));
+    assert_eq!(next(1 << 31 | 121), refused(6, 6));
+    assert_eq!(line(&next(121), "end"), "end none 122");
 }
 
 #[test]
@@ -160,10 +161,10 @@ fn foreign_blocks_do_not_move_the_place() {
     let foreign = block(OTHER, 9, &[BAD]);
     let mut fields = start();
     fields.extend([foreign.clone(), transfer(0, 7), foreign.clone()]);
-    fields.extend([block(OWN, 0, &[GOOD; 120]), foreign, transfer(1, 0), recharge(15)]);
+    fields.extend([block(OWN, 0, &[GOOD; 121]), foreign, transfer(1, 0), recharge(15)]);
     let sheet = sheet_of(&fields);
     assert_eq!(line(&sheet, "passed"), "passed 3");
-    assert_eq!(line(&sheet, "drawn"), "drawn 86400000");
+    assert_eq!(line(&sheet, "drawn"), "drawn 172800000");
     assert_eq!(line(&sheet, "ac"), "ac 937500");
 }
 
@@ -182,8 +183,8 @@ fn fourteen_amounts() {
         assert_eq!(with_also(5, transfer(1, bad)), refused(14, 6));
     }
     for good in [most, -most] {
-        assert_eq!(line(&with_also(4, transfer(0, good)), "end"), "end none 120");
-        assert_eq!(line(&with_also(5, transfer(1, good)), "end"), "end none 120");
+        assert_eq!(line(&with_also(4, transfer(0, good)), "end"), "end none 121");
+        assert_eq!(line(&with_also(5, transfer(1, good)), "end"), "end none 121");
     }
     for bad in [0, 2_000_001, u32::MAX] {
         assert_eq!(with(5, recharge(bad)), refused(14, 6));

@@ -34,7 +34,7 @@ fn another_sheet_is_found_and_its_seed_named() {
 #[test]
 fn the_whole_record_is_told_and_every_change_changes_a_byte() {
     let record = whole();
-    let told = "run LTESTVEH000000001\nend none 5\ncycles 0\noutside 2\npassed 1\ndrawn 3600000\nrefused 10\n";
+    let told = "run LTESTVEH000000001\nend none 5\ncycles 0\noutside 2\npassed 1\ndrawn 5880000\nrefused 10\n";
     assert_eq!(sheet(&record), told);
     assert_eq!(make("prefix", record.len() as u64, &[]).unwrap(), record);
     for seed in [0, 254, 255, 186 * 255 + 254] {

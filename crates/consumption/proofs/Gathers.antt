@@ -4,7 +4,7 @@
 use mathlib.Core.Bool.{Bool, true, false, _&&_}
 use mathlib.Core.List.{List}
 use mathlib.Core.Path.{_≡_, refl, sym, ap, ap₂, _∙_}
-use Prim.Native.Nat.{ℕ, _+_, _-_, _*_, _^_, _≤_, _<_}
+use Prim.Native.Nat.{ℕ, _+_, _-_, _*_, _≤_, _<_}
 use native.Mathlib.Nat.{mul-le-mul-right, zero-add}
 use native.Mathlib.Numerals.{add-one}
 use native.Mathlib.Omega.{arith}
@@ -19,6 +19,7 @@ use Rattle.numbers.proofs.Sums.{sum-most, sum-pos}
 use Rattle.numbers.proofs.Tests.{all-at, all-by, pass}
 use Rattle.numbers.proofs.Whole.{sum-is, le-up, up-le}
 use Rattle.rules.specs.declared.Charge.{Charge}
+use Rattle.laws.specs.Beside.{mostWhole}
 use Rattle.rules.specs.Closing.{mostRate, isRate, rateOf, weighing, weightedFigure, rangeFigure, closingRefusal, closingFigures, closingBy}
 use Rattle.laws.specs.Answers.{Said, gives, refuses, orRefused, is, Figured, figuredSaid, closingSaid}
 use Rattle.laws.proofs.Answers.{closing-or}
@@ -143,7 +144,7 @@ module _ {l : List ℤ} {n : ℕ} {E : ℤ} (g : Tested l n E) where
   unfolding weighing
   weighed-is = refl
 
-  pub weighable : up E < 2 ^ 51 → Weighable (gatheredIn l n) n (up E)
+  pub weighable : up E ≤ mostWhole → Weighable (gatheredIn l n) n (up E)
   weighable small = record {
     three = g .three;
     most = g .most;

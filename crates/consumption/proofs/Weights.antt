@@ -19,7 +19,8 @@ use Rattle.numbers.proofs.Tests.{both}
 use Rattle.numbers.proofs.Whole.{abs-is, sized-between}
 use Rattle.values.specs.Limits.{areAmounts}
 use Rattle.rules.specs.declared.Amounts.{Amounts}
-use Rattle.rules.specs.Closing.{mostTransfer, isTransfer, isCharge, mostRate, isRate, rateOf}
+use Rattle.laws.specs.Beside.{mostTransfer, isTransfer}
+use Rattle.rules.specs.Closing.{isCharge, mostRate, isRate, rateOf}
 use Rattle.laws.specs.Answers.{is}
 use Rattle.rules.specs.Bench.{mostPhases, mostCycles}
 use Rattle.rules.specs.Shown.{mostEnergy}

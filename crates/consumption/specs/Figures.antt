@@ -1,7 +1,7 @@
 -- The closing of n finished cycles, read off a ledger, and what one pass over the ledger gathers for it.
 -- Assumes nothing.
 use mathlib.Core.List.{List}
-use Prim.Native.Nat.{ℕ, _+_, _-_, _*_, _/_, _^_, _≤_, _<_}
+use Prim.Native.Nat.{ℕ, _+_, _-_, _*_, _/_, _≤_}
 use lib.Dec.{leb}
 use lib.IntN.{ℤ, pos, _+ℤ_}
 use lib.Signed.{leZ}
@@ -9,6 +9,7 @@ use Rattle.rules.specs.Words.{allBelow, sum, unless, up}
 use Rattle.rules.specs.declared.Amounts.{Amounts}
 use Rattle.rules.specs.declared.Charge.{Charge}
 use Rattle.rules.specs.declared.ClosingAnswer.{ClosingAnswer}
+use Rattle.laws.specs.Beside.{mostWhole}
 use Rattle.rules.specs.Closing.{mostRate, isRate, rateOf, weight, range, rechargeBy, together, closingBy}
 use Rattle.rules.specs.Bench.{mostCycles}
 use Rattle.laws.specs.Answers.{Said, gives, refuses, Figured, figuredSaid}
@@ -50,7 +51,7 @@ pub record Weighable (g : Gathered) (n E : ℕ) : Type 0 where
   pub three : 3 ≤ n
   pub most : n ≤ mostCycles
   pub some : 1 ≤ E
-  pub small : E < 2 ^ 51
+  pub small : E ≤ mostWhole
   pub parts : g .first .energy + g .second .energy ≤ E
   pub first : g .first .rate ≤ mostRate
   pub second : g .second .rate ≤ mostRate

@@ -17,11 +17,11 @@ ghost use lib.IntN.{pos, _+ℤ_};
 ghost use lib.Signed.{leZ};
 ghost use Rattle.rules.specs.Words.{sumℤ, up};
 ghost use Rattle.numbers.specs.Whole.{Sized};
-ghost use Rattle.rules.specs.Closing.{isCharge, mostRate, mostCharge, mostTransfer, rechargeBy};
+ghost use Rattle.rules.specs.Closing.{isCharge, mostRate, mostCharge, rechargeBy};
 ghost use Rattle.rules.specs.declared.Charge.the-variants.{Wh as ofWh};
 ghost use Rattle.values.specs.Limits.{areAmounts};
 ghost use Rattle.laws.specs.Answers.{figureSaid, closingSaid};
-ghost use Rattle.laws.specs.Beside.{mostWhole};
+ghost use Rattle.laws.specs.Beside.{mostTransfer, mostWhole};
 ghost use Rattle.rules.specs.Bench.{mostCycles};
 ghost use Rattle.ledger.specs.Row.{bounded, energyIn, energyAll};
 ghost use Rattle.wide.specs.Ratio.{ratio};
@@ -55,7 +55,7 @@ fn whole_energy(ledger: &[i64], n: usize, finished: u64, before: i64) -> i64
 
 // The three products over one divisor, k the number of cycles after the second.
 fn weigh(k: u64, total: u64, e1: u64, e2: u64, q1: u64, q2: u64, s: u64) -> Ratio
-    requires { ⌜ (k ≤ 62) × (total < 2 ^ 51) × (e1 + e2 ≤ total) × (q1 ≤ mostRate) × (q2 ≤ mostRate) ⌝ }
+    requires { ⌜ (k ≤ 62) × (total ≤ mostWhole) × (e1 + e2 ≤ total) × (q1 ≤ mostRate) × (q2 ≤ mostRate) ⌝ }
     ensures { λ r. ⌜ r ≡ ratio (k * (q1 * e1 + q2 * e2) + (total - e1 - e2) * s) (total * k) ⌝ }
 {
     let m = total * k;
@@ -139,7 +139,7 @@ fn finish(g: Gathered, n: usize, total: i64, after: i64, charge: Charge) -> Clos
 {
     let whole = total as u64;
     let weighted = weighted_of(g, n, whole);
-    let range = 5 * whole / (36 * weighted);
+    let range = 5 * whole / (72 * weighted);
     if range < 1 {
         return ClosingAnswer::Refused(13);
     }

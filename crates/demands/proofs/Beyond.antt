@@ -3,33 +3,33 @@
 use mathlib.Core.Bool.{Bool, true, false, cond}
 use mathlib.Core.List.{List}
 use mathlib.Core.Path.{_≡_, refl, subst⁻¹, _∙_}
-use Prim.Native.Nat.{ℕ, zero, suc, _+_, _*_, _<_}
-use native.Mathlib.Nat.{mod-lt, div-add-mod', div-lt-iff-lt-mul, le-step}
+use Prim.Native.Nat.{ℕ, zero, suc, _-_, _*_, _<_}
+use native.Mathlib.Nat.{mod-lt, div-add-mod', le-step}
 use native.Mathlib.Omega.{arith}
-use lib.Dec.{eqb}
-use borrow.Author.Tests.{eqb-true}
+use lib.Dec.{ltb, eqb}
+use borrow.Author.Tests.{eqb-true, ltb-true}
 use lib.IntN.{ℤ, pos}
 use lib.ListN.{drop}
-use lib.Seq.{drop-set-lt}
 use denote.Ref.{now}
-use Rattle.numbers.specs.Lists.{plus}
 use Rattle.rules.specs.Words.{fold}
 use Rattle.numbers.proofs.Lists.{drop-cleared}
 use Rattle.rules.specs.declared.Moment.{Moment}
 use Rattle.laws.specs.Beside.{isOpen, isMoment}
-use Rattle.rules.specs.Bench.{momentOf, mostCycles, mostPhases, mostPositions}
-use Rattle.rules.specs.Cycle.{phaseAt, positions}
+use Rattle.rules.specs.Bench.{momentOf, mostPositions}
+use Rattle.rules.specs.Cycle.{positions}
 use Rattle.rules.specs.Course.{Course}
-use Rattle.rules.specs.Regular.{cycleOf, positionOf, Plan, courseOf}
-use Rattle.laws.proofs.Sound.{sound, real, four}
+use Rattle.rules.specs.Regular.{cycleOf, most, Plan, courseOf}
+use Rattle.laws.proofs.Regular.{regular-orderly}
+use Rattle.laws.proofs.Sound.{Sound, sound, real}
 use Rattle.rules.specs.Shown.{ledgerNumbers, mapWords}
-use Rattle.ledger.specs.Row.{outsideAdded, isOver, sampleAdded}
+use Rattle.ledger.specs.Row.{intervalAdded}
+use Rattle.ledger.proofs.Rows.{outside-beyond, interval-beyond}
 use Rattle.map.specs.Map.{opened}
 use Rattle.map.proofs.Marks.{drop-markedIf, drop-opened}
 use Rattle.state.specs.declared.Run.{Run}
 use Rattle.state.specs.State.{Memory, lent}
 use Rattle.state.proofs.Checked.{ground-passed}
-use Rattle.step.specs.Step.{State, Kept, positionNow, outNow, onlyOffered, judge, sampleTaken, samplesTaken, leftAt, stateOf}
+use Rattle.step.specs.Step.{State, Kept, intervalClosed, positionNow, outNow, onlyOffered, judge, closing, limited, openTakenBy, sampleTaken, samplesTaken, leftAt, stateOf}
 use Rattle.step.proofs.Keeping.{kept-all}
 use Rattle.rules.specs.Values.{momentAt, countIn}
 use Rattle.blocks.proofs.Accepted.{one-accepted, block-accepted}
@@ -50,50 +50,56 @@ beyond-then g h = record { in-ledger = h .in-ledger ∙ g .in-ledger; in-map = h
 
 -- ---- one sample, and several
 
-plus-beyond : (l : List ℤ) (i : ℕ) (z : ℤ) → i < ledgerNumbers → drop ledgerNumbers (plus l i z) ≡ drop ledgerNumbers l
-plus-beyond l i z h = drop-set-lt ledgerNumbers l i _ h
-
--- three additions in the nine numbers of a cycle
-module _ (c : ℕ) (l : List ℤ) (h : c < mostCycles) where
-  marked-beyond : (out : Bool) → drop ledgerNumbers (outsideAdded (9 * c) l out) ≡ drop ledgerNumbers l
-  marked-beyond true = plus-beyond l (9 * c + 8) (pos 1) (omega arith)
-  marked-beyond false = refl
-
-  added-beyond : (k : ℕ) (x : Moment) (out : Bool) (allowance : ℕ) → k < mostPhases → drop ledgerNumbers (sampleAdded (9 * c) l k x out allowance) ≡ drop ledgerNumbers l
-  unfolding sampleAdded
-  added-beyond k x out allowance g = go (isOver (9 * c) l out allowance)
-    where
-      l₁ : List ℤ
-      l₁ = outsideAdded (9 * c) l out
-
-      go : (o : Bool) → drop ledgerNumbers (cond o l₁ (plus (plus l₁ (9 * c + k) (x .energy)) (9 * c + (4 + k)) (pos (x .speed)))) ≡ drop ledgerNumbers l
-      go true = marked-beyond out
-      go false =
-          plus-beyond (plus l₁ (9 * c + k) (x .energy)) (9 * c + (4 + k)) (pos (x .speed)) (omega arith) ∙ plus-beyond l₁ (9 * c + k) (x .energy) (omega arith) ∙ marked-beyond out
-
 module _ (p : Plan) where
   abbrev y : Course
   y = courseOf p
 
-  taken-beyond : (a : State) (x : Moment) → Kept p (leftAt p a) → Beyond (a .memory) (sampleTaken y a x .memory)
-  unfolding sampleTaken judge
-  taken-beyond a x k = go (isOpen (a .progress .end)) refl
+  -- the open interval is closed in the ledger
+  closed-beyond : (a : State) (x : Moment) → Kept p (leftAt p a) → isOpen (a .progress .end) ≡ true → drop ledgerNumbers (closing y a x .memory .ledger) ≡ drop ledgerNumbers (a .memory .ledger)
+  unfolding intervalClosed
+  closed-beyond a x k e = go (eqb (a .progress .counted) 0)
     where
-      n : ℕ
-      n = a .progress .counted
+      good : Sound (p .cycle)
+      good = sound (p .cycle) (k .sound)
 
-      go : (o : Bool) → isOpen (a .progress .end) ≡ o → Beyond (a .memory) (cond o (judge y a x) (onlyOffered a) .memory)
-      go true e =
-          let s = sound (p .cycle) (k .sound) in
-          let q = positionNow y a x in
-          let there = mod-lt n (real s) in
-          let row : cycleOf (p .cycle) n < mostCycles = div-lt-iff-lt-mul {x = n} {y = mostCycles} (real s) .1 (k .room e) in
-          let small : q < mostPositions = omega (arith, div-add-mod' n (positions (p .cycle)), s .short) in
-          record {
-            in-ledger = added-beyond (cycleOf (p .cycle) n) (a .memory .ledger) row (phaseAt (p .cycle) (positionOf (p .cycle) n)) x (outNow y a x) (p .tolerances .allowance) (four (p .cycle) (positionOf (p .cycle) n) s there);
-            in-map = drop-markedIf (opened (a .memory .map) q) q (outNow y a x) small ∙ drop-opened (a .memory .map) q;
-          }
-      go false e = untouched
+      n : ℕ
+      n = a .progress .counted - 1
+
+      go : (v : Bool) → drop ledgerNumbers (cond v (a .memory .ledger) (intervalAdded (9 * y .layout .row n) (a .memory .ledger) (y .layout .phase n) (a .progress .held) x))
+          ≡ drop ledgerNumbers (a .memory .ledger)
+      go true = refl
+      go false =
+          let o = regular-orderly (p .cycle) good in
+          interval-beyond (cycleOf (p .cycle) n) (a .memory .ledger) (o .few-rows n (omega (arith, k .room e, real good))) _ (a .progress .held) x (o .few-phases n)
+
+  -- a sample is judged, on any memory
+  judge-beyond : (a : State) (x : Moment) → Sound (p .cycle) → a .progress .counted < most (p .cycle) → Beyond (a .memory) (judge y a x .memory)
+  unfolding judge
+  judge-beyond a x good room =
+      let n = a .progress .counted in
+      let q = positionNow y a x in
+      let there = mod-lt n (real good) in
+      let small : q < mostPositions = omega (arith, div-add-mod' n (positions (p .cycle)), good .short) in
+      record {
+        in-ledger = outside-beyond (cycleOf (p .cycle) n) (a .memory .ledger) (regular-orderly (p .cycle) good .few-rows n room) (outNow y a x);
+        in-map = drop-markedIf (opened (a .memory .map) q) q (outNow y a x) small ∙ drop-opened (a .memory .map) q;
+      }
+
+  taken-beyond : (a : State) (x : Moment) → Kept p (leftAt p a) → Beyond (a .memory) (sampleTaken y a x .memory)
+  unfolding sampleTaken openTakenBy
+  taken-beyond a x k = go (isOpen (a .progress .end)) (ltb (a .progress .counted) (most (p .cycle))) refl refl
+    where
+      z : State
+      z = closing y a x
+
+      closed : isOpen (a .progress .end) ≡ true → Beyond (a .memory) (z .memory)
+      closed e = record { in-ledger = closed-beyond a x k e; in-map = refl }
+
+      go : (o v : Bool) → isOpen (a .progress .end) ≡ o → ltb (a .progress .counted) (most (p .cycle)) ≡ v
+          → Beyond (a .memory) (cond o (cond v (judge y z x) (limited z)) (onlyOffered a) .memory)
+      go true true e f = beyond-then (closed e) (judge-beyond z x (sound (p .cycle) (k .sound)) (ltb-true _ _ f))
+      go true false e f = closed e
+      go false v e f = untouched
 
   pub all-beyond : (a : State) (s : ℕ → Moment) (n : ℕ) → Kept p (leftAt p a) → ((i : ℕ) → i < n → isMoment (s i) ≡ true)
       → Beyond (a .memory) (samplesTaken y a s n .memory)

@@ -21,7 +21,7 @@ use Rattle.rules.specs.Bench.{mostCycles, mostPhases}
 use Rattle.rules.specs.Cycle.{phases, phaseEnd, positions, valid}
 use Rattle.rules.specs.Course.{never, after, reached, closed}
 use Rattle.rules.specs.Parts.{Part, rowPart, phasePart, finished}
-use Rattle.rules.specs.Regular.{own, regularLayout, regular, Plan, plan, courseOf, momentIn}
+use Rattle.rules.specs.Regular.{interval, regularLayout, regular, Plan, plan, courseOf, momentIn}
 use Rattle.laws.proofs.Sound.{Sound, sound, rising, real}
 use Rattle.laws.specs.Claims.{Widened, PartKept}
 use Rattle.laws.proofs.Answers.{same-closing}
@@ -86,7 +86,7 @@ module _ {b : List ℕ} {t t′ : Tolerances} {l₀ k₀ : List ℤ} {m₀ n₀ 
     (h : Driven (plan b t) l₀ m₀ xs r l m) (h′ : Driven (plan b t′) k₀ n₀ xs′ r′ l′ m′) where
   -- what the first run finished, by the rules
   abbrev Keeps : Part → Type 0
-  Keeps part = PartKept own part (momentIn xs) (momentIn xs′) (closed (regular b t) (momentIn xs) (length xs)) (closed (regular b t′) (momentIn xs′) (length xs′))
+  Keeps part = PartKept interval part (momentIn xs) (momentIn xs′) (closed (regular b t) (momentIn xs) (length xs)) (closed (regular b t′) (momentIn xs′) (length xs′))
 
   phase-stays : (c k : ℕ) → T (finished (phasePart (regularLayout b) c k) (closedBy r)) → Keeps (phasePart (regularLayout b) c k) → PhaseStays b r r′ l l′ c k
   phase-stays c k f p =
@@ -126,6 +126,7 @@ module _ {b : List ℕ} {t t′ : Tolerances} {l₀ k₀ : List ℤ} {m₀ n₀ 
         let shown = run-shows h .state-shows .1 in
         let shown′ = run-shows h′ .state-shows .1 in
         (omega arith, λ e. stops-by-the-rules h (T-true _ (stopped-too (true-T (stops-only-by-the-rules h′ e)))));
+    wider-run-closes-no-less = omega (arith, by-definition .wider-closes-no-less, closes h, closes h′);
     wider-run-finishes-phases = λ c k f.
         phase-stays h h′ c k f (by-definition .wider-finishes-phases c k (by-the-rules h (phasePart (regularLayout b) c k) f));
     wider-run-finishes-cycles = λ c f.
@@ -148,6 +149,7 @@ module _ {b : List ℕ} {t : Tolerances} {l₀ k₀ : List ℤ} {m₀ n₀ : Lis
     longer-run-moves-no-stop = λ e.
         let (stopped-too, same) = as-defined .longer-moves-no-stop (true-T (stops-only-by-the-rules h e)) in
         (stops-by-the-rules h′ (T-true _ stopped-too), run-shows h′ .state-shows .1 ∙ same ∙ sym (run-shows h .state-shows .1));
+    longer-run-closes-no-less = omega (arith, as-defined .longer-closes-no-less, closes h, closes h′);
     finished-phases-stay = λ c k f. phase-stays h h′ c k f (as-defined .finished-phase-stays c k (by-the-rules h (phasePart (regularLayout b) c k) f));
     finished-cycles-stay = λ c f.
         let (kept, same) = as-defined .finished-stays (good h) c (by-the-rules h (rowPart (regularLayout b) c) f) in

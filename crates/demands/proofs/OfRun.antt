@@ -73,7 +73,7 @@ module _ {p : Plan} {l₀ : List ℤ} {m₀ : List ℕ} {xs : List Moment} {r : 
 
   pub run-shows : RunShows p l₀ m₀ xs r l m
   run-shows = record {
-    state-shows = (shows .offered, shows .counted-is, shows .end-is);
+    state-shows = (shows .offered, shows .counted-is, shows .end-is, shows .held-is);
     ledger-shows = shows .ledger-shows;
     phase-energies = energies-in;
     phase-distances = distances-in;

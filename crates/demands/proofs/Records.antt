@@ -9,7 +9,7 @@ use Rattle.rules.specs.declared.Moment.{Moment}
 use Rattle.rules.specs.declared.Tolerances.{Tolerances}
 use Rattle.rules.specs.Bench.{tolerable}
 use Rattle.laws.specs.Beside.{isOpen}
-use Rattle.rules.specs.Regular.{own, plan, courseOf, momentIn}
+use Rattle.rules.specs.Regular.{plan, courseOf, momentIn}
 use Rattle.laws.proofs.Sound.{Sound, sound}
 use Rattle.laws.specs.Claims.{Widened}
 use Rattle.laws.proofs.Gathered.{row-ends}

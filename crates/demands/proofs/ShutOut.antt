@@ -17,7 +17,7 @@ use Rattle.rules.specs.declared.End.the-variants.{None as none, Stop as stop, L
 use Rattle.rules.specs.declared.Sample.{Sample}
 use Rattle.rules.specs.declared.Moment.{Moment}
 use Rattle.rules.specs.declared.Tolerances.{Tolerances}
-use Rattle.rules.specs.Bench.{isSample, momentOf, tolerable, mostSpeed, mostCycles, mostOffered}
+use Rattle.rules.specs.Bench.{isSample, momentOf, noMoment, tolerable, mostSpeed, mostCycles, mostOffered}
 use Rattle.rules.specs.Cycle.{valid}
 use Rattle.rules.specs.Band.{grid20, inside, side, verdict}
 use Rattle.rules.specs.Tally as tally
@@ -126,7 +126,7 @@ pub no-constant-out : (y : Bool)
     → ⊥
 unfolding be fold allBelow unless valid tolerable isSample grid20 inside
 no-constant-out y h =
-    let a : State = record { progress = record { offered = 10; counted = 10; end = none }; memory = lent [] [] } in
+    let a : State = record { progress = record { offered = 10; counted = 10; end = none; held = noMoment }; memory = lent [] [] } in
     false≢true (h (plan risen noTime) a (ofSpeed 20) refl refl refl ∙ sym (h (plan risen noTime) a (ofSpeed 19) refl refl refl))
 
 -- nor is the mark that it leaves: after eleven samples, the last of speed 20 or 19

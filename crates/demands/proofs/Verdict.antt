@@ -3,7 +3,7 @@
 use mathlib.Core.Bool.{true, not}
 use mathlib.Core.List.{List, [], _∷_, _++_}
 use mathlib.Core.Path.{_≡_, refl, sym, ap, _∙_}
-use Prim.Native.Nat.{ℕ, suc, _+_, _*_, _≤_, _<_, zero-le}
+use Prim.Native.Nat.{ℕ, suc, _+_, _*_, _≤_, _<_}
 use native.Mathlib.Nat.{le-refl, le-of-lt, mod-lt, div-add-mod', div-lt-iff-lt-mul}
 use native.Mathlib.Numerals.{add-one}
 use native.Mathlib.Omega.{arith}
@@ -16,7 +16,7 @@ use Rattle.numbers.proofs.Tests.{both, pass}
 use Rattle.rules.specs.declared.End.the-variants.{None as none}
 use Rattle.rules.specs.declared.Moment.{Moment}
 use Rattle.rules.specs.declared.Tolerances.{Tolerances}
-use Rattle.rules.specs.Bench.{tolerable, momentOf, mostSpeed, mostSpeedTolerance, mostTimeTolerance, mostAllowance, mostCycles, mostPositions}
+use Rattle.rules.specs.Bench.{tolerable, momentOf, noMoment, mostSpeed, mostSpeedTolerance, mostTimeTolerance, mostAllowance, mostCycles, mostPositions}
 use Rattle.rules.specs.Cycle.{valid, positions}
 use Rattle.rules.specs.Band.{inside, verdict}
 use Rattle.rules.specs.Course.{Course, stopsAt, counted, judged}
@@ -24,6 +24,7 @@ use Rattle.rules.specs.Regular.{cycleOf, positionOf, Plan, courseOf, momentIn}
 use Rattle.rules.specs.Shown.{marked}
 use Rattle.rules.specs.Question.{question}
 use Rattle.laws.specs.Beside.{isMoment, isOpen, below, above}
+use Rattle.laws.proofs.Facts.{Lawful}
 use Rattle.laws.proofs.Answers.{was-given}
 use Rattle.laws.proofs.Band.{verdict-inside, verdict-below, verdict-above, verdict-zero}
 use Rattle.laws.proofs.Bounds.{sample-moment}
@@ -86,24 +87,24 @@ module _ {p : Plan} {l₀ : List ℤ} {m₀ : List ℕ} {xs : List Moment} {r : 
   sound-cycle : Sound b
   sound-cycle = sound b (startable .sound)
 
+  lawful : Lawful y
+  lawful = regular-lawful b (p .tolerances)
+
   there : here < positions b
   there = mod-lt n (real sound-cycle)
 
   -- the run goes on, and a sample x stands behind the others
-  module _ (goes-on : r .progress .end ≡ none) (x : Moment) where
+  module _ (goes-on : r .progress .end ≡ none) (few : n < y .layout .most) (x : Moment) where
     abbrev s′ : ℕ → Moment
     s′ = momentIn (xs ++ x ∷ [])
 
-    goes : Going y zero-le (momentIn xs) n
-    goes = going y zero-le (momentIn xs) n (ap isOpen (sym (run-shows h .state-shows .2) ∙ goes-on))
-
-    few : n < y .layout .most
-    few = omega (arith, goes .short)
+    goes : Going y (lawful .near .soon) (momentIn xs) n
+    goes = going y (lawful .near .soon) (momentIn xs) n (ap isOpen (sym (run-shows h .state-shows .2) ∙ goes-on))
 
     -- it is judged
     all-counted : counted y s′ n ≡ n
     all-counted =
-        let more = counted-longer y (regular-lawful b (p .tolerances)) (momentIn xs) s′ n n (le-refl n) (same-samples xs (x ∷ [])) in
+        let more = counted-longer y lawful (momentIn xs) s′ n n (le-refl n) (same-samples xs (x ∷ [])) in
         let most = counted-le (stopsAt y s′) (y .layout .most) n .0 in
         omega (arith, goes .all)
 
@@ -117,12 +118,12 @@ module _ {p : Plan} {l₀ : List ℤ} {m₀ : List ℕ} {xs : List Moment} {r : 
         let row : cycleOf b n < mostCycles = div-lt-iff-lt-mul {x = n} {y = mostCycles} (real sound-cycle) .1 few in
         let at : cycleOf b n * positions b + here ≡ n = div-add-mod' n (positions b) in
         rw (shown-cycle (y .layout) n row, at, eq-eqb (cycleOf b n) (cycleOf b n) refl, lt-ltb n (suc n) (le-refl (suc n)))
-        (ap (λ (z : Moment). not (inside b (p .tolerances) here (z .speed))) (getD-append-seam xs x [] (record { speed = 0; energy = pos 0 }))
+        (ap (λ (z : Moment). not (inside b (p .tolerances) here (z .speed))) (getD-append-seam xs x [] noMoment)
         ∙ ap not (sym (verdict-zero b (p .tolerances) here (x .speed))))
 
   pub verdict-is-the-judges : VerdictIsTheJudges p l₀ m₀ xs r l m
   unfolding isMoment
-  verdict-is-the-judges c on r′ e goes-on q asked =
+  verdict-is-the-judges c on r′ e goes-on few q asked =
       let x = sampleIn c in
       let z = was-given _ _ r′ (sym (sample-kept c on .answer) ∙ ap answerSaid e) .0 in
       let ok = one-accepted r b l m x z .sample in
@@ -131,7 +132,7 @@ module _ {p : Plan} {l₀ : List ℤ} {m₀ : List ℕ} {xs : List Moment} {r : 
       let small : here < mostPositions = omega (arith, there, sound-cycle .short) in (
         q .kept ∙ (λ j. question (asked .cycle j) (asked .tolerances j) (asked .position j) (asked .speed j))
             ∙ answered b (p .tolerances) here (x .speed) (startable .sound) tolerated there low,
-        after .map-shows here small ∙ ap (λ (k : ℕ). marked y (s′ goes-on (momentOf x)) k here) (judged-too goes-on (momentOf x)) ∙ is-marked goes-on (momentOf x),
+        after .map-shows here small ∙ ap (λ (k : ℕ). marked y (s′ goes-on few (momentOf x)) k here) (judged-too goes-on few (momentOf x)) ∙ is-marked goes-on few (momentOf x),
       )
     where
       moment-low : (z : Moment) → isMoment z ≡ true → leb (z .speed) mostSpeed ≡ true

@@ -1,5 +1,5 @@
 -- Demand 2: "Every figure equals the rules of document 01. Blocks of another vehicle change nothing but the passed-over count (and the field number of a later
--- refusal). The ledger's energies add up to the energy of the samples counted."
+-- refusal). The ledger's energies add up to the energy of the samples counted." By document 02, L2 that is the energy of the intervals closed.
 -- Stated here, over all that is known by the contracts, with the judges that it shuts out in ShutOut.antt; proved in proofs/ (`demand-2`).
 -- Assumes nothing.
 use mathlib.Core.Bool.{true, false, not}
@@ -21,7 +21,7 @@ use Rattle.rules.specs.Cycle.{phases, valid}
 use Rattle.rules.specs.Band.{verdict}
 use Rattle.rules.specs.Course.{Course, outside, counted, judged, closed, ending}
 use Rattle.rules.specs.Parts.{phasePart, partEnergy, partDistance, energy}
-use Rattle.rules.specs.Regular.{positionOf, Plan, courseOf, momentIn}
+use Rattle.rules.specs.Regular.{positionOf, most, Plan, courseOf, momentIn}
 use Rattle.rules.specs.Shown.{ledgerNumbers, mapWords, figure as figureAt, shownRow, marked}
 use Rattle.rules.specs.Closing.{weight, weighing, rateOf, wholeEnergy, closingRefusal, closingFigures}
 use Rattle.rules.specs.Table.{tags}
@@ -40,6 +40,7 @@ use Rattle.state.specs.State.{lent}
 use Rattle.judge.specs.declared.Answer.the-variants as answer
 use Rattle.judge.specs.declared.ShownAnswer.the-variants as counts
 use Rattle.judge.specs.declared.TotalsAnswer.the-variants as sums
+use Rattle.step.specs.Step.{heldOf}
 use Rattle.reading.specs.declared.Step.the-variants as step
 use Rattle.reading.specs.Answers.{isReading}
 use Rattle.sheet.specs.Overlaid.{mostSheet}
@@ -71,8 +72,9 @@ module _ (p : Plan) (l₀ : List ℤ) (m₀ : List ℕ) (xs : List Moment) (r : 
   y = courseOf p
 
   pub record RunShows : Type 0 where
-    -- the state: how many samples were offered, how many of them count, and how the run ended
-    pub state-shows : (r .progress .offered ≡ n) × (r .progress .counted ≡ counted y s n) × (r .progress .end ≡ ending y s n)
+    -- the state: how many samples were offered, how many of them count, how the run ended, and what is held of the open interval
+    pub state-shows :
+        (r .progress .offered ≡ n) × (r .progress .counted ≡ counted y s n) × (r .progress .end ≡ ending y s n) × (r .progress .held ≡ heldOf y s n)
     -- "Cycle c owns the nine numbers that start at 9 × c (c from 0): four phase energies, four phase distances, the outside count."
     pub ledger-shows : (i : ℕ) → i < ledgerNumbers → at l i ≡ figureAt y s n i
     pub phase-energies : (c k : ℕ) → c < mostCycles → k < mostPhases
@@ -87,7 +89,7 @@ module _ (p : Plan) (l₀ : List ℤ) (m₀ : List ℕ) (xs : List Moment) (r : 
     pub map-shows : (q : ℕ) → q < mostPositions → isSet m q ≡ marked y s (judged y s n) q
     -- "The count of ones in the map equals the outside count of that cycle."
     pub ones-are-outside : onesOf m ≡ outside y s (shownRow (y .layout) (judged y s n)) (judged y s n)
-    -- the ledger's energies add up to the energy of the samples counted
+    -- the ledger's energies add up to the energy of the intervals closed
     pub energies-add-up : energyAll l ≡ energy (y .share) s (closed y s n)
     -- "what lies beyond is never touched"
     pub beyond-untouched : (drop ledgerNumbers l ≡ drop ledgerNumbers l₀) × (drop mapWords m ≡ drop mapWords m₀)
@@ -115,8 +117,7 @@ module _ (p : Plan) (l₀ : List ℤ) (m₀ : List ℕ) (xs : List Moment) (r : 
         → c .answer ≡ closingIn p xs (closingAmounts c)
     -- all figures of the report
     pub figures-of-run : (c : FiguresCall) → FiguresOn r (p .cycle) l m c → isReading (c .args .0) ≡ true
-        → (let x = c .args .0 in
-        c .answer ≡ record { refusal = 0; figures = figuresBy (x .vehicle) (x .passed) (x .amounts) p xs })
+        → (let x = c .args .0 in c .answer ≡ record { refusal = 0; figures = figuresBy (x .vehicle) (x .passed) (x .amounts) p xs })
 
   -- a call of `close` that answers the figures x
   pub record ClosedHolds : Type 0 where
@@ -153,11 +154,11 @@ module _ (p : Plan) (l₀ : List ℤ) (m₀ : List ℕ) (xs : List Moment) (r : 
     pub read-all : (c : AllCall) → AllOn r (p .cycle) l m c → isReading (c .args .0) ≡ true → Neither1Nor2 step.Refused (c .answer .last)
 
   -- "Its verdict is the judge's.": the bench controller is answered the verdict, and the judge, while the run goes on, marks the sample that it takes
-  -- exactly where that is not 0
+  -- exactly where that is not 0 ("after cycle 64 it is not judged": document 02, L2)
   abbrev pub VerdictIsTheJudges : Type 0
   VerdictIsTheJudges =
       (c : SampleCall) → SampleOn r (p .cycle) l m c → (r′ : Run) → c .answer ≡ answer.Taken r′ → r .progress .end ≡ none
-      → (q : VerdictCall) → AskedOn (p .cycle) (p .tolerances) (positionOf (p .cycle) n) (sampleIn c .speed) q
+      → n < most (p .cycle) → (q : VerdictCall) → AskedOn (p .cycle) (p .tolerances) (positionOf (p .cycle) n) (sampleIn c .speed) q
       → (let v = verdict (p .cycle) (p .tolerances) (positionOf (p .cycle) n) (sampleIn c .speed) in
       (q .answer ≡ pos v) × (isSet (c .lasts .1 .1 .1 .0) (positionOf (p .cycle) n) ≡ not (eqb v 0)))
 
@@ -186,8 +187,7 @@ pub record Speaks : Type 0 where
 
 -- ---- "Blocks of another vehicle change nothing but the passed-over count (and the field number of a later refusal)."
 
--- between the fields p, which tell x, and the bytes q stands a whole field 5, f, with the value v, of another valid number, where a block may stand; the count
--- has room for it
+-- between the fields p and the bytes q stands a whole field 5, f, of another valid number, where a block may stand and the count has room for it
 pub record ForeignChangesNothing (p f q : List ℕ) : Type 0 where
   -- the record tells what it tells without f, with one block more passed over, or has the same refusal one field later
   pub foreign-blocks-change-nothing : sheetOf (p ++ (f ++ q)) ≡ oneMore (sheetOf (p ++ q))

@@ -17,7 +17,7 @@ use Rattle.rules.specs.Bench.{tolerable}
 use Rattle.rules.specs.Cycle.{valid}
 use Rattle.rules.specs.Course.{Course, outside, counted, judged, closed}
 use Rattle.rules.specs.Parts.{Part, rowPart, phasePart, finished}
-use Rattle.rules.specs.Regular.{own, regularLayout, regular, plan}
+use Rattle.rules.specs.Regular.{interval, regularLayout, regular, plan}
 use Rattle.rules.specs.Table.{behindBefore, behindBlock}
 use Rattle.rules.specs.Values.{tolerancesIn}
 use Rattle.rules.specs.Record.{Told, told, sheetOf}
@@ -49,11 +49,13 @@ module _ (b : List ℕ) (t t′ : Tolerances) (s : ℕ → Moment) (n : ℕ) whe
   pub record WiderRun : Type 0 where
     -- "Wider tolerances never stop earlier."
     pub wider-never-stops-earlier : (counted y s n ≤ counted y′ s n) × (T (stopped y′ s n) → T (stopped y s n))
+    -- every interval that the narrower run closed: its stopping sample was offered to both
+    pub wider-closes-no-less : closed y s n ≤ closed y′ s n
     -- "What the narrower run finished, the wider finished too, with equal energies and distances and no higher outside count."
     pub wider-finishes-phases : (c k : ℕ) → T (finished (phasePart (regularLayout b) c k) (closed y s n))
-        → PartKept own (phasePart (regularLayout b) c k) s s (closed y s n) (closed y′ s n)
+        → PartKept interval (phasePart (regularLayout b) c k) s s (closed y s n) (closed y′ s n)
     pub wider-finishes-cycles : (c : ℕ) → T (finished (rowPart (regularLayout b) c) (closed y s n))
-        → PartKept own (rowPart (regularLayout b) c) s s (closed y s n) (closed y′ s n)
+        → PartKept interval (rowPart (regularLayout b) c) s s (closed y s n) (closed y′ s n)
         × (outside y′ s c (judged y′ s n) ≤ outside y s c (judged y s n))
 
 -- n samples of s, and n′ of s′ that begin with them
@@ -64,11 +66,12 @@ module _ (b : List ℕ) (t : Tolerances) (s s′ : ℕ → Moment) (n n′ : ℕ
   pub record LongerRun : Type 0 where
     -- "Samples added at the end move no stop given"
     pub longer-moves-no-stop : T (stopped course s n) → T (stopped course s′ n′) × (counted course s′ n′ ≡ counted course s n)
+    pub longer-closes-no-less : closed course s n ≤ closed course s′ n′
     -- "and change no phase or cycle finished."
     pub finished-phase-stays : (c k : ℕ) → T (finished (phasePart (regularLayout b) c k) (closed course s n))
-        → PartKept own (phasePart (regularLayout b) c k) s s′ (closed course s n) (closed course s′ n′)
+        → PartKept interval (phasePart (regularLayout b) c k) s s′ (closed course s n) (closed course s′ n′)
     pub finished-stays : valid b ≡ true → (c : ℕ) → T (finished (rowPart (regularLayout b) c) (closed course s n))
-        → PartKept own (rowPart (regularLayout b) c) s s′ (closed course s n) (closed course s′ n′)
+        → PartKept interval (rowPart (regularLayout b) c) s s′ (closed course s n) (closed course s′ n′)
         × (outside course s′ c (judged course s′ n′) ≡ outside course s c (judged course s n))
 
 -- ---- over whole runs of calls that keep the contracts, in their state and ledger: the run r with the ledger l, and the run r′ with l′
@@ -89,6 +92,7 @@ module _ (b : List ℕ) (r r′ : Run) (l l′ : List ℤ) where
   pub record WiderCalls : Type 0 where
     -- "Wider tolerances never stop earlier."
     pub wider-run-never-stops-earlier : (r .progress .counted ≤ r′ .progress .counted) × (r′ .progress .end ≡ stop → r .progress .end ≡ stop)
+    pub wider-run-closes-no-less : closedBy r ≤ closedBy r′
     -- "What the narrower run finished, the wider finished too, with equal energies and distances and no higher outside count."
     pub wider-run-finishes-phases : (c k : ℕ) → T (finished (phasePart (regularLayout b) c k) (closedBy r)) → PhaseStays c k
     pub wider-run-finishes-cycles : (c : ℕ) → T (finished (rowPart (regularLayout b) c) (closedBy r))
@@ -98,6 +102,7 @@ module _ (b : List ℕ) (r r′ : Run) (l l′ : List ℤ) where
   pub record LongerCalls (m m′ : List ℕ) : Type 0 where
     -- "Samples added at the end move no stop given"
     pub longer-run-moves-no-stop : r .progress .end ≡ stop → (r′ .progress .end ≡ stop) × (r′ .progress .counted ≡ r .progress .counted)
+    pub longer-run-closes-no-less : closedBy r ≤ closedBy r′
     -- "and change no phase or cycle finished."
     pub finished-phases-stay : (c k : ℕ) → T (finished (phasePart (regularLayout b) c k) (closedBy r)) → PhaseStays c k
     pub finished-cycles-stay : (c : ℕ) → T (finished (rowPart (regularLayout b) c) (closedBy r)) → CycleStays c × (outsideIn l′ c ≡ outsideIn l c)
@@ -128,7 +133,7 @@ module _ (p q v v′ : List ℕ) where
 
 -- a part that the run of x finished is finished in that of x′, with the same energy and distance
 abbrev pub Stays : Told → Told → Part → Type 0
-Stays x x′ part = T (finished part (closedTold x)) → PartKept own part (momentsTold x) (momentsTold x′) (closedTold x) (closedTold x′)
+Stays x x′ part = T (finished part (closedTold x)) → PartKept interval part (momentsTold x) (momentsTold x′) (closedTold x) (closedTold x′)
 
 -- "Samples added at the end move no stop given and change no phase or cycle finished."
 pub record Unmoved (x x′ : Told) : Type 0 where

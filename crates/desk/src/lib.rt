@@ -12,6 +12,7 @@ use reading::Reading;
 use reading::Step;
 use reading::read_refusal;
 use rules::End;
+use rules::Moment;
 use rules::Tolerances;
 use rules::limits::MOST_OFFERED;
 use rules::limits::MOST_PASSED;
@@ -75,6 +76,10 @@ pub fn empty() -> Desk
             offered: 0,
             counted: 0,
             end: End::None,
+            held: Moment {
+                speed: 0,
+                energy: 0,
+            },
         },
     };
     Desk {

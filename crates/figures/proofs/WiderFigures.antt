@@ -15,7 +15,7 @@ use Rattle.rules.specs.Bench.{mostCycles}
 use Rattle.rules.specs.Course.{outside}
 use Rattle.laws.specs.Beside.{stopped}
 use Rattle.rules.specs.Parts.{rowPart, cycles, partEnergy, partDistance, energy}
-use Rattle.rules.specs.Regular.{own, regularLayout, regularRule, Plan, plan, courseOf, momentIn}
+use Rattle.rules.specs.Regular.{interval, regularLayout, regularRule, Plan, plan, courseOf, momentIn}
 use Rattle.laws.proofs.Sound.{Sound}
 use Rattle.laws.specs.Claims.{Widened}
 use Rattle.laws.proofs.Facts.{Wider}
@@ -50,23 +50,23 @@ module _ (vehicle : List ℕ) (passed : ℕ) (a : Amounts) (b : List ℕ) (t t�
 
     pub no-earlier : NoEarlier vehicle passed a b t t′ xs
     no-earlier = record {
-      counted-no-less = counted-wider (regularLayout b) _ _ own wide s (length xs);
-      cycles-no-less = cycles-wider (regularLayout b) _ _ own wide s (length xs);
-      stopped-too = stop-wider (regularLayout b) _ _ own wide s (length xs);
-      phases-kept = λ c k. part-wider (regularLayout b) _ _ own wide s (length xs) (phase-ends (regular-orderly b o) c k);
-      cycles-kept = λ c. part-wider (regularLayout b) _ _ own wide s (length xs) (row-ends (regular-orderly b o) c);
-      outside-no-higher = outside-finished (regularLayout b) _ _ own wide s (length xs) (regular-orderly b o);
+      counted-no-less = counted-wider (regularLayout b) _ _ interval wide s (length xs);
+      cycles-no-less = cycles-wider (regularLayout b) _ _ interval wide s (length xs);
+      stopped-too = stop-wider (regularLayout b) _ _ interval wide s (length xs);
+      phases-kept = λ c k. part-wider (regularLayout b) _ _ interval wide s (length xs) (phase-ends (regular-orderly b o) c k);
+      cycles-kept = λ c. part-wider (regularLayout b) _ _ interval wide s (length xs) (row-ends (regular-orderly b o) c);
+      outside-no-higher = outside-finished (regularLayout b) _ _ interval wide s (length xs) (regular-orderly b o);
     }
 
     -- a run that did not stop: only the outside count may fall
     pub unstopped-same : (f .end ≡ stop → ⊥) → (f′ ≡ withOutside f (f′ .outside)) × (outsideTotal p′ xs ≤ outsideTotal p xs)
     unstopped-same went =
-        let u = unstopped-wider (regularLayout b) _ _ own wide s (length xs) (refuted (stopped (courseOf p) s (length xs)) (λ e. went (rw e))) in (
+        let u = unstopped-wider (regularLayout b) _ _ interval wide s (length xs) (refuted (stopped (courseOf p) s (length xs)) (λ e. went (rw e))) in (
           λ i.
               let m = u .closed-same i in
               let n = cycles (regularLayout b) m in
-              let e : ℕ → ℤ = λ c. partEnergy own s (rowPart (regularLayout b) c) m in
-              let d : ℕ → ℤ = λ c. pos (partDistance own s (rowPart (regularLayout b) c) m) in
+              let e : ℕ → ℤ = λ c. partEnergy interval s (rowPart (regularLayout b) c) m in
+              let d : ℕ → ℤ = λ c. pos (partDistance interval s (rowPart (regularLayout b) c) m) in
               record {
                 vehicle = vehicle;
                 end = u .ending-same i;
@@ -74,8 +74,8 @@ module _ (vehicle : List ℕ) (passed : ℕ) (a : Amounts) (b : List ℕ) (t t�
                 cycles = n;
                 outside = pos (outsideTotal p′ xs);
                 passed = passed;
-                drawn = energy own s m;
-                closing = closingBy (a .before +ℤ energy own s m) n e d (a .after) (a .charge);
+                drawn = energy interval s m;
+                closing = closingBy (a .before +ℤ energy interval s m) n e d (a .after) (a .charge);
               },
           sum-le _ _ mostCycles (λ c _. u .no-more-outside c),
         )

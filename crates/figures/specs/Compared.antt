@@ -13,7 +13,7 @@ use Rattle.rules.specs.declared.Moment.{Moment}
 use Rattle.rules.specs.declared.Tolerances.{Tolerances}
 use Rattle.rules.specs.Course.{outside, judged}
 use Rattle.rules.specs.Parts.{Part, rowPart, phasePart, finished}
-use Rattle.rules.specs.Regular.{own, regularLayout, Plan, plan, courseOf, momentIn}
+use Rattle.rules.specs.Regular.{interval, regularLayout, Plan, plan, courseOf, momentIn}
 use Rattle.rules.specs.Figures.{closedIn, figuresBy}
 use Rattle.laws.specs.Claims.{PartKept}
 
@@ -53,7 +53,7 @@ module _ (vehicle : List ℕ) (passed : ℕ) (a : Amounts) (b : List ℕ) (t t�
 
   -- a part that the narrower run finished
   abbrev Stays : Part → Type 0
-  Stays part = T (finished part (closedIn p xs)) → PartKept own part s s (closedIn p xs) (closedIn p′ xs)
+  Stays part = T (finished part (closedIn p xs)) → PartKept interval part s s (closedIn p xs) (closedIn p′ xs)
 
   -- "Wider tolerances never stop earlier. .. What the narrower run finished, the wider finished too, with equal energies and distances and no higher
   -- outside count."

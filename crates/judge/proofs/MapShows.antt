@@ -13,12 +13,12 @@ use lib.ListN.{length, drop}
 use borrow.Author.Tests.{le-ltb, eq-eqb, ne-eqb}
 use Rattle.numbers.specs.Lists.{cleared}
 use Rattle.rules.specs.Words.{fold, gather, bit}
-use Rattle.numbers.proofs.Range.{fold-none, sum-ℕ}
 use Rattle.rules.specs.declared.Moment.{Moment}
 use Rattle.rules.specs.Bench.{mostCycles, mostPositions}
 use Rattle.rules.specs.Course.{Course, out, outside}
 use Rattle.rules.specs.Shown.{mapWords, shownRow, marked}
 use Rattle.laws.proofs.Facts.{Orderly}
+use Rattle.laws.proofs.Next.{none-before}
 use Rattle.laws.proofs.Maps.{shown-cycle, map-cleared, map-goes-on}
 use Rattle.map.specs.Map.{isSet, mark, opened, markedIf, onesOf}
 use Rattle.map.proofs.Marks.{set-mark, ones-mark, set-cleared, ones-cleared, length-opened, length-markedIf, drop-opened, drop-markedIf}
@@ -80,16 +80,6 @@ module _ (c : Course) (f : Orderly (c .layout)) (s : ℕ → Moment) (n : ℕ) (
       go (yes e) = rw (eq-eqb P 0 e) (map-cleared c s p n row (omega (arith, stands)) ∙ ap (λ (i : ℕ). cond (eqb p i) (out c s n) false) (sym e))
       go (no e) = rw (ne-eqb P 0 e) (on n refl e ∙ ap (λ (x : Bool). cond x (out c s n) (marked c s n p)) own)
 
-  -- no sample of the row comes before its first
-  outside-none : P ≡ 0 → outside c s r n ≡ 0
-  unfolding gather
-  outside-none e =
-      fold-none _+_ 0 sum-ℕ _ n
-      (λ j l. ap (λ (x : Bool). cond x (bit (out c s j)) 0) (ne-eqb (c .layout .row j) r (λ (q : c .layout .row j ≡ r). before j l q)))
-    where
-      before : (j : ℕ) → j < n → c .layout .row j ≡ r → ⊥
-      before j l q = let g : B ≤ j = rw q at (f .begun j) in omega (arith, stands)
-
   module _ (m₀ m : List ℕ) (h : MapShows c s m₀ n m) where
     abbrev m₁ : List ℕ
     m₁ = opened m P
@@ -114,7 +104,7 @@ module _ (c : Course) (f : Orderly (c .layout)) (s : ℕ → Moment) (n : ℕ) (
     open-ones = go (ℕ-discrete P 0)
       where
         go : Dec (P ≡ 0) → onesOf (cond (eqb P 0) (cleared 0 mapWords m) m) ≡ outside c s r n
-        go (yes e) = rw (eq-eqb P 0 e) (ones-cleared m ∙ sym (outside-none e))
+        go (yes e) = rw (eq-eqb P 0 e) (ones-cleared m ∙ sym (none-before c f s n (omega (arith, stands))))
         go (no e) = rw (ne-eqb P 0 e) (h .ones ∙ ap (λ (k : ℕ). outside c s k n) (shown-before n e refl))
 
     long₁ : mapWords ≤ length m₁

@@ -12,6 +12,7 @@ pub mod Bounds
 pub mod Maps
 pub mod Next
 pub mod Regular
+pub mod Limit
 pub mod Weighing
 pub mod Closeness
 pub mod Recharge

@@ -3,17 +3,18 @@
 use mathlib.Core.Bool.{Bool, true, false, not, cond}
 use mathlib.Core.List.{List}
 use mathlib.Core.Logic.{⊎-elim}
-use mathlib.Core.Path.{_≡_, refl, sym, ap}
+use mathlib.Core.Path.{_≡_, refl, sym, ap₂}
 use Prim.Native.Nat.{ℕ, zero, suc, _+_, _-_, _*_, _/_, _≤_, _<_}
-use native.Mathlib.Nat.{le-antisymm, le-of-lt, mul-le-mul-right, div-lt-iff-lt-mul, div-add-mod', mod-lt}
+use native.Mathlib.Nat.{le-refl, le-antisymm, le-of-lt, mul-le-mul-right, div-lt-iff-lt-mul, div-add-mod', mod-lt}
 use native.Mathlib.Omega.{arith}
 use borrow.Author.Tests.{lt-leb, ltb-true}
 use lib.Dec.{T, leb, ltb, eqb, leb→le, nleb→lt, eqb→eq}
+use lib.IntN.{_+ℤ_}
 use Rattle.rules.specs.Words.{fold, first}
 use Rattle.numbers.proofs.Order.{side, digits}
 use Rattle.numbers.proofs.Firsts.{first-le, first-at, first-least}
 use Rattle.numbers.proofs.Tests.{both-T, not-mono}
-use Rattle.numbers.proofs.Whole.{weaken}
+use Rattle.numbers.proofs.Whole.{weaken, sized-add}
 use Rattle.rules.specs.declared.Moment.{Moment}
 use Rattle.rules.specs.declared.Tolerances.{Tolerances}
 use Rattle.rules.specs.Bench.{mostCycles, mostPositions}
@@ -21,7 +22,7 @@ use Rattle.rules.specs.Cycle.{phases, phaseEnd, positions, phaseAt}
 use Rattle.rules.specs.Band.{inside}
 use Rattle.rules.specs.Course.{never, after, reached}
 use Rattle.rules.specs.Parts.{phasePart, cycles}
-use Rattle.rules.specs.Regular.{own, cycleOf, positionOf, regularLayout, regularRule, regular}
+use Rattle.rules.specs.Regular.{interval, cycleOf, positionOf, regularLayout, regularRule, regular}
 use Rattle.rules.specs.Shown.{shownRow, inBounds, figure}
 use Rattle.laws.proofs.Sound.{Sound, real, phase-before, phase-exists, four}
 use Rattle.laws.specs.Claims.{Widened}
@@ -31,19 +32,19 @@ use Rattle.laws.proofs.Bounds.{Within, rowPlaces, places-row, figure-in
 use Rattle.laws.proofs.Maps.{shown-cycle}
 use Rattle.laws.proofs.Gathered.{Ends, phase-ends-by}
 
-pub own-near : Near own
-own-near = record {
-  soon = omega arith;
-  energy-by = λ s s′ j e. ap (λ (x : Moment). x .energy) (e j (omega arith));
-  distance-by = λ s s′ j e. ap (λ (x : Moment). x .speed) (e j (omega arith));
-  energy-most = λ s j x h. weaken (omega arith) (h j (omega arith));
-  distance-most = λ s j v h. omega (arith, h j (omega arith));
+pub interval-near : Near interval
+interval-near = record {
+  soon = le-refl 1;
+  energy-by = λ s s′ j e. ap₂ (λ (x y : Moment). x .energy +ℤ y .energy) (e j (omega arith)) (e (suc j) (omega arith));
+  distance-by = λ s s′ j e. ap₂ (λ (x y : Moment). x .speed + y .speed) (e j (omega arith)) (e (suc j) (omega arith));
+  energy-most = λ s j x h. weaken (omega arith) (sized-add (h j (omega arith)) (h (suc j) (omega arith)));
+  distance-most = λ s j v h. omega (arith, h j (omega arith), h (suc j) (omega arith));
 }
 
 -- any bytes as the cycle: a sample is settled by itself, and stands before the end of its phase
 module _ (b : List ℕ) where
   pub regular-lawful : (t : Tolerances) → Lawful (regular b t)
-  regular-lawful t = record { back = record { halts-by = λ v v′ j e. refl }; near = own-near }
+  regular-lawful t = record { back = record { halts-by = λ v v′ j e. refl }; near = interval-near }
 
   phase-not-past : (j k : ℕ) → phaseAt b (positionOf b j) ≡ k → (x : Bool) → ltb k (phases b) ≡ x
       → T (reached (cond x (after (cycleOf b j * positions b + 20 * phaseEnd b k)) never) j) → ⊥
@@ -82,7 +83,7 @@ module _ (b : List ℕ) (o : Sound b) where
   regular-places c m = omega (arith, places-row regular-orderly c (suc c * positions b) m refl, o .short)
 
   pub regular-in-bounds : (t : Tolerances) (s : ℕ → Moment) (n : ℕ) → ((j : ℕ) → j < n → Within (s j)) → (i : ℕ) → inBounds i (figure (regular b t) s n i) ≡ true
-  regular-in-bounds t s n limits = figure-in-bounds (regular b t) own-near s n limits regular-places (omega arith) (omega arith)
+  regular-in-bounds t s n limits = figure-in-bounds (regular b t) interval-near s n limits regular-places (omega arith) (omega arith)
 
   -- "Phases that do not exist hold 0.": no sample is of one
   pub no-such-phase : (c k : ℕ) → phases b ≤ k → (j : ℕ) → 0 ≤ j → T (phasePart (regularLayout b) c k .of j) → ⊥

@@ -11,7 +11,7 @@ use Rattle.numbers.proofs.Range.{fold-same}
 use Rattle.numbers.proofs.Tests.{all-same}
 use Rattle.rules.specs.declared.Charge.{Charge}
 use Rattle.rules.specs.declared.ClosingAnswer.the-variants.{Closed, Refused}
-use Rattle.rules.specs.Closing.{weighing, weight, isRate, rateOf, weightedFigure, rangeFigure, closingRefusal, together, rechargeBy, closingBy}
+use Rattle.rules.specs.Closing.{weighing, weight, isRate, rateOf, range, weightedFigure, rangeFigure, closingRefusal, together, rechargeBy, closingBy}
 use Rattle.rules.specs.Bench.{mostCycles}
 
 module _ (E : ℤ) (n : ℕ) (few : n ≤ mostCycles) (e d e′ d′ : ℕ → ℤ) (he : (c : ℕ) → c < mostCycles → e c ≡ e′ c) (hd : (c : ℕ) → c < mostCycles → d c ≡ d′ c) where
@@ -29,7 +29,7 @@ module _ (E : ℤ) (n : ℕ) (few : n ≤ mostCycles) (e d e′ d′ : ℕ → �
       / weight (up E) n
 
   range-same : rangeFigure E n e d ≡ rangeFigure E n e′ d′
-  range-same = ap (λ (w : ℕ). 5 * up E / (36 * w)) weighted-same
+  range-same = ap (range (up E)) weighted-same
 
   refusal-same : closingRefusal E n e d ≡ closingRefusal E n e′ d′
   unfolding closingRefusal

@@ -4,13 +4,17 @@ use mathlib.Core.Bool.{Bool, true, false, cond, _&&_, false≢true}
 use mathlib.Core.List.{List, [], _∷_}
 use mathlib.Core.Path.{_≡_, refl, ap, subst, _∙_}
 use Prim.Native.Nat.{ℕ, _+_, _≤_}
+use native.Mathlib.Omega.{arith}
 use lib.Dec.{leb, eqb}
+use lib.IntN.{ℤ}
 use borrow.Author.Tests.{leb-true, eqb-true}
 use Rattle.rules.specs.Words.{unless}
 use Rattle.numbers.proofs.Tests.{both, passed as passes}
+use Rattle.numbers.proofs.Whole.{weaken, sized-add, sized-between, between-sized}
 use Rattle.rules.specs.declared.Charge.the-variants.{Wh as wh}
 use Rattle.rules.specs.Bench.{tolerable, mostOffered, mostPassed}
-use Rattle.rules.specs.Closing.{isTransfer, isCharge}
+use Rattle.rules.specs.Closing.{mostTransferIn, isTransferIn, doubled, isCharge}
+use Rattle.laws.specs.Beside.{mostTransfer, isTransfer}
 use Rattle.rules.specs.Cycle.{valid}
 use Rattle.rules.specs.Table.{Row, Matter, number, among, isOf, tags, behindMark, behindNumber, behindCycle, behindTolerances, behindBefore, behindBlock, behindAfter, behindRecharge, blockPlaces}
 use Rattle.rules.specs.Values.{isNumber, sameNumber, firstIn, samplesOf, countIn, momentsIn, areSamples, blockOr, tolerancesIn, transferIn, rechargeIn}
@@ -35,6 +39,10 @@ movesTo (ownSamples xs) = behindBlock
 movesTo (before e) = behindBefore
 movesTo (after e) = behindAfter
 movesTo (charged w) = behindRecharge
+
+-- a transfer energy that the field may have is within the run's limits when it is doubled
+doubled-in : (e : ℤ) → isTransferIn e ≡ true → isTransfer (doubled e) ≡ true
+doubled-in e h = let s = sized-between mostTransferIn e h in between-sized mostTransfer (doubled e) (weaken (omega arith) (sized-add s s))
 
 module _ (over : ℕ) (me course : List ℕ) (offered tag : ℕ) (v : List ℕ) where
   -- what each says of the value, and the places at which it stands
@@ -102,9 +110,9 @@ module _ (over : ℕ) (me course : List ℕ) (offered tag : ℕ) (v : List ℕ) 
         let z = own b e in
         known (ownSamples (momentsIn (samplesOf v))) b 6 refl (ap brought (z .0)) (tag-is 5 _ t, a, refl, z .1)
     says q (there (there (there (there (there here))))) t a b e =
-        let z = passes (wrong 14) (brought b) _ _ (λ r. false≢true cc) e in known (before (transferIn v)) b 5 refl (z .1) (tag-is 6 _ t, a, z .0)
+        let z = passes (wrong 14) (brought b) _ _ (λ r. false≢true cc) e in known (before (doubled (transferIn v))) b 5 refl (z .1) (tag-is 6 _ t, a, doubled-in (transferIn v) (z .0))
     says q (there (there (there (there (there (there here)))))) t a b e =
-        let z = passes (wrong 14) (brought b) _ _ (λ r. false≢true cc) e in known (after (transferIn v)) b 7 refl (z .1) (tag-is 6 _ t, a, z .0)
+        let z = passes (wrong 14) (brought b) _ _ (λ r. false≢true cc) e in known (after (doubled (transferIn v))) b 7 refl (z .1) (tag-is 6 _ t, a, doubled-in (transferIn v) (z .0))
     says q (there (there (there (there (there (there (there here))))))) t a b e =
         let z = passes (wrong 14) (brought b) _ _ (λ r. false≢true cc) e in known (charged (rechargeIn v)) b 8 refl (z .1) (tag-is 7 _ t, a, z .0)
 

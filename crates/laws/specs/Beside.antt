@@ -5,7 +5,7 @@ use mathlib.Core.List.{List}
 use mathlib.Core.Path.{_≡_}
 use Prim.Native.Nat.{ℕ, _+_, _-_, _*_, _<_}
 use lib.Dec.{leb, ltb}
-use lib.IntN.{pos, negℤ}
+use lib.IntN.{ℤ, pos, negℤ}
 use Rattle.rules.specs.Words.{between}
 use Rattle.rules.specs.declared.End.{End}
 use Rattle.rules.specs.declared.End.the-variants.{None as none, Stop as stop, Limit as limit}
@@ -16,7 +16,7 @@ use Rattle.rules.specs.Band.{lo, hi, belowOf}
 use Rattle.rules.specs.Tally as tally
 use Rattle.rules.specs.Course.{Course, stopsAt}
 use Rattle.rules.specs.Shown.{mostEnergy}
-use Rattle.rules.specs.Closing.{mostTransfer, rate}
+use Rattle.rules.specs.Closing.{mostTransferIn, rate}
 use Rattle.rules.specs.Table.{Row, among, areWhole, byRow}
 
 -- such as a sample within its limits brings
@@ -49,6 +49,13 @@ abbrev pub stopped : Course → (ℕ → Moment) → ℕ → Bool
 stopped c s = tally.stopped (stopsAt c s) (c .layout .most)
 
 -- ---- the closing
+
+-- a transfer energy in the run's unit: field 6's, doubled
+abbrev pub mostTransfer : ℕ
+mostTransfer = 2 * mostTransferIn
+
+abbrev pub isTransfer : ℤ → Bool
+isTransfer = between (negℤ (pos mostTransfer)) (pos mostTransfer)
 
 -- the most that the whole energy can be, either way, of a ledger that is in bounds
 abbrev pub mostWhole : ℕ

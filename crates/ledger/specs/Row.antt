@@ -4,7 +4,7 @@ use mathlib.Core.Bool.{Bool, cond, _&&_}
 use mathlib.Core.List.{List}
 use Prim.Native.Nat.{ℕ, _+_, _-_, _*_, _<_}
 use lib.Dec.{leb}
-use lib.IntN.{ℤ, pos}
+use lib.IntN.{ℤ, pos, _+ℤ_}
 use lib.ListN.{length, getD}
 use lib.Signed.{ltZ}
 use Rattle.numbers.specs.Lists.{plus}
@@ -33,15 +33,13 @@ module _ (a : ℕ) (l : List ℤ) where
   abbrev pub outsideAdded : Bool → List ℤ
   outsideAdded out = cond out (plus l (a + 8) (pos 1)) l
 
-  -- "brings this count above the allowance"
+  -- "brings this count above the allowance": a sample that is not outside brings it nowhere
   abbrev pub isOver : Bool → ℕ → Bool
-  isOver out allowance = ltZ (pos allowance) (at (outsideAdded out) (a + 8))
+  isOver out allowance = out && ltZ (pos allowance) (at (outsideAdded out) (a + 8))
 
--- a judged sample of phase k: one that stops the run is only counted as outside
-unfoldable pub sampleAdded : ℕ → List ℤ → ℕ → Moment → Bool → ℕ → List ℤ
-sampleAdded a l k x out allowance =
-    let marked = outsideAdded a l out in
-    cond (isOver a l out allowance) marked (plus (plus marked (a + k) (x .energy)) (a + (4 + k)) (pos (x .speed)))
+-- an interval of phase k, from sample x to sample y: "the sums of both ends' products and speeds" (document 02, L2)
+unfoldable pub intervalAdded : ℕ → List ℤ → ℕ → Moment → Moment → List ℤ
+intervalAdded a l k x y = plus (plus l (a + k) (x .energy +ℤ y .energy)) (a + (4 + k)) (pos (x .speed + y .speed))
 
 -- the sum of n numbers, the first at place a, each d places behind the one before
 abbrev pub sumBy : List ℤ → ℕ → ℕ → ℕ → ℤ

@@ -1,14 +1,12 @@
-// The closing figures at their limits, worked out in `stdout` from document 01's formulas.
+// The closing figures at their limits, worked out in `stdout` from the formulas of documents 01 and 02.
+mod runs;
+
 use rules::Amounts;
 use rules::Charge;
 use rules::ClosingAnswer;
-use rules::End;
 use rules::Figure;
-use rules::Tolerances;
-use state::Ends;
-use state::Progress;
+use runs::finished;
 use state::Run;
-use state::Track;
 
 // T = 2, one phase, points of 100.
 const CYCLE: [u8; 9] = [1, 0, 2, 0, 100, 0, 100, 0, 100];
@@ -54,33 +52,6 @@ fn say_closing(answer: ClosingAnswer) {
             say(b", ");
             say_figure(recharge);
         }
-    }
-}
-
-// A run of n finished cycles, as a start and 40 n samples leave it.
-fn finished(n: u32) -> Run {
-    let end = if n < 64 { End::None } else { End::Limit };
-    let counted = if n < 64 { 40 * n } else { 2560 };
-    Run {
-        track: Track {
-            seconds: 2,
-            ends: Ends {
-                first: 2,
-                second: 0,
-                third: 0,
-                fourth: 0,
-            },
-            tolerances: Tolerances {
-                speed: 30,
-                time: 20,
-                allowance: 300,
-            },
-        },
-        progress: Progress {
-            offered: counted,
-            counted,
-            end,
-        },
     }
 }
 
@@ -139,8 +110,8 @@ fn say_case(label: &[u8], n: u32, before: i64, after: i64, wh: u32, ledger: &[i6
 // A ledger at its largest, and one number beyond.
 fn large() {
     let mut ledger = [0i64; 576];
-    fill(&mut ledger, 7_200_000_000_000, 72_000_000);
-    let most = 10_000_000_000_000;
+    fill(&mut ledger, 14_400_000_000_000, 144_000_000);
+    let most = 20_000_000_000_000;
     say_case(
         b"largest ledger, quotient past 64 bits",
         64,
@@ -157,7 +128,7 @@ fn large() {
         1,
         &ledger,
     );
-    ledger[0] = 7_200_000_000_001;
+    ledger[0] = 14_400_000_000_001;
     say_case(
         b"a number of the ledger out of bounds",
         64,
@@ -168,24 +139,33 @@ fn large() {
     );
 }
 
-// Every q is 1.
+// Every q is 1, so W is 1, and the range a metre for every 14.4 of E. No figure goes with E + F = 1: E is above 10 times the range.
 fn by_amounts(ledger: &[i64]) {
-    say_case(b"q at 1, E + F = 1", 3, 5, -7, 1, ledger);
-    say_case(b"recharge figure above its limit", 3, 5, -7, 2, ledger);
-    say_case(b"E + F = 0", 3, 5, -8, 1, ledger);
-    say_case(b"E + F = 0, no recharge", 3, 5, -8, 0, ledger);
-    say_case(b"a range of 0", 3, 4, 0, 1, ledger);
+    say_case(b"q at 1, E + F = 2", 3, 12, -13, 1, ledger);
+    say_case(b"recharge figure at its limit", 3, 17, -18, 1, ledger);
+    say_case(b"recharge figure above its limit", 3, 12, -13, 2, ledger);
+    say_case(b"E + F = 1", 3, 12, -14, 1, ledger);
+    say_case(b"E + F = 0", 3, 12, -15, 1, ledger);
+    say_case(b"E + F = 0, no recharge", 3, 12, -15, 0, ledger);
+    say_case(b"a range of 0", 3, 11, 0, 1, ledger);
     say_case(b"E = e_1 + e_2", 3, -1, 0, 1, ledger);
     say_case(b"E below e_1 + e_2", 3, -2, 0, 1, ledger);
-    say_case(b"two cycles", 2, 5, 0, 1, ledger);
+    say_case(b"two cycles", 2, 12, 0, 1, ledger);
+}
+
+// What comes before the closing's own refusals, and beside it what does not: two cycles are 10.
+fn by_grounds(ledger: &[i64]) {
+    let most = 20_000_000_000_000;
+    say_case(b"transfer at its limit", 2, most, -most, 1, ledger);
     say_case(
         b"transfer past its limit",
         2,
-        10_000_000_000_001,
+        20_000_000_000_001,
         0,
         1,
         ledger,
     );
+    say_case(b"recharge at its limit", 2, 0, 0, 2_000_000, ledger);
     say_case(b"recharge past its limit", 2, 0, 0, 2_000_001, ledger);
     say_all(
         b"a cycle of 8 bytes",
@@ -206,17 +186,18 @@ fn small() {
     ledger[13] = 100;
     ledger[22] = 100;
     by_amounts(&ledger);
+    by_grounds(&ledger);
     ledger[22] = 101;
-    say_case(b"q below 1", 3, 5, 0, 1, &ledger);
+    say_case(b"q below 1", 3, 12, 0, 1, &ledger);
     ledger[22] = 0;
-    say_case(b"no distance", 3, 5, 0, 1, &ledger);
+    say_case(b"no distance", 3, 12, 0, 1, &ledger);
     ledger[18] = 0;
-    say_case(b"no energy", 3, 5, 0, 1, &ledger);
+    say_case(b"no energy", 3, 12, 0, 1, &ledger);
     ledger[18] = 100_001;
     ledger[22] = 1;
-    say_case(b"q above 10,000,000", 3, 5, 0, 1, &ledger);
+    say_case(b"q above 10,000,000", 3, 12, 0, 1, &ledger);
     ledger[18] = 100_000;
-    say_case(b"q at 10,000,000", 3, 1_000_000_000, 0, 1, &ledger);
+    say_case(b"q at 10,000,000", 3, 2_000_000_000, 0, 1, &ledger);
 }
 
 fn main() {

@@ -1,17 +1,17 @@
 -- ℤ for `omega`, which reads only ℕ. An integer z is `up z` less `down z`, two naturals. Sums, negation, order, equality and size of
 -- integers are stated here once, each as a linear fact on those naturals, so that a fact on integers is `omega` on theirs. Assumes nothing.
 use mathlib.Core.Path.{_≡_, refl, sym, ap, _∙_, subst}
-use mathlib.Core.Bool.{Bool, true, false, cond, not}
+use mathlib.Core.Bool.{Bool, true, false, cond, not, false≢true}
 use mathlib.Core.List.{List}
 use Prim.Native.Nat.{ℕ, zero, suc, _+_, _*_, _-_, _≤_}
 use native.Mathlib.Nat.{le-trans, mul-le-mul}
 use native.Mathlib.Omega.{arith}
-use borrow.Author.Tests.{ltb-true, ltb-false, leb-true, leb-false, le-leb, lt-leb}
+use borrow.Author.Tests.{eqb-true, ltb-true, ltb-false, leb-true, leb-false, le-leb, lt-leb}
 use lib.Dec.{leb, ltb}
 use lib.IntN.{ℤ, pos, negsuc, negℤ, natAbs, subℕ, _+ℤ_, _*ℤ_}
 use lib.ListN.{getD}
 use lib.Signed.{leZ, ltZ}
-use Rattle.rules.specs.Words.{up, between, fold, gather, sumOf, sumOfℤ}
+use Rattle.rules.specs.Words.{up, between, eqZ, fold, gather, sumOf, sumOfℤ}
 use Rattle.numbers.specs.Whole.{down, Sized, Small}
 use Rattle.numbers.specs.Lists.{plus}
 use Rattle.numbers.proofs.Tests.{both}
@@ -31,6 +31,12 @@ sum-is (pos a) (pos b) = omega arith
 sum-is (pos a) (negsuc b) = omega (arith, sub-parts a (suc b))
 sum-is (negsuc a) (pos b) = omega (arith, sub-parts b (suc a))
 sum-is (negsuc a) (negsuc b) = omega arith
+
+pub eqZ-true : (a b : ℤ) → eqZ a b ≡ true → a ≡ b
+eqZ-true (pos a) (pos b) e = ap pos (eqb-true a b e)
+eqZ-true (pos a) (negsuc b) e = absurd (false≢true e)
+eqZ-true (negsuc a) (pos b) e = absurd (false≢true e)
+eqZ-true (negsuc a) (negsuc b) e = ap negsuc (eqb-true a b e)
 
 pub up-neg : (a : ℤ) → up (negℤ a) ≡ down a
 up-neg (pos zero) = refl

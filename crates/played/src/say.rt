@@ -67,3 +67,32 @@ pub fn position(map: &[u64], p: usize) {
     named(b", position ", p as u64);
     named(b" set ", map::is_set(map, p) as u64);
 }
+
+// Number k of a row of the ledger.
+fn number_of(ledger: &[i64], row: usize, k: usize) -> i64 {
+    if 63 < row {
+        return 0;
+    }
+    if 8 < k {
+        return 0;
+    }
+    let i = 9 * row + k;
+    if ledger.len() <= i {
+        return 0;
+    }
+    ledger[i]
+}
+
+// "four phase energies, four phase distances, the outside count".
+pub fn row(ledger: &[i64], at: usize) {
+    named(b", row ", at as u64);
+    signed(b" energies ", number_of(ledger, at, 0));
+    signed(b" ", number_of(ledger, at, 1));
+    signed(b" ", number_of(ledger, at, 2));
+    signed(b" ", number_of(ledger, at, 3));
+    signed(b" distances ", number_of(ledger, at, 4));
+    signed(b" ", number_of(ledger, at, 5));
+    signed(b" ", number_of(ledger, at, 6));
+    signed(b" ", number_of(ledger, at, 7));
+    signed(b" outside ", number_of(ledger, at, 8));
+}

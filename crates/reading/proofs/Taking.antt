@@ -28,7 +28,7 @@ use Rattle.laws.proofs.Says.{movesTo, Says, says, says-foreign}
 use Rattle.laws.proofs.Tags.{sizes}
 use Rattle.state.specs.State.{Left, left}
 use Rattle.step.specs.declared.Going.{Going}
-use Rattle.step.specs.Step.{Kept, held, leftAt}
+use Rattle.step.specs.Step.{Kept, withMemory, leftAt}
 use Rattle.blocks.specs.Blocks.{blockTaken}
 use Rattle.records.specs.Stage.{Stage, contentOn, bringOn, passOn, takeOn}
 use Rattle.records.proofs.Later.{taken-list}
@@ -105,11 +105,11 @@ module _ (b : List ℕ) (t : Tolerances) (k : Along) (l : List ℤ) (m : List �
     pub samples-taken : {q : List ℕ} → q ≡ samplesOf v → {y : Left Going} → y ≡ blockTaken b t (k .going) l m q → afterBlock y ≡ bringTaken b t k l m v Samples
     samples-taken e h =
         ap afterBlock
-        (h ∙ ap (blockTaken b t (k .going) l m) e ∙ ap (leftAt p) (taken-list (courseOf p) (held (k .going) l m) (momentAt (samplesOf v)) (countIn (samplesOf v))))
+        (h ∙ ap (blockTaken b t (k .going) l m) e ∙ ap (leftAt p) (taken-list (courseOf p) (withMemory (k .going) l m) (momentAt (samplesOf v)) (countIn (samplesOf v))))
 
     -- an amount leaves the run as it is
     pub amount-taken : Kept p (left (k .going) l m) → {r : Along} (place : ℕ) (a : Amounts) → r ≡ withAmounts k place a
-        → left r l m ≡ record { answer = record { place = place; passed = k .passed; amounts = a; going = leftAt p (held (k .going) l m) .answer }; memory = held (k .going) l m .memory }
+        → left r l m ≡ record { answer = record { place = place; passed = k .passed; amounts = a; going = leftAt p (withMemory (k .going) l m) .answer }; memory = withMemory (k .going) l m .memory }
     amount-taken h place a e = (λ i. left (e i) l m) ∙ (λ i. left (record { place = place; passed = k .passed; amounts = a; going = h .stands i }) l m)
 
   -- ---- the content of a field, of n bytes
@@ -132,7 +132,7 @@ module _ (b : List ℕ) (t : Tolerances) (k : Along) (l : List ℤ) (m : List �
   -- where nothing is taken
   pub unmoved : (me : List ℕ) → Kept p (left (k .going) l m) → (s : Said FieldRead)
       → left {A = ReadSaid Along} (record { says = s; state = k }) l m ≡ record { answer = record { says = s; state = alongOf (stageAlong me b t k l m) }; memory = stageAlong me b t k l m .run .memory }
-  unmoved me h s = λ i. record { answer = record { says = s; state = along-is me b t k l m h i }; memory = held (k .going) l m .memory }
+  unmoved me h s = λ i. record { answer = record { says = s; state = along-is me b t k l m h i }; memory = withMemory (k .going) l m .memory }
 
   module _ (me : List ℕ) where
     abbrev x : Stage

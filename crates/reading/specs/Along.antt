@@ -17,7 +17,7 @@ use Rattle.rules.specs.Machine.{Reply, toField, Ran}
 use Rattle.rules.specs.Values.{isNumber, samplesOf, countIn, areSamples}
 use Rattle.rules.specs.Record.{answerBy}
 use Rattle.state.specs.State.{Left, left}
-use Rattle.step.specs.Step.{Kept, held, standing, withProgress}
+use Rattle.step.specs.Step.{Kept, withMemory, standing, withProgress}
 use Rattle.records.specs.Stage.{Stage, bringOn, passOn, takeOn, replyOn, runOn, stageAfter}
 use Rattle.contents.specs.declared.Content.{Content}
 use Rattle.contents.specs.declared.Content.the-variants.{Brought, Foreign, Refused}
@@ -47,7 +47,7 @@ stageAlong me b t k l m = record {
   cycle = b;
   tolerances = t;
   amounts = k .amounts;
-  run = held (k .going) l m;
+  run = withMemory (k .going) l m;
 }
 
 abbrev pub alongOf : Stage → Along

@@ -8,7 +8,8 @@ use native.Mathlib.Omega.{arith}
 use lib.ListN.{length}
 use Rattle.rules.specs.declared.Charge.the-variants.{Wh as wh}
 use Rattle.rules.specs.Bench.{mostPassed}
-use Rattle.rules.specs.Closing.{isTransfer, isCharge}
+use Rattle.rules.specs.Closing.{isCharge}
+use Rattle.laws.specs.Beside.{isTransfer}
 use Rattle.values.specs.Limits.{areAmounts}
 use Rattle.rules.specs.Cycle.{valid, mostBytes}
 use Rattle.rules.specs.Table.{behindRecharge, tags}

@@ -1,9 +1,12 @@
 // Refusals that no record brings, each by itself and beside its neighbour in document 01's order: of the reader here, of the judge, the desk and
-// the intake in their modules.
+// the intake, of a run's state and of bounds in their modules.
+mod of_bounds;
 mod of_desk;
 mod of_intake;
 mod of_judge;
+mod of_state;
 
+use of_state::ended_run;
 use opening::OpenStep;
 use opening::Opening;
 use reader::blank;
@@ -12,12 +15,6 @@ use reader::read;
 use reader::reading_of;
 use reading::Reading;
 use reading::Step;
-use rules::End;
-use rules::Tolerances;
-use state::Ends;
-use state::Progress;
-use state::Run;
-use state::Track;
 
 // T = 2 and T = 3, one phase, points of 100.
 const CYCLE: [u8; 9] = [1, 0, 2, 0, 100, 0, 100, 0, 100];
@@ -28,32 +25,7 @@ const UNKNOWN: [u8; 1] = [8];
 // A field 4 with a speed tolerance of 101.
 const WIDE: [u8; 9] = [4, 0, 6, 0, 101, 0, 20, 1, 44];
 
-// A run of 64 finished cycles to which so many samples were offered.
-fn ended_run(offered: u32) -> Run {
-    Run {
-        track: Track {
-            seconds: 2,
-            ends: Ends {
-                first: 2,
-                second: 0,
-                third: 0,
-                fourth: 0,
-            },
-            tolerances: Tolerances {
-                speed: 30,
-                time: 20,
-                allowance: 300,
-            },
-        },
-        progress: Progress {
-            offered,
-            counted: 2560,
-            end: End::Limit,
-        },
-    }
-}
-
-// Its reading, with so many blocks passed over.
+// The reading of a run of 64 finished cycles to which so many samples were offered, with so many blocks passed over.
 fn reading_with(offered: u32, passed: u32) -> Reading {
     let mut r = reading_of(blank(), ended_run(offered));
     r.passed = passed;
@@ -178,8 +150,8 @@ fn try_field(what: &[u8], r: Reading, input: &[u8]) {
 }
 
 fn grounds() {
-    let r = reading_with(2560, 0);
-    let beyond = reading_with(2560, 4_000_001);
+    let r = reading_with(2561, 0);
+    let beyond = reading_with(2561, 4_000_001);
     try_other(b"read, ledger too short, other cycle", r, 575, 750);
     try_other(b"read, map too short, other cycle", r, 576, 749);
     try_other(b"read, state out of bounds, other cycle", beyond, 576, 750);
@@ -196,8 +168,8 @@ fn try_figures(what: &[u8], r: Reading, cycle: &[u8]) {
 }
 
 fn figures() {
-    let r = reading_with(2560, 0);
-    let beyond = reading_with(2560, 4_000_001);
+    let r = reading_with(2561, 0);
+    let beyond = reading_with(2561, 4_000_001);
     try_figures(
         b"figures, state out of bounds, other cycle",
         beyond,
@@ -231,6 +203,10 @@ fn main() {
     of_judge::samples();
     of_judge::blocks();
     of_judge::figures();
+    of_state::intervals();
+    of_state::counts();
+    of_bounds::ledgers();
+    of_bounds::amounts();
     of_desk::closings();
     of_intake::buffers();
 }

@@ -19,7 +19,7 @@ fn started(cycle: usize) -> Desk {
     Desk {
         started: true,
         opening: at_tolerances(4, cycle),
-        reading: reading_with(2560, 0),
+        reading: reading_with(2561, 0),
         fields: 9,
     }
 }

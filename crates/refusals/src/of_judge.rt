@@ -6,6 +6,7 @@ use judge::Answer;
 use judge::ShownAnswer;
 use judge::TotalsAnswer;
 use rules::End;
+use rules::Moment;
 use rules::Sample;
 use rules::Tolerances;
 use state::Ends;
@@ -46,11 +47,15 @@ fn stopped(offered: u32) -> Run {
             offered,
             counted: 3,
             end: End::Stop,
+            held: Moment {
+                speed: 0,
+                energy: 0,
+            },
         },
     }
 }
 
-fn number_of(answer: Answer) -> u32 {
+pub fn number_of(answer: Answer) -> u32 {
     match answer {
         Answer::Taken(_) => 0,
         Answer::Refused(n) => n,
@@ -124,7 +129,7 @@ pub fn samples() {
         run,
         other,
         100,
-        7_200_000_000_001,
+        14_400_000_000_001,
     );
     try_sample(
         b"sample, another cycle, 4000000 offered",

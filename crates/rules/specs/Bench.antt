@@ -28,7 +28,7 @@ isSample x =
     && leb (x .voltage) mostVoltage
     && between (negℤ (pos mostCurrent)) (pos mostCurrent) (x .current)
 
--- "Drawn energy of a sample is -(voltage × current), in units of 0.5 mJ"
+-- "Drawn energy of a sample is -(voltage × current)": the product of which an interval of the run sums two
 abbrev pub drawn : Sample → ℤ
 drawn x = negℤ (pos (x .voltage) *ℤ x .current)
 
@@ -36,16 +36,20 @@ drawn x = negℤ (pos (x .voltage) *ℤ x .current)
 abbrev pub momentOf : Sample → Moment
 momentOf x = record { speed = x .speed; energy = drawn x }
 
+-- nothing of a sample
+abbrev pub noMoment : Moment
+noMoment = record { speed = 0; energy = pos 0 }
+
 -- the most that a sample within its limits draws, either way: the greatest product of voltage and current
 abbrev pub mostDrawn : ℕ
 mostDrawn = mostVoltage * mostCurrent
 
--- the most that one share of a run brings: energy either way, and distance
+-- the most that one share of a run brings, "the sums of both ends' products and speeds": energy either way, and distance
 abbrev pub mostShareEnergy : ℕ
-mostShareEnergy = mostDrawn
+mostShareEnergy = 2 * mostDrawn
 
 abbrev pub mostShareDistance : ℕ
-mostShareDistance = mostSpeed
+mostShareDistance = 2 * mostSpeed
 
 -- "A cycle has T seconds, 2 <= T <= 2400 .. and 1 to 4 phases"; "A cycle has 20T positions"
 abbrev pub leastSeconds : ℕ

@@ -2,7 +2,7 @@
 -- Assumes nothing.
 use mathlib.Core.Bool.{Bool, true, false, not, cond, _&&_}
 use mathlib.Core.List.{List, [], _∷_}
-use Prim.Native.Nat.{ℕ}
+use Prim.Native.Nat.{ℕ, _*_}
 use lib.Dec.{ltb, eqb}
 use lib.IntN.{ℤ, pos, negℤ}
 use lib.ListN.{length, getD}
@@ -12,8 +12,8 @@ use Rattle.rules.specs.Cycle.{valid}
 use Rattle.rules.specs.Band.{inside}
 use Rattle.rules.specs.Question.{question}
 use Rattle.rules.specs.Course.{Layout, Course, course, closedWhere, endingWhere, outside, counted, judged}
-use Rattle.rules.specs.Parts.{phasePart, finished, cycles, partEnergy}
-use Rattle.rules.specs.Regular.{own, positionOf, regularLayout, regularRule, regular}
+use Rattle.rules.specs.Parts.{phasePart, finished, cycles, partEnergy, partDistance}
+use Rattle.rules.specs.Regular.{interval, positionOf, regularLayout, regularRule, regular}
 use Rattle.rules.specs.declared.Charge.{Charge}
 use Rattle.rules.specs.declared.Charge.the-variants.{Absent as absent, Wh as wh}
 use Rattle.rules.specs.declared.Figure.{Figure}
@@ -49,25 +49,32 @@ bytes p = 1 ∷ 0 ∷ 2 ∷ 0 ∷ p .a ∷ 0 ∷ p .b ∷ 0 ∷ p .c ∷ []
 tolerances : ℕ → ℕ → ℕ → Tolerances
 tolerances s w a = record { speed = s; time = w; allowance = a }
 
+moment : ℕ → ℤ → Moment
+moment v e = record { speed = v; energy = e }
+
 -- samples of speed 100 before sample j, and of speed 131 from it on
 fastFrom : ℕ → ℕ → Moment
-fastFrom j i = record { speed = cond (ltb i j) 100 131; energy = pos 0 }
+unfolding moment
+fastFrom j i = moment (cond (ltb i j) 100 131) (pos 0)
 
 pub data Row : Type 0 where
   -- sample j of a run (so at position j mod 40), time and speed tolerance: the speeds that are inside, and those that are not
   band : Points → ℕ → ℕ → ℕ → List ℕ → List ℕ → Row
-  -- points all 100, speed 131 from sample j on, 120 samples offered, speed tolerance and allowance:
-  -- the end, the samples counted, the cycles finished, the outside counts of the first three cycles
-  drive : ℕ → ℕ → ℕ → End → ℕ → ℕ → List ℕ → Row
+  -- points all 100, speed 131 from sample j on, n samples offered, speed tolerance and allowance:
+  -- the end, the samples counted, the intervals closed, the cycles finished, the outside counts of the first three cycles
+  drive : ℕ → ℕ → ℕ → ℕ → End → ℕ → ℕ → ℕ → List ℕ → Row
   -- voltage, current: the energy drawn
   draws : ℕ → ℤ → ℤ → Row
+  -- two neighbouring samples: energy and distance of the interval between them
+  joins : Moment → Moment → ℤ → ℕ → Row
   -- E, the first two energies, the rates: W, of as many cycles as there are rates
   weighs : ℕ → ℕ → ℕ → ℕ → List ℕ → ℕ → Row
   -- E, the energies and the distances of the finished cycles, F, the recharge: the closing
   closes : ℤ → List ℤ → List ℤ → ℤ → Charge → ClosingAnswer → Row
-  -- how many samples later a share is closed, how many samples can count, n offered, m counted: the shares closed, the end
-  shuts : ℕ → ℕ → ℕ → ℕ → ℕ → End → Row
-  -- a cycle of two phases, one second each, and shares of energy 1: cycle c, phase k of it, m shares closed: the phase's energy, whether it is finished
+  -- how many samples can count, n offered, m counted: the intervals closed, the end
+  shuts : ℕ → ℕ → ℕ → ℕ → End → Row
+  -- a cycle of two phases, one second each; sample j draws j at the speed 10 j, so that k intervals bring k² and 10 k² in all:
+  -- cycle c, phase k of it, m intervals closed: the phase's energy, whether it is finished
   gathers : ℕ → ℕ → ℕ → ℕ → Bool → Row
   -- the cycle's bytes, speed and time tolerance, position, speed: what the bench controller is answered
   asks : List ℕ → ℕ → ℕ → ℕ → ℕ → ℤ → Row
@@ -85,16 +92,16 @@ hundreds : List ℤ
 hundreds = pos 100 ∷ pos 100 ∷ pos 100 ∷ []
 
 unfoldable pub card : List Row
-unfolding points flat bytes ones hundreds
+unfolding points flat bytes ones hundreds moment
 card =
     band (points 0 100 0) 10 0 30 (20 ∷ 80 ∷ []) (19 ∷ 81 ∷ [])
     ∷ band (points 0 100 0) 20 5 30 (45 ∷ 130 ∷ []) (44 ∷ 131 ∷ [])
     ∷ band (points 0 100 0) 10 20 30 (0 ∷ 130 ∷ []) (131 ∷ [])
-    ∷ drive 0 30 3 stop 3 0 (4 ∷ 0 ∷ 0 ∷ [])
-    ∷ drive 0 30 5 stop 5 0 (6 ∷ 0 ∷ 0 ∷ [])
-    ∷ drive 0 31 3 none 120 3 (0 ∷ 0 ∷ 0 ∷ [])
-    ∷ drive 0 30 39 stop 39 0 (40 ∷ 0 ∷ 0 ∷ [])
-    ∷ drive 0 30 40 none 120 3 (40 ∷ 40 ∷ 40 ∷ [])
+    ∷ drive 0 120 30 3 stop 3 3 0 (4 ∷ 0 ∷ 0 ∷ [])
+    ∷ drive 0 120 30 5 stop 5 5 0 (6 ∷ 0 ∷ 0 ∷ [])
+    ∷ drive 0 120 31 3 none 120 119 2 (0 ∷ 0 ∷ 0 ∷ [])
+    ∷ drive 0 120 30 39 stop 39 39 0 (40 ∷ 0 ∷ 0 ∷ [])
+    ∷ drive 0 120 30 40 none 120 119 2 (40 ∷ 40 ∷ 40 ∷ [])
     ∷ draws 6000 (negℤ (pos 120)) (pos 720_000)
     ∷ draws 6000 (pos 120) (negℤ (pos 720_000))
     ∷ draws 15_000 (negℤ (pos 10_000)) (pos 150_000_000)
@@ -107,33 +114,56 @@ card =
     ∷ band (points 100 50 0) 40 5 0 (88 ∷ 100 ∷ []) (87 ∷ 0 ∷ [])
     ∷ band (points 100 50 0) 39 5 0 (0 ∷ 15 ∷ []) (16 ∷ 100 ∷ [])
     -- not on the card: a stop at the last position, here of the second cycle, leaves its cycle unfinished; the count begins afresh in each cycle
-    ∷ drive 40 30 39 stop 79 1 (0 ∷ 40 ∷ 0 ∷ [])
-    ∷ drive 20 30 39 stop 79 1 (20 ∷ 40 ∷ 0 ∷ [])
+    ∷ drive 40 120 30 39 stop 79 79 1 (0 ∷ 40 ∷ 0 ∷ [])
+    ∷ drive 20 120 30 39 stop 79 79 1 (20 ∷ 40 ∷ 0 ∷ [])
+    -- not on the card: a stop at the first position of a cycle finishes the cycle before it, and one by the first sample of the run closes nothing
+    ∷ drive 40 120 30 0 stop 40 40 1 (0 ∷ 1 ∷ 0 ∷ [])
+    ∷ drive 40 41 30 0 stop 40 40 1 (0 ∷ 1 ∷ 0 ∷ [])
+    ∷ drive 0 1 30 0 stop 0 0 0 (1 ∷ 0 ∷ 0 ∷ [])
+    -- not on the card: no sample, one, two; a record that ends on a cycle's last sample, and with one sample more
+    ∷ drive 0 0 31 0 none 0 0 0 (0 ∷ 0 ∷ 0 ∷ [])
+    ∷ drive 0 1 31 0 none 1 0 0 (0 ∷ 0 ∷ 0 ∷ [])
+    ∷ drive 0 2 31 0 none 2 1 0 (0 ∷ 0 ∷ 0 ∷ [])
+    ∷ drive 0 40 31 0 none 40 39 0 (0 ∷ 0 ∷ 0 ∷ [])
+    ∷ drive 0 41 31 0 none 41 40 1 (0 ∷ 0 ∷ 0 ∷ [])
+    ∷ drive 0 121 31 0 none 121 120 3 (0 ∷ 0 ∷ 0 ∷ [])
+    -- not on the card: an interval has both ends' products and speeds
+    ∷ joins (moment 100 (pos 720_000)) (moment 131 (negℤ (pos 20_000))) (pos 700_000) 231
+    ∷ joins (moment 1500 (pos 150_000_000)) (moment 1500 (pos 150_000_000)) (pos 300_000_000) 3000
     -- not on the card: the closing's order, each number with the next one's fault there too; E = e_1 + e_2 is good
     ∷ closes (pos 9) (pos 0 ∷ pos 0 ∷ []) (pos 0 ∷ pos 0 ∷ []) (pos 0) absent (Refused 10)
     ∷ closes (pos 9) (pos 1 ∷ pos 1 ∷ pos 0 ∷ []) (pos 1 ∷ pos 1 ∷ pos 0 ∷ []) (pos 0) absent (Refused 11)
     ∷ closes (pos 1) ones (pos 1 ∷ pos 1 ∷ pos 0 ∷ []) (pos 0) absent (Refused 11)
     ∷ closes (pos 2) ones (pos 1 ∷ pos 1 ∷ pos 0 ∷ []) (pos 0) absent (Refused 12)
     ∷ closes (pos 2) ones (pos 100 ∷ pos 100 ∷ pos 101 ∷ []) (pos 0) absent (Refused 12)
-    ∷ closes (pos 2) ones hundreds (pos 0) absent (Refused 13)
-    ∷ closes (pos 2) ones hundreds (negℤ (pos 2)) (wh 1) (Refused 13)
+    ∷ closes (pos 14) ones hundreds (pos 0) absent (Refused 13)
+    ∷ closes (pos 14) ones hundreds (negℤ (pos 14)) (wh 1) (Refused 13)
     -- not on the card: absent before 14; 14, 12 and the figure; each beside weighted consumption and range
-    ∷ closes (pos 8) ones hundreds (negℤ (pos 8)) absent (Closed (together 1 1 Absent))
-    ∷ closes (pos 8) ones hundreds (negℤ (pos 8)) (wh 1) (Closed (together 1 1 (figure.Refused 14)))
-    ∷ closes (pos 8) ones hundreds (negℤ (pos 7)) (wh 2) (Closed (together 1 1 (figure.Refused 12)))
-    ∷ closes (pos 8) ones hundreds (negℤ (pos 7)) (wh 1) (Closed (together 1 1 (Is 8_000_000)))
-    -- not on the card: a share counts when it is closed, and the limit is reached when all are
-    ∷ shuts 0 40 40 40 40 limit
-    ∷ shuts 0 40 39 39 39 none
-    ∷ shuts 1 40 0 0 0 none
-    ∷ shuts 1 40 40 40 39 none
-    ∷ shuts 1 40 41 40 40 limit
-    ∷ shuts 1 40 30 20 20 stop
-    -- not on the card: a phase is of its cycle, and finished when its last position is counted
-    ∷ gathers 0 0 50 20 true
-    ∷ gathers 0 1 39 19 false
-    ∷ gathers 1 0 59 19 false
-    ∷ gathers 1 0 60 20 true
+    ∷ closes (pos 15) ones hundreds (negℤ (pos 15)) absent (Closed (together 1 1 Absent))
+    ∷ closes (pos 15) ones hundreds (negℤ (pos 15)) (wh 1) (Closed (together 1 1 (figure.Refused 14)))
+    ∷ closes (pos 15) ones hundreds (negℤ (pos 14)) (wh 1) (Closed (together 1 1 (figure.Refused 12)))
+    ∷ closes (pos 15) ones hundreds (negℤ (pos 13)) (wh 1) (Closed (together 1 1 (Is 7_500_000)))
+    -- not on the card: an interval counts when it is closed, and the limit is reached when all are
+    ∷ shuts 40 0 0 0 none
+    ∷ shuts 40 1 1 0 none
+    ∷ shuts 40 40 40 39 none
+    ∷ shuts 40 41 40 40 limit
+    ∷ shuts 40 50 40 40 limit
+    ∷ shuts 40 30 20 20 stop
+    ∷ shuts 40 40 39 39 stop
+    -- not on the card: an interval is of its earlier sample's phase and cycle, also at the joint of two phases and of two cycles;
+    -- a phase is finished when its last position's interval is closed
+    ∷ gathers 0 0 19 361 false
+    ∷ gathers 0 0 20 400 true
+    ∷ gathers 0 1 20 0 false
+    ∷ gathers 0 1 21 41 false
+    ∷ gathers 0 0 50 400 true
+    ∷ gathers 0 1 39 1121 false
+    ∷ gathers 0 1 40 1200 true
+    ∷ gathers 1 0 40 0 false
+    ∷ gathers 1 0 41 81 false
+    ∷ gathers 1 0 59 1881 false
+    ∷ gathers 1 0 60 2000 true
     ∷ gathers 1 2 80 0 false
     -- not on the card: the bench controller's answers, each refusal with the next one's fault there too
     ∷ asks [] 101 0 40 1501 (negℤ (pos 2))
@@ -145,12 +175,12 @@ card =
     ∷ asks (flat 100) 30 0 39 131 (pos 2)
     ∷ []
 
--- a course of such limits, and the layout of a cycle with two phases
-limited : ℕ → ℕ → Course
-limited ahead most =
+-- a course of which so many samples can count, and the layout of a cycle with two phases
+limited : ℕ → Course
+limited most =
     let l = regularLayout [] in
     course (record { row = l .row; phase = l .phase; begin = l .begin; rowEnd = l .rowEnd; phaseEnd = l .phaseEnd; rows = l .rows; most = most })
-    (regularRule [] (record { speed = 0; time = 0; allowance = 0 })) (record { ahead = ahead; energy = own .energy; distance = own .distance })
+    (regularRule [] (record { speed = 0; time = 0; allowance = 0 })) interval
 
 twoPhases : Layout
 twoPhases = regularLayout (2 ∷ 0 ∷ 1 ∷ 0 ∷ 2 ∷ 0 ∷ 0 ∷ 0 ∷ 0 ∷ 0 ∷ 0 ∷ [])
@@ -169,23 +199,27 @@ numbersOf (Closed x) = 1 ∷ x .weighted ∷ x .range ∷ figureNumbers (x .rech
 numbersOf (Refused n) = 2 ∷ n ∷ []
 
 unfoldable pub holds : Row → Bool
-unfolding bytes tolerances fastFrom limited twoPhases same figureNumbers numbersOf
+unfolding bytes tolerances moment fastFrom limited twoPhases same figureNumbers numbersOf
 holds (band q j w s in-speeds out-speeds) =
     let y = bytes q in
     let test = inside y (tolerances s w 0) (positionOf y j) in
     valid y && every test in-speeds && every (λ v. not (test v)) out-speeds
-holds (drive j s a e m c os) =
+holds (drive j n s a e m k c os) =
     let y = regular (bytes (record { a = 100; b = 100; c = 100 })) (tolerances s 20 a) in
     let x = fastFrom j in
-    let o : ℕ → Bool = λ k. eqb (outside y x k (judged y x 120)) (getD os k 0) in
-    eqb (counted y x 120) m && sameEnd (endingWhere y 120 m) e && eqb (cycles (y .layout) (closedWhere y 120 m)) c && o 0 && o 1 && o 2
+    let o : ℕ → Bool = λ r. eqb (outside y x r (judged y x n)) (getD os r 0) in
+    eqb (counted y x n) m && eqb (closedWhere y n m) k && sameEnd (endingWhere y n m) e && eqb (cycles (y .layout) k) c && o 0 && o 1 && o 2
 holds (draws u i z) = eqZ (drawn (record { speed = 0; voltage = u; current = i })) z
+holds (joins x y e d) =
+    let s : ℕ → Moment = λ j. cond (eqb j 0) x y in
+    eqZ (interval .energy s 0) e && eqb (interval .distance s 0) d
 holds (weighs E e₁ e₂ n qs W) = eqb (weighted E n (λ c. getD (e₁ ∷ e₂ ∷ []) c 0) (λ c. getD qs c 0)) W
 holds (closes E es ds F charge x) =
     let answer = closingBy E (length es) (λ c. getD es c (pos 0)) (λ c. getD ds c (pos 0)) F charge in
     sameBytes 5 (numbersOf answer) (numbersOf x)
-holds (shuts ahead most n m k e) = let c = limited ahead most in eqb (closedWhere c n m) k && sameEnd (endingWhere c n m) e
+holds (shuts most n m k e) = let c = limited most in eqb (closedWhere c n m) k && sameEnd (endingWhere c n m) e
 holds (gathers c k m e done) =
     let p = phasePart twoPhases c k in
-    eqZ (partEnergy own (λ j. record { speed = 0; energy = pos 1 }) p m) (pos e) && same (finished p m) done
+    let s : ℕ → Moment = λ j. moment (10 * j) (pos j) in
+    eqZ (partEnergy interval s p m) (pos e) && eqb (partDistance interval s p m) (10 * e) && same (finished p m) done
 holds (asks y s w p v z) = eqZ (question y (tolerances s w 0) p v) z

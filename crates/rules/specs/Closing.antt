@@ -19,21 +19,26 @@ pub use Rattle.rules.specs.declared.Closing.{Closing}
 pub use Rattle.rules.specs.declared.ClosingAnswer.{ClosingAnswer}
 pub use Rattle.rules.specs.declared.ClosingAnswer.the-variants.{Closed, Refused}
 
--- "within 10^13 either way"; "recharge in Wh (4), 1..2,000,000"
-abbrev pub mostTransfer : ℕ
-mostTransfer = 10_000_000_000_000
+-- field 6: "within 10^13 either way", in units of 0.5 mJ
+abbrev pub mostTransferIn : ℕ
+mostTransferIn = 10_000_000_000_000
 
+abbrev pub isTransferIn : ℤ → Bool
+isTransferIn = between (negℤ (pos mostTransferIn)) (pos mostTransferIn)
+
+-- document 02, L2: "Transfer energies in field 6 keep their old unit and are doubled on reading": in the run's unit
+abbrev pub doubled : ℤ → ℤ
+doubled e = e +ℤ e
+
+-- "recharge in Wh (4), 1..2,000,000"
 abbrev pub mostCharge : ℕ
 mostCharge = 2_000_000
-
-abbrev pub isTransfer : ℤ → Bool
-isTransfer = between (negℤ (pos mostTransfer)) (pos mostTransfer)
 
 abbrev pub isCharge : Charge → Bool
 isCharge absent = true
 isCharge (wh A) = leb 1 A && leb A mostCharge
 
--- "E is transfer energy before the test plus the energy of all counted samples"
+-- "E is transfer energy before the test plus the energy of" all closed intervals
 abbrev pub wholeEnergy : ℤ → Course → (ℕ → Moment) → ℕ → ℤ
 wholeEnergy before c s n = before +ℤ energy (c .share) s (closed c s n)
 
@@ -53,9 +58,9 @@ weight E n = E * (n - 2)
 abbrev pub weighted : ℕ → ℕ → (ℕ → ℕ) → (ℕ → ℕ) → ℕ
 weighted E n e q = weighing E n e q / weight E n
 
--- "Range = floor(5E / (36W)) metres"
+-- document 02, L2: "Range becomes floor(5E / (72W))" metres
 abbrev pub range : ℕ → ℕ → ℕ
-range E W = 5 * E / (36 * W)
+range E W = 5 * E / (72 * W)
 
 -- "Recharge figure, A in Wh, F the transfer energy after the test: floor(E × A × 1,000,000 / ((E+F) × range))": EF is E + F
 abbrev pub recharge : ℕ → ℕ → ℕ → ℕ → ℕ

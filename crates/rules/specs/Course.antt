@@ -54,11 +54,13 @@ course l r h = record { layout = l; rule = r; share = h }
 
 -- of n samples offered, where m are counted
 module _ (c : Course) (n m : ℕ) where
-  -- how many shares are closed: those of counted samples, so far as the samples that close them are offered
+  -- how many shares are closed: those of counted samples, so far as the samples that close them are offered.
+  -- Document 02, L2: "An interval still open adds nothing."
   abbrev pub closedWhere : ℕ
   closedWhere = min (n - c .share .ahead) m
 
-  -- "The run also ends, by limit, when" as many shares as can be are closed
+  -- "The run also ends, by limit, when" as many shares as can be are closed; document 02, L2: "the limit reached, only once the sample after
+  -- its last position is taken"
   abbrev pub endingWhere : End
   endingWhere = cond (ltb m (tally.room (c .layout .most) n)) stop (cond (ltb closedWhere (c .layout .most)) none limit)
 

@@ -41,7 +41,7 @@ module _ (p : Plan) (xs : List Moment) where
   closingIn a = closingBy (wholeEnergy (a .before) (courseOf p) (momentIn xs) (length xs)) cyclesIn energies distances (a .after) (a .charge)
 
 -- "`run` vehicle number; `end` none, stop or limit with the number of counted samples; `cycles` n; `outside` ..; `passed` blocks passed over;
--- `drawn` energy of counted samples; `weighted`; `range`; `ac` figure or `-`"
+-- `drawn` energy of" the closed intervals "; `weighted`; `range`; `ac` figure or `-`"
 abbrev pub figuresBy : List ℕ → ℕ → Amounts → Plan → List Moment → Figures
 figuresBy vehicle passed a p xs =
     let s = momentIn xs in

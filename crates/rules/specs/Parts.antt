@@ -20,7 +20,8 @@ rowPart l c = record { of = λ j. eqb (l .row j) c; behind = l .rowEnd c }
 abbrev pub phasePart : Layout → ℕ → ℕ → Part
 phasePart l c k = record { of = λ j. eqb (l .row j) c && eqb (l .phase j) k; behind = l .phaseEnd c k }
 
--- "A phase or cycle is finished when its last position is counted without a stop.": where m shares are closed
+-- document 02, L2: "A phase or cycle is finished .. only once the sample after its last position is taken": where m shares are closed, the share
+-- of its last position among them
 abbrev pub finished : Part → ℕ → Bool
 finished p = reached (p .behind)
 

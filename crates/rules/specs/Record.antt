@@ -9,7 +9,7 @@ use lib.ListN.{length, replicate}
 use Rattle.rules.specs.Words.{unless}
 use Rattle.rules.specs.Bench.{Moment, Tolerances, mostPassed}
 use Rattle.rules.specs.Cycle.{valid, startOr}
-use Rattle.rules.specs.Closing.{Amounts, absent, wh, isTransfer, isCharge}
+use Rattle.rules.specs.Closing.{Amounts, absent, wh, isTransferIn, doubled, isCharge}
 use Rattle.rules.specs.Table.{Row, Matter, mark, number, cycle, tolerances, block, energyBefore, energyAfter, recharge, among, byRow, placeAfter}
 use Rattle.rules.specs.Table.{atFirst, behindTolerances, tags}
 use Rattle.rules.specs.Front.{Field}
@@ -58,15 +58,16 @@ blockContent over me offered v =
     (cond (sameNumber me v) (blockOr wrong offered (firstIn v) (samplesOf v) (brought (ownSamples (momentsIn (samplesOf v)))))
     (unless (wrong 7) (leb (over + 1) mostPassed) foreign))
 
--- what the value v brings. "For starting a run, as field 4 does: .. 2, 3": the cycle is tested again; "transfer or recharge amount outside its limits" is 14
+-- what the value v brings. "For starting a run, as field 4 does: .. 2, 3": the cycle is tested again; "transfer or recharge amount outside its limits" is 14,
+-- of the transfer energy as the field has it
 abbrev pub contentOf : ℕ → List ℕ → List ℕ → ℕ → Matter → List ℕ → Content
 contentOf over me course offered mark v = brought nothing
 contentOf over me course offered number v = unless (wrong 4) (isNumber v) (brought (aNumber v))
 contentOf over me course offered cycle v = unless (wrong 2) (valid v) (brought (aCycle v))
 contentOf over me course offered tolerances v = startOr wrong course (tolerancesIn v) (brought (theTolerances (tolerancesIn v)))
 contentOf over me course offered block v = blockContent over me offered v
-contentOf over me course offered energyBefore v = unless (wrong 14) (isTransfer (transferIn v)) (brought (before (transferIn v)))
-contentOf over me course offered energyAfter v = unless (wrong 14) (isTransfer (transferIn v)) (brought (after (transferIn v)))
+contentOf over me course offered energyBefore v = unless (wrong 14) (isTransferIn (transferIn v)) (brought (before (doubled (transferIn v))))
+contentOf over me course offered energyAfter v = unless (wrong 14) (isTransferIn (transferIn v)) (brought (after (doubled (transferIn v))))
 contentOf over me course offered recharge v = unless (wrong 14) (isCharge (wh (rechargeIn v))) (brought (charged (rechargeIn v)))
 
 -- "Order for a field: 8, 9, then its content": at a place in the order, by what the row holds; no row is "wrong mark, tag 6 kind above 1"

@@ -7,6 +7,8 @@ use lib.Dec.{eqb}
 use lib.ListN.{length, take, replicate}
 use Rattle.rules.specs.declared.Charge.{Charge}
 use Rattle.rules.specs.declared.Charge.the-variants.{Absent as absent, Wh as wh}
+use Rattle.rules.specs.declared.Amounts.{Amounts}
+use Rattle.rules.specs.Words.{up}
 use Rattle.rules.specs.Table.{RUN1, behindTolerances}
 use Rattle.rules.specs.Values.{blockOr}
 use Rattle.rules.specs.Record.{Told, Sheet, told, refusedAt, untold, sheetFrom, sheetOf}
@@ -51,12 +53,15 @@ fast = 5 ∷ 221 ∷ 23 ∷ 112 ∷ 255 ∷ 136 ∷ []
 abbrev pub block : List ℕ → ℕ → List ℕ → List ℕ
 block vehicle first q = put 5 (vehicle ++ ((0 ∷ 0 ∷ 0 ∷ first ∷ []) ++ q))
 
--- a field 6 of the kind, with an energy below 256, and with 2^56
+-- a field 6 of the kind, with an energy below 256, with 10^13, and with 10^13 + 1
 abbrev pub energy : ℕ → ℕ → List ℕ
 energy kind e = put 6 (kind ∷ 0 ∷ 0 ∷ 0 ∷ 0 ∷ 0 ∷ 0 ∷ 0 ∷ e ∷ [])
 
-abbrev pub far : List ℕ
-far = put 6 (0 ∷ 1 ∷ 0 ∷ 0 ∷ 0 ∷ 0 ∷ 0 ∷ 0 ∷ 0 ∷ [])
+abbrev pub full : ℕ → List ℕ
+full kind = put 6 (kind ∷ 0 ∷ 0 ∷ 9 ∷ 24 ∷ 78 ∷ 114 ∷ 160 ∷ 0 ∷ [])
+
+abbrev pub far : ℕ → List ℕ
+far kind = put 6 (kind ∷ 0 ∷ 0 ∷ 9 ∷ 24 ∷ 78 ∷ 114 ∷ 160 ∷ 1 ∷ [])
 
 abbrev pub charge : ℕ → List ℕ
 charge w = put 7 (0 ∷ 0 ∷ 0 ∷ w ∷ [])
@@ -67,9 +72,13 @@ abbrev pub chargeOf : Charge → ℕ
 chargeOf absent = 0
 chargeOf (wh w) = w
 
--- told: place, passed over, samples, recharge, cycle's bytes; refused: number, field
+-- transfer energies before and after, recharge
+abbrev pub amountsOf : Amounts → List ℕ
+amountsOf a = up (a .before) ∷ up (a .after) ∷ chargeOf (a .charge) ∷ []
+
+-- told: place, passed over, samples, cycle's bytes, amounts; refused: number, field
 abbrev pub shown : Sheet → List ℕ
-shown (told s) = s .place ∷ s .passed ∷ length (s .holding .samples) ∷ chargeOf (s .holding .amounts .charge) ∷ length (s .holding .cycle) ∷ []
+shown (told s) = s .place ∷ s .passed ∷ length (s .holding .samples) ∷ length (s .holding .cycle) ∷ amountsOf (s .holding .amounts)
 shown (refusedAt number field) = number ∷ field ∷ []
 
 abbrev pub same : List ℕ → List ℕ → Bool
@@ -113,7 +122,7 @@ records =
     ∷ line (mark ++ mark) (9 ∷ 2 ∷ [])
     ∷ line (three ++ block other 0 sample) (9 ∷ 4 ∷ [])
     ∷ line (four ++ mark) (9 ∷ 5 ∷ [])
-    ∷ line (four ++ (block me 0 sample ++ far)) (9 ∷ 6 ∷ [])
+    ∷ line (four ++ (block me 0 sample ++ far 0)) (9 ∷ 6 ∷ [])
     ∷ line (four ++ (energy 0 1 ++ energy 0 1)) (9 ∷ 6 ∷ [])
     ∷ line (four ++ (energy 1 1 ++ block other 0 sample)) (9 ∷ 6 ∷ [])
     ∷ line (four ++ (energy 1 1 ++ energy 1 1)) (9 ∷ 6 ∷ [])
@@ -125,25 +134,28 @@ records =
     ∷ line (four ++ block forbidden 1 fast) (4 ∷ 5 ∷ [])
     ∷ line (four ++ block me 1 fast) (6 ∷ 5 ∷ [])
     ∷ line (four ++ block me 0 fast) (5 ∷ 5 ∷ [])
-    ∷ line (four ++ far) (14 ∷ 5 ∷ [])
+    ∷ line (four ++ far 0) (14 ∷ 5 ∷ [])
+    ∷ line (four ++ far 1) (14 ∷ 5 ∷ [])
     ∷ line (four ++ charge 0) (14 ∷ 5 ∷ [])
-    ∷ line (four ++ block other 1 fast) (4 ∷ 1 ∷ 0 ∷ 0 ∷ 9 ∷ [])
+    ∷ line (four ++ block other 1 fast) (4 ∷ 1 ∷ 0 ∷ 9 ∷ 0 ∷ 0 ∷ 0 ∷ [])
     -- told: nothing but the start; document 01's example, shortened; blocks cut otherwise; all fields, with foreign blocks between
-    ∷ line four (4 ∷ 0 ∷ 0 ∷ 0 ∷ 9 ∷ [])
-    ∷ line (four ++ (block me 0 (sample ++ sample) ++ charge 15)) (8 ∷ 0 ∷ 2 ∷ 15 ∷ 9 ∷ [])
-    ∷ line (four ++ (block me 0 sample ++ (block me 1 sample ++ charge 15))) (8 ∷ 0 ∷ 2 ∷ 15 ∷ 9 ∷ [])
+    ∷ line four (4 ∷ 0 ∷ 0 ∷ 9 ∷ 0 ∷ 0 ∷ 0 ∷ [])
+    ∷ line (four ++ (block me 0 (sample ++ sample) ++ charge 15)) (8 ∷ 0 ∷ 2 ∷ 9 ∷ 0 ∷ 0 ∷ 15 ∷ [])
+    ∷ line (four ++ (block me 0 sample ++ (block me 1 sample ++ charge 15))) (8 ∷ 0 ∷ 2 ∷ 9 ∷ 0 ∷ 0 ∷ 15 ∷ [])
     ∷ line
-    (four ++ (block other 0 sample ++ (energy 0 1 ++ (block other 0 sample ++ (block me 0 sample ++ (block other 0 sample ++ (energy 1 1 ++ charge 200)))))))
-    (8 ∷ 3 ∷ 1 ∷ 200 ∷ 9 ∷ [])
+    (four ++ (block other 0 sample ++ (energy 0 1 ++ (block other 0 sample ++ (block me 0 sample ++ (block other 0 sample ++ (energy 1 3 ++ charge 200)))))))
+    (8 ∷ 3 ∷ 1 ∷ 9 ∷ 2 ∷ 6 ∷ 200 ∷ [])
+    -- told: transfer energies are doubled, also at their limit
+    ∷ line (four ++ (full 0 ++ full 1)) (7 ∷ 0 ∷ 0 ∷ 9 ∷ 20_000_000_000_000 ∷ 20_000_000_000_000 ∷ 0 ∷ [])
     ∷ []
 
 -- 7: 4,000,000 blocks are passed over
-abbrev pub full : Told
-full = record { place = behindTolerances; passed = 4_000_000; holding = untold .holding }
+abbrev pub crammed : Told
+crammed = record { place = behindTolerances; passed = 4_000_000; holding = untold .holding }
 
 -- "6, 7, 5", behind 4,000,000 samples: another first number, and the right one
 abbrev pub crowded : List ℕ
 crowded = blockOr (λ n. n) 4_000_000 0 fast 0 ∷ blockOr (λ n. n) 4_000_000 4_000_000 fast 0 ∷ []
 
 unfoldable pub fullHolds : Bool
-fullHolds = same (shown (sheetFrom 4 full (block other 1 fast))) (7 ∷ 5 ∷ []) && same crowded (6 ∷ 7 ∷ [])
+fullHolds = same (shown (sheetFrom 4 crammed (block other 1 fast))) (7 ∷ 5 ∷ []) && same crowded (6 ∷ 7 ∷ [])

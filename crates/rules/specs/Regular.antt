@@ -4,16 +4,21 @@ use mathlib.Core.Bool.{false, not, cond}
 use mathlib.Core.List.{List}
 use Prim.Native.Nat.{ℕ, suc, _+_, _*_, _/_, _%_}
 use lib.Dec.{ltb}
-use lib.IntN.{pos}
+use lib.IntN.{_+ℤ_}
 use lib.ListN.{getD}
-use Rattle.rules.specs.Bench.{Moment, Tolerances, mostCycles}
+use Rattle.rules.specs.Bench.{Moment, Tolerances, noMoment, mostCycles}
 use Rattle.rules.specs.Cycle.{phases, phaseEnd, positions, phaseAt}
 use Rattle.rules.specs.Band.{inside}
 use Rattle.rules.specs.Course.{never, after, Layout, Rule, Share, Course, course}
 
--- a sample's own energy and distance: "Distance of a sample is its speed"
-abbrev pub own : Share
-own = record { ahead = 0; energy = λ s j. s j .energy; distance = λ s j. s j .speed }
+-- document 02, L2: "Energy and distance of an interval are from now on the sums of both ends' products and speeds, in units of 0.25 mJ and 1/1440 m.
+-- A sample's interval is closed by the next accepted sample and belongs to the earlier one's phase"
+abbrev pub interval : Share
+interval = record {
+  ahead = 1;
+  energy = λ s j. s j .energy +ℤ s (suc j) .energy;
+  distance = λ s j. s j .speed + s (suc j) .speed;
+}
 
 -- where sample j stands: position j mod N of cycle j div N
 module _ (b : List ℕ) where
@@ -44,7 +49,7 @@ abbrev pub regularRule : List ℕ → Tolerances → Rule
 regularRule b t = record { outside = λ j v. not (inside b t (positionOf b j) v); allowance = t .allowance; halts = λ v j. false }
 
 abbrev pub regular : List ℕ → Tolerances → Course
-regular b t = course (regularLayout b) (regularRule b t) own
+regular b t = course (regularLayout b) (regularRule b t) interval
 
 -- what is settled before the first sample: the cycle's bytes and the tolerances
 pub record Plan : Type 0 where
@@ -58,6 +63,6 @@ plan b t = record { cycle = b; tolerances = t }
 abbrev pub courseOf : Plan → Course
 courseOf p = regular (p .cycle) (p .tolerances)
 
--- sample j of a list; past its end, a sample of nothing
+-- sample j of a list; past its end, nothing of one
 abbrev pub momentIn : List Moment → ℕ → Moment
-momentIn xs j = getD xs j (record { speed = 0; energy = pos 0 })
+momentIn xs j = getD xs j noMoment

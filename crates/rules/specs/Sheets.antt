@@ -1,4 +1,4 @@
--- Sheets and a refusal written out, as one table with one claim. The first sheet is document 01's example.
+-- Sheets and a refusal written out, as one table with one claim. The first sheet is document 01's example with one sample more, the third that example.
 -- Assumes nothing.
 use mathlib.Core.Bool.{Bool, true, false, _&&_}
 use mathlib.Core.List.{List, [], _∷_, _++_}
@@ -45,18 +45,18 @@ runLine =
 unfoldable pub rows : List Row
 unfolding figures
 rows =
-    sheet (figures none 120 3 0 0 (pos 86_400_000) (Closed (together 720_000 16 (Is 937_500)))) (
+    sheet (figures none 121 3 0 0 (pos 172_800_000) (Closed (together 720_000 16 (Is 937_500)))) (
     runLine
-    -- end none 120
-    ∷ (101 ∷ 110 ∷ 100 ∷ 32 ∷ 110 ∷ 111 ∷ 110 ∷ 101 ∷ 32 ∷ 49 ∷ 50 ∷ 48 ∷ 10 ∷ [])
+    -- end none 121
+    ∷ (101 ∷ 110 ∷ 100 ∷ 32 ∷ 110 ∷ 111 ∷ 110 ∷ 101 ∷ 32 ∷ 49 ∷ 50 ∷ 49 ∷ 10 ∷ [])
     -- cycles 3
     ∷ (99 ∷ 121 ∷ 99 ∷ 108 ∷ 101 ∷ 115 ∷ 32 ∷ 51 ∷ 10 ∷ [])
     -- outside 0
     ∷ (111 ∷ 117 ∷ 116 ∷ 115 ∷ 105 ∷ 100 ∷ 101 ∷ 32 ∷ 48 ∷ 10 ∷ [])
     -- passed 0
     ∷ (112 ∷ 97 ∷ 115 ∷ 115 ∷ 101 ∷ 100 ∷ 32 ∷ 48 ∷ 10 ∷ [])
-    -- drawn 86400000
-    ∷ (100 ∷ 114 ∷ 97 ∷ 119 ∷ 110 ∷ 32 ∷ 56 ∷ 54 ∷ 52 ∷ 48 ∷ 48 ∷ 48 ∷ 48 ∷ 48 ∷ 10 ∷ [])
+    -- drawn 172800000
+    ∷ (100 ∷ 114 ∷ 97 ∷ 119 ∷ 110 ∷ 32 ∷ 49 ∷ 55 ∷ 50 ∷ 56 ∷ 48 ∷ 48 ∷ 48 ∷ 48 ∷ 48 ∷ 10 ∷ [])
     -- weighted 720000
     ∷ (119 ∷ 101 ∷ 105 ∷ 103 ∷ 104 ∷ 116 ∷ 101 ∷ 100 ∷ 32 ∷ 55 ∷ 50 ∷ 48 ∷ 48 ∷ 48 ∷ 48 ∷ 10 ∷ [])
     -- range 16
@@ -83,22 +83,22 @@ rows =
     -- ac -
     ∷ (97 ∷ 99 ∷ 32 ∷ 45 ∷ 10 ∷ [])
     ∷ [])
-    ∷ sheet (figures none 80 2 0 10 (pos 1) (Refused 10)) (
+    ∷ sheet (figures none 120 2 0 0 (pos 171_360_000) (Refused 10)) (
     runLine
-    -- end none 80
-    ∷ (101 ∷ 110 ∷ 100 ∷ 32 ∷ 110 ∷ 111 ∷ 110 ∷ 101 ∷ 32 ∷ 56 ∷ 48 ∷ 10 ∷ [])
+    -- end none 120
+    ∷ (101 ∷ 110 ∷ 100 ∷ 32 ∷ 110 ∷ 111 ∷ 110 ∷ 101 ∷ 32 ∷ 49 ∷ 50 ∷ 48 ∷ 10 ∷ [])
     -- cycles 2
     ∷ (99 ∷ 121 ∷ 99 ∷ 108 ∷ 101 ∷ 115 ∷ 32 ∷ 50 ∷ 10 ∷ [])
     -- outside 0
     ∷ (111 ∷ 117 ∷ 116 ∷ 115 ∷ 105 ∷ 100 ∷ 101 ∷ 32 ∷ 48 ∷ 10 ∷ [])
-    -- passed 10
-    ∷ (112 ∷ 97 ∷ 115 ∷ 115 ∷ 101 ∷ 100 ∷ 32 ∷ 49 ∷ 48 ∷ 10 ∷ [])
-    -- drawn 1
-    ∷ (100 ∷ 114 ∷ 97 ∷ 119 ∷ 110 ∷ 32 ∷ 49 ∷ 10 ∷ [])
+    -- passed 0
+    ∷ (112 ∷ 97 ∷ 115 ∷ 115 ∷ 101 ∷ 100 ∷ 32 ∷ 48 ∷ 10 ∷ [])
+    -- drawn 171360000
+    ∷ (100 ∷ 114 ∷ 97 ∷ 119 ∷ 110 ∷ 32 ∷ 49 ∷ 55 ∷ 49 ∷ 51 ∷ 54 ∷ 48 ∷ 48 ∷ 48 ∷ 48 ∷ 10 ∷ [])
     -- refused 10
     ∷ (114 ∷ 101 ∷ 102 ∷ 117 ∷ 115 ∷ 101 ∷ 100 ∷ 32 ∷ 49 ∷ 48 ∷ 10 ∷ [])
     ∷ [])
-    ∷ sheet (figures limit 2_560 64 9 0 (pos 99) (Closed (together 5 6 (figure.Refused 14)))) (
+    ∷ sheet (figures limit 2_560 64 9 10 (pos 99) (Closed (together 5 6 (figure.Refused 14)))) (
     runLine
     -- end limit 2560
     ∷ (101 ∷ 110 ∷ 100 ∷ 32 ∷ 108 ∷ 105 ∷ 109 ∷ 105 ∷ 116 ∷ 32 ∷ 50 ∷ 53 ∷ 54 ∷ 48 ∷ 10 ∷ [])
@@ -106,8 +106,8 @@ rows =
     ∷ (99 ∷ 121 ∷ 99 ∷ 108 ∷ 101 ∷ 115 ∷ 32 ∷ 54 ∷ 52 ∷ 10 ∷ [])
     -- outside 9
     ∷ (111 ∷ 117 ∷ 116 ∷ 115 ∷ 105 ∷ 100 ∷ 101 ∷ 32 ∷ 57 ∷ 10 ∷ [])
-    -- passed 0
-    ∷ (112 ∷ 97 ∷ 115 ∷ 115 ∷ 101 ∷ 100 ∷ 32 ∷ 48 ∷ 10 ∷ [])
+    -- passed 10
+    ∷ (112 ∷ 97 ∷ 115 ∷ 115 ∷ 101 ∷ 100 ∷ 32 ∷ 49 ∷ 48 ∷ 10 ∷ [])
     -- drawn 99
     ∷ (100 ∷ 114 ∷ 97 ∷ 119 ∷ 110 ∷ 32 ∷ 57 ∷ 57 ∷ 10 ∷ [])
     -- weighted 5

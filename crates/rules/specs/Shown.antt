@@ -21,7 +21,8 @@ mapWords = mostPositions / 64
 abbrev pub ofNine : {A : Type 0} → ℕ → (ℕ → A) → (ℕ → A) → A → A
 ofNine a energy distance outside = cond (ltb a 4) (energy a) (cond (ltb a 8) (distance (a - 4)) outside)
 
--- "out of bounds (energy beyond 7.2 × 10^12 either way, distance outside 0..72,000,000, outside count outside 0..48,000)": the most that a whole cycle brings
+-- "out of bounds (energy beyond .. either way, distance outside .., outside count outside 0..48,000)": the most that a whole cycle brings;
+-- document 02, L2: "the ledger's bounds for energy and distance double", to 14.4 × 10^12 and 144,000,000
 abbrev pub mostEnergy : ℕ
 mostEnergy = mostShareEnergy * mostPositions
 

@@ -20,7 +20,7 @@ room most n = min n most
 
 -- `ends j` says whether sample j stops the run, as one that brings its count above the allowance does
 module _ (ends : ℕ → Bool) (most n : ℕ) where
-  -- "The run stops at the first sample" that does so; its "energy and distance are not counted"
+  -- "The run stops at the first sample" that does so, which begins no interval; document 02, L2: it "closes the last interval"
   abbrev pub counted : ℕ
   counted = first ends (room most n)
 

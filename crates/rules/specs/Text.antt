@@ -82,7 +82,7 @@ passedWord = 112 ∷ 97 ∷ 115 ∷ 115 ∷ 101 ∷ 100 ∷ []
 abbrev pub drawnWord : List ℕ
 drawnWord = 100 ∷ 114 ∷ 97 ∷ 119 ∷ 110 ∷ []
 
--- "`outside` total over all cycles, open one included; `passed` blocks passed over; `drawn` energy of counted samples"
+-- "`outside` total over all cycles, open one included; `passed` blocks passed over; `drawn` energy of" the closed intervals
 unfoldable pub countLines : Figures → List ℕ
 countLines f = line outsideWord (signed (f .outside)) ++ line passedWord (digits (f .passed)) ++ line drawnWord (signed (f .drawn))
 

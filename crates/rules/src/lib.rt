@@ -8,9 +8,9 @@ pub struct Sample {
     pub current: i16,
 }
 
-// What a run takes of a sample: its speed, and the energy that it draws, in units of 0.5 mJ.
+// What a run takes of a sample: its speed, and the product that it draws.
 pub struct Moment {
-    pub speed: u16,
+    pub speed: u64,
     pub energy: i64,
 }
 
@@ -34,7 +34,7 @@ pub enum Charge {
     Wh(u32),
 }
 
-// Transfer energy before and after the test, in units of 0.5 mJ, and the recharge.
+// Transfer energy before and after the test, in units of 0.25 mJ, and the recharge.
 pub struct Amounts {
     pub before: i64,
     pub after: i64,

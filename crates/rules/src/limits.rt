@@ -37,17 +37,21 @@ pub const MOST_TIME_TOLERANCE: u32 = 40;
 
 pub const MOST_ALLOWANCE: u32 = 1200;
 
-// The most that one share of a run brings: energy either way, and distance.
-pub const MOST_SHARE_ENERGY: i64 = MOST_VOLTAGE as i64 * MOST_CURRENT;
+// The most that a sample draws, either way; and the most that one share of a run brings, two of each: energy either way, and distance.
+pub const MOST_DRAWN: i64 = MOST_VOLTAGE as i64 * MOST_CURRENT;
 
-pub const MOST_SHARE_DISTANCE: i64 = MOST_SPEED as i64;
+pub const LEAST_DRAWN: i64 = -MOST_DRAWN;
+
+pub const MOST_SHARE_ENERGY: i64 = 2 * MOST_DRAWN;
+
+pub const MOST_SHARE_DISTANCE: i64 = 2 * MOST_SPEED as i64;
 
 // "a ledger of at least 576 signed 64-bit numbers and a map of at least 750 unsigned 64-bit words".
 pub const LEDGER_NUMBERS: usize = 9 * MOST_CYCLES;
 
 pub const MAP_WORDS: usize = MOST_POSITIONS as usize / 64;
 
-// "out of bounds (energy beyond 7.2 × 10^12 either way, distance outside 0..72,000,000, outside count outside 0..48,000)": those of a whole cycle.
+// "out of bounds": energy beyond 14.4 × 10^12 either way, distance outside 0..144,000,000, outside count outside 0..48,000, those of a whole cycle.
 pub const MOST_ENERGY: i64 = MOST_SHARE_ENERGY * MOST_POSITIONS as i64;
 
 pub const LEAST_ENERGY: i64 = -MOST_ENERGY;
@@ -56,10 +60,16 @@ pub const MOST_DISTANCE: i64 = MOST_SHARE_DISTANCE * MOST_POSITIONS as i64;
 
 pub const MOST_OUTSIDE: i64 = MOST_POSITIONS as i64;
 
-// "within 10^13 either way"; "recharge in Wh (4), 1..2,000,000"; "some q_c outside 1..10,000,000, or recharge figure above 10,000,000".
-pub const MOST_TRANSFER: i64 = 10_000_000_000_000;
+// Field 6: "within 10^13 either way"; doubled on reading.
+pub const MOST_TRANSFER_IN: i64 = 10_000_000_000_000;
+
+pub const LEAST_TRANSFER_IN: i64 = -MOST_TRANSFER_IN;
+
+pub const MOST_TRANSFER: i64 = 2 * MOST_TRANSFER_IN;
 
 pub const LEAST_TRANSFER: i64 = -MOST_TRANSFER;
+
+// "recharge in Wh (4), 1..2,000,000"; "some q_c outside 1..10,000,000, or recharge figure above 10,000,000".
 
 pub const MOST_CHARGE: u32 = 2_000_000;
 

@@ -1,33 +1,35 @@
 -- What the tests before an operation say, as facts that `omega` reads; and the tests that pass, from such facts.
 -- Assumes nothing.
-use mathlib.Core.Bool.{Bool, true, false, false≢true}
+use mathlib.Core.Bool.{Bool, true, false, cond, false≢true}
 use mathlib.Core.List.{List}
 use mathlib.Core.Path.{_≡_, refl, sym, ap}
 use Prim.Native.Nat.{ℕ, _-_, _≤_, _<_}
 use native.Mathlib.Omega.{arith}
 use borrow.Author.Tests.{leb-true, ltb-true, eqb-true, le-leb, eq-eqb}
 use lib.Dec.{leb, ltb, eqb}
-use lib.IntN.{ℤ}
+use lib.IntN.{ℤ, pos}
 use lib.ListN.{length}
 use Rattle.rules.specs.Words.{unless}
 use Rattle.numbers.proofs.Tests.{not-refused, both, pass}
+use Rattle.numbers.proofs.Whole.{eqZ-true}
+use Rattle.rules.specs.declared.Moment.{Moment}
 use Rattle.rules.specs.declared.Tolerances.{Tolerances}
 use Rattle.rules.specs.declared.End.{End}
 use Rattle.rules.specs.declared.End.the-variants.{None as none, Stop as stop, Limit as limit}
-use Rattle.laws.specs.Beside.{isOpen}
+use Rattle.laws.specs.Beside.{isMoment, isOpen}
 use Rattle.rules.specs.Bench.{tolerable, mostSeconds, mostOffered}
 use Rattle.rules.specs.Cycle.{seconds, valid}
 use Rattle.laws.proofs.Band.{Tolerated, tolerated}
 use Rattle.rules.specs.Shown.{ledgerNumbers, mapWords}
 use Rattle.ledger.specs.Row.{bounded}
-use Rattle.state.specs.State.{Ends, Run, endsOf, sameEnds, mostOf, isProgress, areEnds, isRun, isLent, isStarts, ground}
+use Rattle.state.specs.State.{Ends, Run, endsOf, sameEnds, mostOf, isProgress, isNothing, isHeld, areEnds, isRun, isLent, isStarts, ground}
 use Rattle.state.specs.Refusals.{judgedBy, startRefusal}
 
 -- ---- what an end says of the samples offered and counted
 
-pub open-progress : (e : End) (most o c : ℕ) → isProgress e most o c ≡ true → isOpen e ≡ true → (c ≡ o) × (c < most)
+pub open-progress : (e : End) (most o c : ℕ) → isProgress e most o c ≡ true → isOpen e ≡ true → (c ≡ o) × (c ≤ most)
 unfolding isProgress
-open-progress none most o c h g = let (p, q) = both (eqb c o) (ltb c most) h in (eqb-true c o p, ltb-true c most q)
+open-progress none most o c h g = let (p, q) = both (eqb c o) (leb c most) h in (eqb-true c o p, leb-true c most q)
 open-progress stop most o c h g = absurd (false≢true g)
 open-progress limit most o c h g = absurd (false≢true g)
 
@@ -35,9 +37,9 @@ pub stop-progress : (most o c : ℕ) → isProgress stop most o c ≡ true → (
 unfolding isProgress
 stop-progress most o c h = let (p, q) = both (ltb c o) (ltb c most) h in (ltb-true c o p, ltb-true c most q)
 
-pub limit-progress : (most o c : ℕ) → isProgress limit most o c ≡ true → (c ≡ most) × (most ≤ o)
+pub limit-progress : (most o c : ℕ) → isProgress limit most o c ≡ true → (c ≡ most) × (most < o)
 unfolding isProgress
-limit-progress most o c h = let (p, q) = both (eqb c most) (leb most o) h in (eqb-true c most p, leb-true most o q)
+limit-progress most o c h = let (p, q) = both (eqb c most) (ltb most o) h in (eqb-true c most p, ltb-true most o q)
 
 pub progress-most : (e : End) (most o c : ℕ) → isProgress e most o c ≡ true → (c ≤ o) × (c ≤ most)
 progress-most none most o c h = let (p, q) = open-progress none most o c h refl in (omega arith, omega arith)
@@ -50,6 +52,24 @@ judged-most none most o c h g = omega (arith, progress-most none most o c h .1)
 judged-most stop most o c h g = omega (arith, stop-progress most o c h .1)
 judged-most limit most o c h g = omega (arith, progress-most limit most o c h .1)
 
+-- ---- what is held of the open interval
+
+nothing-moment : (x : Moment) → isNothing x ≡ true → isMoment x ≡ true
+unfolding isMoment
+nothing-moment x e =
+    let (v, z) = both (eqb (x .speed) 0) _ e in
+    rw (eqb-true (x .speed) 0 v, eqZ-true (x .energy) (pos 0) z)
+
+pub held-moment : (e : End) (c : ℕ) (x : Moment) → isHeld e c x ≡ true → isMoment x ≡ true
+unfolding isHeld
+held-moment none c x h = go (eqb c 0) h
+  where
+    go : (b : Bool) → cond b (isNothing x) (isMoment x) ≡ true → isMoment x ≡ true
+    go true t = nothing-moment x t
+    go false t = t
+held-moment stop c x h = nothing-moment x h
+held-moment limit c x h = nothing-moment x h
+
 -- ---- the state
 
 pub record Limits (r : Run) : Type 0 where
@@ -61,12 +81,14 @@ pub record Limits (r : Run) : Type 0 where
   pub fourth : r .track .ends .fourth ≤ mostSeconds
   pub tolerated : Tolerated (r .track .tolerances)
   pub offered : r .progress .offered ≤ mostOffered
+  pub held : isHeld (r .progress .end) (r .progress .counted) (r .progress .held) ≡ true
   pub progress : isProgress (r .progress .end) (mostOf r) (r .progress .offered) (r .progress .counted) ≡ true
 
 pub limits : (r : Run) → isRun r ≡ true → Limits r
 unfolding isRun areEnds
 limits r e =
-    let e₅ = both _ _ e in
+    let e₆ = both _ _ e in
+    let e₅ = both _ _ (e₆ .0) in
     let e₄ = both _ _ (e₅ .0) in
     let e₃ = both _ _ (e₄ .0) in
     let e₂ = both _ _ (e₃ .0) in
@@ -83,7 +105,8 @@ limits r e =
       fourth = leb-true _ _ (d₃ .1);
       tolerated = tolerated (r .track .tolerances) (e₃ .1);
       offered = leb-true _ _ (e₄ .1);
-      progress = e₅ .1;
+      held = e₅ .1;
+      progress = e₆ .1;
     }
 
 tolerable-by : (t : Tolerances) → Tolerated t → tolerable t ≡ true
@@ -102,6 +125,7 @@ run-by {r} h =
       le-leb _ _ (h .fourth),
       tolerable-by (r .track .tolerances) (h .tolerated),
       le-leb _ _ (h .offered),
+      h .held,
       h .progress,
     )
 

@@ -4,14 +4,16 @@ use mathlib.Core.Bool.{Bool, cond, _&&_}
 use mathlib.Core.List.{List}
 use Prim.Native.Nat.{ℕ, _*_}
 use lib.Dec.{leb, ltb, eqb}
-use lib.IntN.{ℤ}
+use lib.IntN.{ℤ, pos}
 use lib.ListN.{length}
-use Rattle.rules.specs.Words.{unless}
+use Rattle.rules.specs.Words.{unless, eqZ}
+use Rattle.rules.specs.declared.Moment.{Moment}
 use Rattle.rules.specs.declared.End.{End}
 use Rattle.rules.specs.declared.End.the-variants.{None as none, Stop as stop, Limit as limit}
 use Rattle.rules.specs.Bench.{tolerable, leastSeconds, mostSeconds, mostOffered, mostCycles}
 use Rattle.rules.specs.Cycle.{phases, phaseEnd, seconds, valid}
 use Rattle.rules.specs.Shown.{mapWords}
+use Rattle.laws.specs.Beside.{isMoment}
 use Rattle.ledger.specs.Row.{bounded}
 pub use Rattle.state.specs.declared.Ends.{Ends}
 pub use Rattle.state.specs.declared.Track.{Track}
@@ -50,9 +52,19 @@ mostOf r = mostCycles * (20 * r .track .seconds)
 
 -- what the three ends say of the samples offered and counted
 unfoldable pub isProgress : End → ℕ → ℕ → ℕ → Bool
-isProgress none most offered counted = eqb counted offered && ltb counted most
+isProgress none most offered counted = eqb counted offered && leb counted most
 isProgress stop most offered counted = ltb counted offered && ltb counted most
-isProgress limit most offered counted = eqb counted most && leb most offered
+isProgress limit most offered counted = eqb counted most && ltb most offered
+
+-- what is held where no interval is open: nothing of a sample
+abbrev pub isNothing : Moment → Bool
+isNothing x = eqb (x .speed) 0 && eqZ (x .energy) (pos 0)
+
+-- an interval is open while the run goes on, from its first sample on: the last counted sample's product and speed are held, and else nothing
+unfoldable pub isHeld : End → ℕ → Moment → Bool
+isHeld none counted x = cond (eqb counted 0) (isNothing x) (isMoment x)
+isHeld stop counted x = isNothing x
+isHeld limit counted x = isNothing x
 
 unfoldable pub areEnds : Ends → Bool
 areEnds e = leb (e .first) mostSeconds && leb (e .second) mostSeconds && leb (e .third) mostSeconds && leb (e .fourth) mostSeconds
@@ -65,6 +77,7 @@ isRun r =
     && areEnds (r .track .ends)
     && tolerable (r .track .tolerances)
     && leb (r .progress .offered) mostOffered
+    && isHeld (r .progress .end) (r .progress .counted) (r .progress .held)
     && isProgress (r .progress .end) (mostOf r) (r .progress .offered) (r .progress .counted)
 
 -- ledger and map are long enough, none of the 576 numbers is out of bounds, and none of the state's

@@ -6,10 +6,12 @@ use cycle::is_cycle;
 use cycle::seconds_of;
 use ledger::whole::is_bounded;
 use numbers::less;
+use numbers::smaller;
 use numbers::wide;
 use own::are_same;
 use own::is_run;
 use rules::End;
+use rules::Moment;
 use rules::Sample;
 use rules::Tolerances;
 use rules::limits::LEDGER_NUMBERS;
@@ -40,11 +42,13 @@ pub struct Track {
     pub tolerances: Tolerances,
 }
 
-// What a sample changes: how many were offered, how many count, and how the run ended.
+// What a sample changes: how many were offered, how many count, how the run ended, and what closes the open interval: the last counted sample's
+// product and speed, and 0 where no interval is open.
 pub struct Progress {
     pub offered: u32,
     pub counted: u32,
     pub end: End,
+    pub held: Moment,
 }
 
 // A started run. Cycle and position are not in it: they are counted div N and counted mod N.
@@ -149,12 +153,13 @@ pub fn sample_refusal(run: Run, cycle: &[u8], ledger: &[i64], map: &[u64], x: Sa
     0
 }
 
-// How many cycles are finished: as many as the shares closed make.
+// How many cycles are finished: as many as the intervals closed make.
 pub fn cycles_of(run: Run) -> u32
     requires { ⌜ isRun run ≡ true ⌝ }
     ensures { λ r. ⌜ (r ≡ cyclesBy run) × (r ≤ mostCycles) ⌝ }
 {
-    run.progress.counted / (20 * run.track.seconds)
+    let progress = run.progress;
+    smaller(less(progress.offered, 1), progress.counted) / (20 * run.track.seconds)
 }
 
 // The cycle of the sample last judged.

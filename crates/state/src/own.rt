@@ -3,15 +3,17 @@ use crate::Ends;
 use crate::Progress;
 use crate::Run;
 use rules::End;
+use rules::Moment;
 use rules::limits::LEAST_SECONDS;
 use rules::limits::MOST_CYCLES;
 use rules::limits::MOST_OFFERED;
 use rules::limits::MOST_SECONDS;
+use values::is_moment;
 use values::is_tolerable;
 ghost use mathlib.Core.Path.{_≡_};
 ghost use Prim.Native.Nat.{_<_};
 ghost use Rattle.rules.specs.Cycle.{seconds};
-ghost use Rattle.state.specs.State.{sameEnds, isProgress, areEnds, isRun};
+ghost use Rattle.state.specs.State.{sameEnds, isProgress, isNothing, isHeld, areEnds, isRun};
 
 // As many cycles, and as many seconds, as the numbers beside them are wide.
 const CYCLES: u32 = MOST_CYCLES as u32;
@@ -58,7 +60,7 @@ fn is_progress(progress: Progress, most: u32) -> bool
             if progress.counted != progress.offered {
                 return false;
             }
-            progress.counted < most
+            progress.counted <= most
         }
         End::Stop => {
             if progress.offered <= progress.counted {
@@ -70,8 +72,36 @@ fn is_progress(progress: Progress, most: u32) -> bool
             if progress.counted != most {
                 return false;
             }
-            most <= progress.offered
+            most < progress.offered
         }
+    }
+}
+
+// Whether nothing is held of an interval.
+fn is_nothing(x: Moment) -> bool
+    ensures { λ r. ⌜ r ≡ isNothing x ⌝ }
+{
+    if x.speed != 0 {
+        return false;
+    }
+    x.energy == 0
+}
+
+// Whether what is held of the open interval is within its limits: one is open while the run goes on, from its first sample on.
+fn is_held(progress: Progress) -> bool
+    ensures { λ r. ⌜ r ≡ isHeld (progress .end) (progress .counted) (progress .held) ⌝ }
+{
+    let held = progress.held;
+    let end = progress.end;
+    match end {
+        End::None => {
+            if progress.counted == 0 {
+                return is_nothing(held);
+            }
+            is_moment(held)
+        }
+        End::Stop => is_nothing(held),
+        End::Limit => is_nothing(held),
     }
 }
 
@@ -92,6 +122,9 @@ pub fn is_run(run: Run) -> bool
         return false;
     }
     if MOST_OFFERED < run.progress.offered {
+        return false;
+    }
+    if !is_held(run.progress) {
         return false;
     }
     is_progress(run.progress, CYCLES * (20 * run.track.seconds))

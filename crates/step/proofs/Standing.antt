@@ -1,6 +1,5 @@
 -- Where a run of a sound cycle stands, and where it stands after one sample more.
 -- Assumes nothing.
-use mathlib.Core.Bool.{true}
 use mathlib.Core.List.{List}
 use mathlib.Core.Path.{_≡_, sym, ap, ap₂, _∙_}
 use Prim.Native.Nat.{ℕ, _+_, _-_, _*_, _≤_, _<_, min}
@@ -8,11 +7,11 @@ use native.Mathlib.Nat.{mod-lt, div-add-mod', div-lt-iff-lt-mul}
 use native.Mathlib.Numerals.{add-one}
 use native.Mathlib.Omega.{arith}
 use lib.Dec.{ltb}
-use borrow.Author.Tests.{lt-ltb}
 use Rattle.numbers.proofs.Order.{digits, ltb-div}
 use Rattle.rules.specs.Cycle.{positions, phaseEnd, phaseAt}
 use Rattle.rules.specs.Regular.{cycleOf, positionOf, most}
-use Rattle.laws.proofs.Sound.{Sound, real, four, ends-within, phase-exists, phase-stays}
+use Rattle.laws.proofs.Regular.{regular-orderly}
+use Rattle.laws.proofs.Sound.{Sound, real, ends-within, phase-exists, phase-stays}
 use Rattle.rules.specs.Bench.{mostPositions, mostPhases, mostCycles}
 use Rattle.window.specs.declared.Window.{Window}
 use Rattle.window.specs.Moving.{windowOf}
@@ -35,6 +34,12 @@ module _ (b : List ℕ) (o : Sound b) (w : ℕ) (g : Going) (stands : g ≡ stan
   pub until-is : g .until ≡ untilAt b w (positionOf b (g .progress .counted))
   until-is = ap (λ (y : Going). y .until) stands
 
+  pub open-row-is : g .open_row ≡ cycleOf b (g .progress .counted - 1)
+  open-row-is = ap (λ (y : Going). y .open_row) stands
+
+  pub open-phase-is : g .open_phase ≡ phaseAt b (positionOf b (g .progress .counted - 1))
+  open-phase-is = ap (λ (y : Going). y .open_phase) stands
+
   -- as the course of such a plan has it
   pub position-in : g .position ≡ g .progress .counted - cycleOf b (g .progress .counted) * positions b
   position-in = position-is ∙ omega (arith, div-add-mod' (g .progress .counted) (positions b))
@@ -45,11 +50,18 @@ module _ (b : List ℕ) (o : Sound b) (w : ℕ) (g : Going) (stands : g ≡ stan
   pub position-most : g .position < mostPositions
   position-most = omega (arith, position-small, o .short)
 
-  pub phase-small : g .phase < mostPhases
-  phase-small = rw phase-is (four b (positionOf b (g .progress .counted)) o (mod-lt (g .progress .counted) (real o)))
-
   pub row-small : g .progress .counted < most b → g .row < mostCycles
   row-small h = rw row-is (div-lt-iff-lt-mul {x = g .progress .counted} {y = mostCycles} (real o) .1 h)
+
+  -- the next sample can count while its row is one of the ledger's
+  pub row-test : ltb (g .row) mostCycles ≡ ltb (g .progress .counted) (most b)
+  row-test = rw row-is (ltb-div mostCycles (g .progress .counted) (positions b) (real o))
+
+  pub open-row-small : g .progress .counted ≤ most b → g .open_row < mostCycles
+  open-row-small h = rw open-row-is (regular-orderly b o .few-rows (g .progress .counted - 1) (omega (arith, real o)))
+
+  pub open-phase-small : g .open_phase < mostPhases
+  open-phase-small = rw open-phase-is (regular-orderly b o .few-phases (g .progress .counted - 1))
 
 -- while only the ends of the window move
 module _ (b : List ℕ) (o : Sound b) (w p : ℕ) (small : p < positions b) (h : p + 1 < untilAt b w p) where
@@ -82,12 +94,6 @@ module _ (b : List ℕ) (o : Sound b) (n : ℕ) where
     pub next-position : positionOf b n + 1 ≡ positionOf b (n + 1)
     next-position = within .0
 
-    pub still-open : n < most b → ltb (n + 1) (most b) ≡ true
-    still-open l =
-        let c = div-lt-iff-lt-mul {x = n} {y = mostCycles} (real o) .1 l in
-        let d : cycleOf b (n + 1) < mostCycles = rw (sym same-cycle) c in
-        lt-ltb (n + 1) (most b) (div-lt-iff-lt-mul {x = n + 1} {y = mostCycles} (real o) .0 d)
-
   -- to the next cycle
   module _ (h : positions b ≤ positionOf b n + 1) where
     past : (0 ≡ positionOf b (n + 1)) × (cycleOf b n + 1 ≡ cycleOf b (n + 1))
@@ -101,6 +107,3 @@ module _ (b : List ℕ) (o : Sound b) (n : ℕ) where
 
     pub first-position : 0 ≡ positionOf b (n + 1)
     first-position = past .0
-
-    pub limit-test : ltb (cycleOf b n + 1) mostCycles ≡ ltb (n + 1) (most b)
-    limit-test = rw next-cycle (ltb-div mostCycles (n + 1) (positions b) (real o))

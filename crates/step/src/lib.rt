@@ -2,15 +2,19 @@
 mod places;
 
 use cycle::phase_of;
-use ledger::row::add_sample;
+use ledger::row::add_interval;
+use ledger::row::add_outside;
 use map::mark_if;
 use map::open_map;
+use numbers::less;
 use places::counted_by;
+use places::ended_by;
 use places::offered_by;
 use places::until_in;
 use rules::End;
 use rules::Moment;
 use rules::Tolerances;
+use rules::limits::MOST_CYCLES;
 use state::Progress;
 use state::Run;
 use window::Window;
@@ -27,14 +31,14 @@ ghost use Rattle.rules.specs.Cycle.{seconds, valid};
 ghost use Rattle.rules.specs.Band.{insideOf};
 ghost use Rattle.window.specs.Moving.{leastIn, greatestIn};
 ghost use Rattle.map.specs.Map.{opened, markedIf};
-ghost use Rattle.ledger.specs.Row.{at, isOver, sampleAdded, mostHeld};
+ghost use Rattle.ledger.specs.Row.{at, isOver, intervalAdded, outsideAdded, mostHeld};
 ghost use Rattle.rules.specs.Shown.{mapWords, ledgerNumbers};
 ghost use Rattle.rules.specs.Regular.{plan};
 ghost use Rattle.state.specs.State.{left};
-ghost use Rattle.step.specs.Step.{standing, oneJudged, oneTaken, Kept, withProgress};
+ghost use Rattle.step.specs.Step.{standing, intervalClosed, oneJudged, openTaken, oneTaken, Counts, Kept, withProgress};
 
 // Where a run stands while samples are taken: row, position and phase of the next sample and the window of its position, beside its progress.
-// Up to position `until` only the ends of the window move.
+// Up to position `until` only the ends of the window move. The open interval is of the row and phase of the sample before.
 pub struct Going {
     pub progress: Progress,
     pub row: usize,
@@ -42,11 +46,12 @@ pub struct Going {
     pub phase: usize,
     pub window: Window,
     pub until: u32,
+    pub open_row: usize,
+    pub open_phase: usize,
 }
 
 // Where the next sample stands.
 struct Next {
-    end: End,
     row: usize,
     position: u32,
     phase: usize,
@@ -66,6 +71,7 @@ pub fn going_at(cycle: &[u8], run: Run) -> Going
     let position = progress.counted % n;
     let phase = phase_of(cycle, position);
     let window = window_at(cycle, run.track.tolerances.time, position);
+    let last = less(progress.counted, 1);
     Going {
         progress,
         row: (progress.counted / n) as usize,
@@ -73,6 +79,8 @@ pub fn going_at(cycle: &[u8], run: Run) -> Going
         phase,
         window,
         until: until_in(cycle, window, phase),
+        open_row: (last / n) as usize,
+        open_phase: phase_of(cycle, last % n),
     }
 }
 
@@ -101,27 +109,83 @@ fn mark_sample(map: &mut [u64], p: usize, outside: bool)
     mark_if(&mut *map, p, outside);
 }
 
-// The nine numbers of the open cycle are lent on: whether the sample brings the outside count above the allowance.
-fn add_in_cycle(
-    ledger: &mut [i64],
-    row: usize,
-    phase: usize,
-    x: Moment,
-    outside: bool,
-    allowance: u32,
-) -> bool
-    requires { ⌜ (ledgerNumbers ≤ length (now ledger)) × (row < mostCycles) × (phase < mostPhases) × (isMoment x ≡ true) ⌝ }
+// The nine numbers of a cycle are lent on: the interval from sample x to sample y is of this row and phase.
+fn add_in_cycle(ledger: &mut [i64], row: usize, phase: usize, x: Moment, y: Moment)
+    requires { ⌜
+        (ledgerNumbers ≤ length (now ledger))
+        × (row < mostCycles)
+        × (phase < mostPhases)
+        × (isMoment x ≡ true)
+        × (isMoment y ≡ true)
+        ⌝ }
     requires { ⌜ ((i : ℕ) → i < ledgerNumbers → Sized mostHeld (at (now ledger) i)) ⌝ }
-    ensures { λ r. ⌜ r ≡ isOver (9 * row) (now (ledger .entry)) outside allowance ⌝ }
-    ensures { λ _. ⌜ now (ledger .exit) ≡ sampleAdded (9 * row) (now (ledger .entry)) phase x outside allowance ⌝ }
+    ensures { λ _. ⌜ now (ledger .exit) ≡ intervalAdded (9 * row) (now (ledger .entry)) phase x y ⌝ }
 {
     let from = 9 * row;
     let upto = from + 9;
-    add_sample(&mut ledger[from..upto], phase, x, outside, allowance)
+    add_interval(&mut ledger[from..upto], phase, x, y);
 }
 
-// A sample of an open run.
+// The nine numbers of a cycle are lent on: whether a sample of this row brings the outside count above the allowance.
+fn count_in_cycle(ledger: &mut [i64], row: usize, outside: bool, allowance: u32) -> bool
+    requires { ⌜ (ledgerNumbers ≤ length (now ledger)) × (row < mostCycles) ⌝ }
+    requires { ⌜ ((i : ℕ) → i < ledgerNumbers → Sized mostHeld (at (now ledger) i)) ⌝ }
+    ensures { λ r. ⌜ r ≡ isOver (9 * row) (now (ledger .entry)) outside allowance ⌝ }
+    ensures { λ _. ⌜ now (ledger .exit) ≡ outsideAdded (9 * row) (now (ledger .entry)) outside ⌝ }
+{
+    let from = 9 * row;
+    let upto = from + 9;
+    add_outside(&mut ledger[from..upto], outside, allowance)
+}
+
+// A sample of an open run closes the open interval; before the first sample none is open.
+fn close_interval(g: Going, ledger: &mut [i64], x: Moment)
+    requires { ⌜
+        (ledgerNumbers ≤ length (now ledger))
+        × (g .open_row < mostCycles)
+        × (g .open_phase < mostPhases)
+        × (isMoment (g .progress .held) ≡ true)
+        × (isMoment x ≡ true)
+        ⌝ }
+    requires { ⌜ ((i : ℕ) → i < ledgerNumbers → Sized mostHeld (at (now ledger) i)) ⌝ }
+    ensures { λ _. ⌜ now (ledger .exit) ≡ intervalClosed (g .progress) (g .open_row) (g .open_phase) (now (ledger .entry)) x ⌝ }
+{
+    let progress = g.progress;
+    if progress.counted == 0 {
+        return;
+    }
+    add_in_cycle(&mut *ledger, g.open_row, g.open_phase, progress.held, x);
+}
+
+// A sample of an open run, of which the last interval is closed.
 fn judge_one(
+    cycle: &[u8],
+    t: Tolerances,
+    g: Going,
+    ledger: &mut [i64],
+    map: &mut [u64],
+    x: Moment,
+) -> Going
+    requires { ⌜ Counts (now cycle) (t .time) g × (isMoment x ≡ true) × (ledgerNumbers ≤ length (now ledger)) × (mapWords ≤ length (now map)) ⌝ }
+    requires { ⌜ ((i : ℕ) → i < ledgerNumbers → Sized mostHeld (at (now ledger) i)) ⌝ }
+    ensures { λ r. ⌜
+        left r (now (ledger .exit)) (now (map .exit))
+        ≡ oneJudged (now (cycle .entry)) t g (now (ledger .entry)) (now (map .entry)) x
+        ⌝ }
+{
+    let position = g.position;
+    let window = g.window;
+    let outside = is_outside(window, t.speed, x.speed as u32);
+    mark_sample(&mut *map, position as usize, outside);
+    let over = count_in_cycle(&mut *ledger, g.row, outside, t.allowance);
+    if over {
+        return ended_by(g, End::Stop);
+    }
+    counted_by(cycle, t.time, g, x)
+}
+
+// A sample of an open run: it closes the last interval, and is judged where it can count.
+fn take_open(
     cycle: &[u8],
     t: Tolerances,
     g: Going,
@@ -133,18 +197,14 @@ fn judge_one(
     requires { ⌜ (g .progress .offered < mostOffered) × (isMoment x ≡ true) × (isOpen (g .progress .end) ≡ true) ⌝ }
     ensures { λ r. ⌜
         left r (now (ledger .exit)) (now (map .exit))
-        ≡ oneJudged (now (cycle .entry)) t g (now (ledger .entry)) (now (map .entry)) x
+        ≡ openTaken (now (cycle .entry)) t g (now (ledger .entry)) (now (map .entry)) x
         ⌝ }
 {
-    let position = g.position;
-    let window = g.window;
-    let outside = is_outside(window, t.speed, x.speed as u32);
-    mark_sample(&mut *map, position as usize, outside);
-    let over = add_in_cycle(&mut *ledger, g.row, g.phase, x, outside, t.allowance);
-    if over {
-        return offered_by(g, End::Stop);
+    close_interval(g, &mut *ledger, x);
+    if MOST_CYCLES <= g.row {
+        return ended_by(g, End::Limit);
     }
-    counted_by(cycle, t.time, g)
+    judge_one(cycle, t, g, &mut *ledger, &mut *map, x)
 }
 
 // One accepted sample: judged while the run is open.
@@ -166,7 +226,7 @@ pub fn take_one(
     let progress = g.progress;
     let end = progress.end;
     match end {
-        End::None => judge_one(cycle, t, g, &mut *ledger, &mut *map, x),
+        End::None => take_open(cycle, t, g, &mut *ledger, &mut *map, x),
         End::Stop => offered_by(g, end),
         End::Limit => offered_by(g, end),
     }

@@ -2,7 +2,8 @@
 -- Assumes nothing.
 use mathlib.Core.Bool.{Bool, _&&_}
 use Rattle.rules.specs.declared.Amounts.{Amounts}
-use Rattle.rules.specs.Closing.{isTransfer, isCharge}
+use Rattle.rules.specs.Closing.{isCharge}
+use Rattle.laws.specs.Beside.{isTransfer}
 
 -- "within 10^13 either way", "1..2,000,000"
 unfoldable pub areAmounts : Amounts → Bool

@@ -5,19 +5,24 @@ use rules::Moment;
 use rules::Sample;
 use rules::Tolerances;
 use rules::limits::LEAST_CURRENT;
+use rules::limits::LEAST_DRAWN;
 use rules::limits::LEAST_TRANSFER;
+use rules::limits::LEAST_TRANSFER_IN;
 use rules::limits::MOST_ALLOWANCE;
 use rules::limits::MOST_CHARGE;
 use rules::limits::MOST_CURRENT;
+use rules::limits::MOST_DRAWN;
 use rules::limits::MOST_SPEED;
 use rules::limits::MOST_SPEED_TOLERANCE;
 use rules::limits::MOST_TIME_TOLERANCE;
 use rules::limits::MOST_TRANSFER;
+use rules::limits::MOST_TRANSFER_IN;
 use rules::limits::MOST_VOLTAGE;
 ghost use mathlib.Core.Path.{_≡_};
 ghost use Rattle.rules.specs.Words.{between};
 ghost use Rattle.rules.specs.Bench.{isSample, tolerable, drawn, momentOf};
-ghost use Rattle.rules.specs.Closing.{isTransfer, isCharge};
+ghost use Rattle.rules.specs.Closing.{isTransferIn, isCharge};
+ghost use Rattle.laws.specs.Beside.{isMoment, isTransfer};
 ghost use Rattle.values.specs.Limits.{areAmounts};
 
 pub fn is_between(lo: i64, hi: i64, z: i64) -> bool
@@ -42,7 +47,7 @@ pub fn is_sample(x: Sample) -> bool
     is_between(LEAST_CURRENT, MOST_CURRENT, x.current as i64)
 }
 
-// Drawn energy, in units of 0.5 mJ.
+// Drawn energy.
 fn drawn_by(x: Sample) -> i64
     ensures { λ r. ⌜ r ≡ drawn x ⌝ }
 {
@@ -54,7 +59,7 @@ pub fn moment_of(x: Sample) -> Moment
     ensures { λ r. ⌜ r ≡ momentOf x ⌝ }
 {
     Moment {
-        speed: x.speed,
+        speed: x.speed as u64,
         energy: drawn_by(x),
     }
 }
@@ -72,8 +77,25 @@ pub fn is_tolerable(t: Tolerances) -> bool
     t.allowance <= MOST_ALLOWANCE
 }
 
-// Whether a transfer energy is within its limits.
-pub fn is_transfer(energy: i64) -> bool
+// Whether the moment is such as a sample within its limits brings.
+pub fn is_moment(x: Moment) -> bool
+    ensures { λ r. ⌜ r ≡ isMoment x ⌝ }
+{
+    if (MOST_SPEED as u64) < x.speed {
+        return false;
+    }
+    is_between(LEAST_DRAWN, MOST_DRAWN, x.energy)
+}
+
+// Whether a transfer energy is within the limits of field 6.
+pub fn is_transfer_in(energy: i64) -> bool
+    ensures { λ r. ⌜ r ≡ isTransferIn energy ⌝ }
+{
+    is_between(LEAST_TRANSFER_IN, MOST_TRANSFER_IN, energy)
+}
+
+// Whether a transfer energy, doubled, is within its limits.
+fn is_transfer(energy: i64) -> bool
     ensures { λ r. ⌜ r ≡ isTransfer energy ⌝ }
 {
     is_between(LEAST_TRANSFER, MOST_TRANSFER, energy)

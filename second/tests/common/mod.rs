@@ -1,4 +1,4 @@
-//! The paper's example record, and small helps for the tests.
+//! Document 01's example record, and small helps for the tests.
 #![allow(dead_code)]
 
 use second::sheet::sheet;
@@ -12,22 +12,38 @@ pub const FORBIDDEN: &Vehicle = b"LTESTVEH00000000Q";
 pub const GOOD: Raw = Raw { speed: 100, voltage: 6000, current: -120 };
 pub const BAD: Raw = Raw { speed: 1501, voltage: 6000, current: -120 };
 
-/// What the paper prints for the example.
+/// What is printed for the example with one more sample, which closes its
+/// third cycle (document 02, L2).
 pub const EXAMPLE: &str = "run LTESTVEH000000001
-end none 120
+end none 121
 cycles 3
 outside 0
 passed 0
-drawn 86400000
+drawn 172800000
 weighted 720000
 range 16
 ac 937500
 ";
 
-/// The fields of the paper's example: 1, 2, 3, 4, 5, 7.
+/// What is printed for the example of document 01: the third cycle is not closed.
+pub const EXAMPLE_OF_120: &str = "run LTESTVEH000000001
+end none 120
+cycles 2
+outside 0
+passed 0
+drawn 171360000
+refused 10
+";
+
+/// The fields of the example with one more sample: 1, 2, 3, 4, 5, 7.
 pub fn example() -> Vec<Vec<u8>> {
+    example_of(121)
+}
+
+/// The fields of the example with this many equal samples in its block.
+pub fn example_of(samples: usize) -> Vec<Vec<u8>> {
     let mut fields = start();
-    fields.push(block(OWN, 0, &[GOOD; 120]));
+    fields.push(block(OWN, 0, &vec![GOOD; samples]));
     fields.push(recharge(15));
     fields
 }

@@ -2,7 +2,7 @@
 -- Assumes nothing.
 use mathlib.Core.Bool.{Bool, true, false, not}
 use mathlib.Core.Path.{_≡_, refl, sym, ap, ap₂, subst, _∙_}
-use Prim.Native.Nat.{ℕ, suc, _+_, _*_, _^_, _≤_, _<_}
+use Prim.Native.Nat.{ℕ, suc, _+_, _*_, _≤_, _<_}
 use native.Mathlib.Omega.{arith}
 use borrow.Author.Tests.{le-leb, not-true, not-false}
 use lib.IntN.{ℤ, pos, _+ℤ_}
@@ -197,7 +197,7 @@ finish-requires c κs =
     let n = s on .args .n in
     let t = nothing-refused on in
     let sized = whole-sized (known on) in
-    let small : up (E (s on)) < 2 ^ 51 = omega (arith, abs-is (E (s on)), sized .size) in
+    let small : up (E (s on)) ≤ mostWhole = omega (arith, abs-is (E (s on)), sized .size) in
     let by-rules = subst (λ (g : Gathered). Asks n g (E (s on))) (sym (gathered-is on)) (weighable t small, some t, sized) in (
       subst (Asks n (gathered (known on))) (sym (total-read (known on))) by-rules,
       (rw (after-read on) (limits (s on) .after), limits (s on) .charge),

@@ -55,9 +55,9 @@ returns : tie.Need-returns
 unfolding finishedBy
 returns c = stop _ (omega (tests, range-is (c .before)))
 
--- a range of at most 2 × 10^15 of energy
+-- a range of at most 4 × 10^15 of energy
 short : (E W : ℕ) → E ≤ mostWhole → range E W < 2 ^ 51
-short E W h = omega (arith, div-div-eq-div-mul (5 * E) 36 W, div-le-self (5 * E / 36) W, div-mul-le-self (5 * E) 36)
+short E W h = omega (arith, div-div-eq-div-mul (5 * E) 72 W, div-le-self (5 * E / 72) W, div-mul-le-self (5 * E) 72)
 
 charged-requires : tie.Need-charged-requires
 charged-requires c κs =

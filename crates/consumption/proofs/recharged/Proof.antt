@@ -18,10 +18,10 @@ use Rattle.wide.specs.Ratio.{ratio}
 use Rattle.wide.proofs.Answers.{is-quotient, over-quotient}
 use Rattle.rules.specs.declared.Charge.the-variants.{Wh as wh}
 use Rattle.rules.specs.declared.Figure.the-variants.{Is}
-use Rattle.rules.specs.Closing.{recharge, mostTransfer, rechargeFigure, rechargeRefusal, rechargeBy}
+use Rattle.rules.specs.Closing.{recharge, rechargeFigure, rechargeRefusal, rechargeBy}
 use Rattle.laws.specs.Answers.{Said, gives, refuses, Measure, is, figureSaid}
 use Rattle.laws.proofs.Answers.{figure-or}
-use Rattle.laws.specs.Beside.{mostWhole}
+use Rattle.laws.specs.Beside.{mostTransfer, mostWhole}
 use Rattle.laws.proofs.Recharge.{twice}
 use Rattle.consumption.proofs.Weights.{positive, cast}
 use Rattle.consumption.proofs.recharged.Statement.{statement}

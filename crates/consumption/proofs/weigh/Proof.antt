@@ -1,7 +1,8 @@
 -- `consumption::weigh` meets its contract: the three products are added up, exact.
 -- Assumes nothing.
 use mathlib.Core.Path.{ap, _∙_}
-use Prim.Native.Nat.{ℕ, _*_, _^_}
+use Prim.Native.Nat.{ℕ, _*_}
+use Rattle.laws.specs.Beside.{mostWhole}
 use native.Mathlib.Omega.{arith}
 use borrow.Author.Needs.{needs}
 use Rattle.rules.specs.Closing.{mostRate}
@@ -12,7 +13,7 @@ use Rattle.consumption.proofs.weigh.Statement.{statement}
 use Rattle.consumption.proofs.weigh.Tie as tie
 
 mul-m : tie.Need-mul-m
-mul-m c = product-fits (2 ^ 51) 62 (omega arith) (omega arith) tt
+mul-m c = product-fits mostWhole 62 (omega arith) (omega arith) tt
 
 mul-muldiv : tie.Need-mul-muldiv
 mul-muldiv c = product-fits 62 mostRate (omega arith) (omega arith) tt

@@ -1,7 +1,8 @@
 -- `consumption::weighted_of` meets its contract: the answer of `weigh` is never over.
 -- Assumes nothing.
 use mathlib.Core.Path.{sym, _∙_}
-use Prim.Native.Nat.{_*_, _^_, _≤_}
+use Prim.Native.Nat.{_*_, _≤_}
+use Rattle.laws.specs.Beside.{mostWhole}
 use native.Mathlib.Nat.{mul-le-mul}
 use native.Mathlib.Omega.{arith}
 use borrow.Author.Needs.{needs}
@@ -34,7 +35,7 @@ returns-2 c =
     let g = s .pre in
     let E = s .args .total in
     let n = s .args .n in
-    let size : weight E n ≤ 2 ^ 51 * 62 = mul-le-mul {n₂ = 2 ^ 51} {m₂ = 62} (omega (arith, g .small)) (omega (arith, g .most)) in
+    let size : weight E n ≤ mostWhole * 62 = mul-le-mul {n₂ = mostWhole} {m₂ = 62} (omega (arith, g .small)) (omega (arith, g .most)) in
     let large = over-quotient _ _ (weight-pos E n (g .some) (g .three)) (omega (arith, size)) (sym (c .enum-told .given .1) ∙ c .before .before .weigh .ensures) in
     absurd (omega (arith, g .greatest, large))
 

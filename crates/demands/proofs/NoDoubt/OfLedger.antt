@@ -2,7 +2,8 @@
 -- Assumes nothing.
 use mathlib.Core.Path.{refl}
 use Rattle.ledger.proofs.whole.is_bounded
-use Rattle.ledger.proofs.row.add_sample
+use Rattle.ledger.proofs.row.add_interval
+use Rattle.ledger.proofs.row.add_outside
 use Rattle.ledger.proofs.totals.energy_in
 use Rattle.ledger.proofs.totals.distance_in
 use Rattle.ledger.proofs.totals.energy_from
@@ -18,8 +19,11 @@ is-bounded-one-answer κs a r r′ w w′ p q = (same p q, refl)
 pub is-bounded-asks-nothing : AsksNothing is_bounded.ended is_bounded.Reads.Asked
 is-bounded-asks-nothing κs a = tt
 
-pub add-sample-one-answer : OneAnswer add_sample.ended add_sample.Reads.Learnt
-add-sample-one-answer κs a r r′ w w′ p q = (same (p .0) (q .0), λ i. (same (p .1) (q .1) i, (tt, (tt, (tt, (tt, tt))))))
+pub add-interval-one-answer : OneAnswer add_interval.ended add_interval.Reads.Learnt
+add-interval-one-answer κs a r r′ w w′ p q = (refl, λ i. (same p q i, (tt, (tt, (tt, tt)))))
+
+pub add-outside-one-answer : OneAnswer add_outside.ended add_outside.Reads.Learnt
+add-outside-one-answer κs a r r′ w w′ p q = (same (p .0) (q .0), λ i. (same (p .1) (q .1) i, (tt, (tt, tt))))
 
 pub energy-in-one-answer : OneAnswer energy_in.ended energy_in.Reads.Learnt
 energy-in-one-answer κs a r r′ w w′ p q = (same p q, refl)

@@ -2,7 +2,8 @@
 -- Assumes nothing.
 use mathlib.Core.Path.{refl}
 use Rattle.values.proofs.is_tolerable
-use Rattle.values.proofs.is_transfer
+use Rattle.values.proofs.is_moment
+use Rattle.values.proofs.is_transfer_in
 use Rattle.values.proofs.is_charge
 use Rattle.values.proofs.are_amounts
 use Rattle.values.proofs.is_between
@@ -17,11 +18,17 @@ is-tolerable-one-answer κs a r r′ w w′ p q = (same p q, refl)
 pub is-tolerable-asks-nothing : AsksNothing is_tolerable.ended is_tolerable.Reads.Asked
 is-tolerable-asks-nothing κs a = tt
 
-pub is-transfer-one-answer : OneAnswer is_transfer.ended is_transfer.Reads.Learnt
-is-transfer-one-answer κs a r r′ w w′ p q = (same p q, refl)
+pub is-moment-one-answer : OneAnswer is_moment.ended is_moment.Reads.Learnt
+is-moment-one-answer κs a r r′ w w′ p q = (same p q, refl)
 
-pub is-transfer-asks-nothing : AsksNothing is_transfer.ended is_transfer.Reads.Asked
-is-transfer-asks-nothing κs a = tt
+pub is-moment-asks-nothing : AsksNothing is_moment.ended is_moment.Reads.Asked
+is-moment-asks-nothing κs a = tt
+
+pub is-transfer-in-one-answer : OneAnswer is_transfer_in.ended is_transfer_in.Reads.Learnt
+is-transfer-in-one-answer κs a r r′ w w′ p q = (same p q, refl)
+
+pub is-transfer-in-asks-nothing : AsksNothing is_transfer_in.ended is_transfer_in.Reads.Asked
+is-transfer-in-asks-nothing κs a = tt
 
 pub is-charge-one-answer : OneAnswer is_charge.ended is_charge.Reads.Learnt
 is-charge-one-answer κs a r r′ w w′ p q = (same p q, refl)

@@ -8,7 +8,7 @@ use borrow.Rule.Slice.PartMut.{putMid}
 use lib.ListN.{length}
 use Rattle.rules.specs.Shown.{ledgerNumbers}
 use Rattle.ledger.specs.Row.{mostHeld}
-use Rattle.ledger.proofs.Rows.{part-small, part-length, over-part, put-added}
+use Rattle.ledger.proofs.Rows.{part-small, part-length, put-interval}
 use Rattle.step.proofs.add_in_cycle.Statement.{statement}
 use Rattle.step.proofs.add_in_cycle.Tie as tie
 
@@ -28,26 +28,27 @@ mul-from c = search needs
 add-upto : tie.Need-add-upto
 add-upto c = search needs
 
-mul-add-sample : tie.Need-mul-add-sample
-mul-add-sample c = search needs
+mul-add-interval : tie.Need-mul-add-interval
+mul-add-interval c = search needs
 
-sub-add-sample : tie.Need-sub-add-sample
-sub-add-sample c = search needs
+sub-add-interval : tie.Need-sub-add-interval
+sub-add-interval c = search needs
 
-part-add-sample-start : tie.Need-part-add-sample-start
-part-add-sample-start c = search needs
+part-add-interval-start : tie.Need-part-add-interval-start
+part-add-interval-start c = search needs
 
-part-add-sample-end : tie.Need-part-add-sample-end
-part-add-sample-end c = search needs
+part-add-interval-end : tie.Need-part-add-interval-end
+part-add-interval-end c = search needs
 
-add-sample-requires : tie.Need-add-sample-requires
-add-sample-requires c κs =
+add-interval-requires : tie.Need-add-interval-requires
+add-interval-requires c κs =
     let a = c .before in
     let l = a .args .ledger .now in (
       part-length (place a) (nine a) l (omega arith) (long a),
       a .pre .0 .2,
       λ j. part-small mostHeld ledgerNumbers (place a) (nine a) l (a .pre .1) (omega (arith, a .pre .0 .1)) j,
       a .pre .0 .3,
+      a .pre .0 .4,
     )
 
 same-length : tie.Need-same-length
@@ -56,10 +57,9 @@ same-length c = search needs
 returns : tie.Need-returns
 returns c =
     let a = c .before .before .before in
-    let l = a .args .ledger .now in (
-      c .before .add-sample .ensures .0 ∙ over-part (place a) (nine a) l (omega arith) (long a) (a .args .outside) (a .args .allowance),
-      ap (putMid (place a) (nine a) l) (c .before .add-sample .ensures .1) ∙ put-added (place a) (nine a) l (omega arith) (long a) _ _ _ _ (a .pre .0 .2),
-    )
+    let l = a .args .ledger .now in
+    ap (putMid (place a) (nine a) l) (c .before .add-interval .ensures)
+    ∙ put-interval (place a) (nine a) l (omega arith) (long a) (a .args .phase) (a .args .x) (a .args .y) (a .pre .0 .2)
 
 pub add-in-cycle-spec : {M : Type 1} → statement M
 add-in-cycle-spec =
@@ -67,10 +67,10 @@ add-in-cycle-spec =
     (tie.spec
     mul-from
     add-upto
-    mul-add-sample
-    sub-add-sample
-    part-add-sample-start
-    part-add-sample-end
-    add-sample-requires
+    mul-add-interval
+    sub-add-interval
+    part-add-interval-start
+    part-add-interval-end
+    add-interval-requires
     same-length
     returns)

@@ -4,14 +4,15 @@ use mathlib.Core.Bool.{Bool}
 use mathlib.Core.List.{List}
 use mathlib.Core.Path.{_≡_, sym, _∙_}
 use Prim.Native.Nat.{ℕ}
+use native.Mathlib.Omega.{arith}
 use borrow.Author.Needs.{needs}
 use lib.IntN.{ℤ}
 use Rattle.rules.specs.Regular.{plan, courseOf}
 use Rattle.state.specs.State.{left}
-use Rattle.step.specs.Step.{State, Going, outNow, judge, standing, held, leftAt, Kept}
+use Rattle.step.specs.Step.{State, Going, outNow, judge, standing, Counts, withMemory, leftAt}
 use Rattle.laws.proofs.Sound.{Sound, sound}
-use Rattle.step.proofs.Standing.{position-most, phase-small, row-small}
-use Rattle.step.proofs.Keeping.{number-small}
+use Rattle.laws.proofs.Bounds.{within}
+use Rattle.step.proofs.Standing.{position-most, row-small}
 use Rattle.step.proofs.Steps.{out-in, ledger-is, map-is, stops-is, goes-is}
 use Rattle.step.proofs.judge_one.Statement.{statement}
 use Rattle.step.proofs.judge_one.Tie as tie
@@ -26,15 +27,15 @@ l s = s .args .ledger .now
 abbrev m : tie.Start → List ℕ
 m s = s .args .map .now
 
-kept : (s : tie.Start) → Kept (plan (b s) (s .args .t)) (left (s .args .g) (l s) (m s))
-kept s = s .pre .0
+counts : (s : tie.Start) → Counts (b s) (s .args .t .time) (s .args .g)
+counts s = s .pre .0 .0
 
 good : (s : tie.Start) → Sound (b s)
-good s = sound (b s) (kept s .sound)
+good s = sound (b s) (counts s .sound)
 
 -- the state after the sample, by the rules
 abbrev after : tie.Start → State
-after s = judge (courseOf (plan (b s) (s .args .t))) (held (s .args .g) (l s) (m s)) (s .args .x)
+after s = judge (courseOf (plan (b s) (s .args .t))) (withMemory (s .args .g) (l s) (m s)) (s .args .x)
 
 -- after the three calls
 abbrev entry : tie.After-ledger → tie.Start
@@ -45,22 +46,22 @@ abbrev out : tie.After-ledger → Bool
 out c = c .before .before .before .before .before .before .before .is-outside .result
 
 out-known : (c : tie.After-ledger)
-    → out c ≡ outNow (courseOf (plan (b (entry c)) (entry c .args .t))) (held (entry c .args .g) (l (entry c)) (m (entry c))) (entry c .args .x)
+    → out c ≡ outNow (courseOf (plan (b (entry c)) (entry c .args .t))) (withMemory (entry c .args .g) (l (entry c)) (m (entry c))) (entry c .args .x)
 out-known c =
     let s = entry c in
-    c .before .before .before .before .before .before .before .is-outside .ensures ∙ out-in (b s) (s .args .t) (s .args .g) (l s) (m s) (kept s) (s .args .x)
+    c .before .before .before .before .before .before .before .is-outside .ensures ∙ out-in (b s) (s .args .t) (s .args .g) (l s) (m s) (s .args .x) (counts s)
 
 -- what is left, where the run stands at r
 by : (c : tie.After-ledger) (r : Going) → r ≡ standing (b (entry c)) (entry c .args .t .time) (after (entry c) .progress)
-    → left r (c .before .add-in-cycle .last .0) (c .before .before .before .before .before .mark-sample .last .0) ≡ leftAt (plan (b (entry c)) (entry c .args .t)) (after (entry c))
+    → left r (c .before .count-in-cycle .last .0) (c .before .before .before .before .before .mark-sample .last .0) ≡ leftAt (plan (b (entry c)) (entry c .args .t)) (after (entry c))
 by c r e =
     let s = entry c in
-    let ledger = c .before .add-in-cycle .ensures .1 ∙ ledger-is (b s) (s .args .t) (s .args .g) (l s) (m s) (kept s) (s .args .x) (out c) (out-known c) in
-    let map = c .before .before .before .before .before .mark-sample .ensures ∙ map-is (b s) (s .args .t) (s .args .g) (l s) (m s) (kept s) (s .args .x) (out c) (out-known c) in
+    let ledger = c .before .count-in-cycle .ensures .1 ∙ ledger-is (b s) (s .args .t) (s .args .g) (l s) (m s) (s .args .x) (counts s) (out c) (out-known c) in
+    let map = c .before .before .before .before .before .mark-sample .ensures ∙ map-is (b s) (s .args .t) (s .args .g) (l s) (m s) (s .args .x) (counts s) (out c) (out-known c) in
     λ i. left (e i) (ledger i) (map i)
 
 cast-is-outside : tie.Need-cast-is-outside
-cast-is-outside c = search needs
+cast-is-outside c = let s = c .before .before .before .before in omega (arith, within (s .args .x) (s .pre .0 .1) .speed)
 
 is-outside-requires : tie.Need-is-outside-requires
 is-outside-requires c κs = search needs
@@ -71,23 +72,15 @@ cast-mark-sample c = search needs
 mark-sample-requires : tie.Need-mark-sample-requires
 mark-sample-requires c κs =
     let s = c .before .before .before .before .before .before in
-    (position-most (b s) (good s) (s .args .t .time) (s .args .g) (kept s .stands), kept s .long-map)
+    (position-most (b s) (good s) (s .args .t .time) (s .args .g) (counts s .stands), s .pre .0 .3)
 
-add-in-cycle-requires : tie.Need-add-in-cycle-requires
-add-in-cycle-requires c κs =
+count-in-cycle-requires : tie.Need-count-in-cycle-requires
+count-in-cycle-requires c κs =
     let s = c .before .before .before .before .before .before .before .before .before .before in
-    let k = kept s in (
-      (
-        k .long-ledger,
-        row-small (b s) (good s) (s .args .t .time) (s .args .g) (k .stands) (k .room (s .pre .1 .2)),
-        phase-small (b s) (good s) (s .args .t .time) (s .args .g) (k .stands),
-        s .pre .1 .1,
-      ),
-      number-small k (s .pre .1 .0),
-    )
+    ((s .pre .0 .2, row-small (b s) (good s) (s .args .t .time) (s .args .g) (counts s .stands) (counts s .room)), s .pre .1)
 
-offered-by-requires : tie.Need-offered-by-requires
-offered-by-requires c κs = search needs
+ended-by-requires : tie.Need-ended-by-requires
+ended-by-requires c κs = search needs
 
 same-length : tie.Need-same-length
 same-length c = search needs
@@ -100,13 +93,11 @@ returns c =
     let a = c .before .before in
     let s = entry a in
     by a _
-    (c .offered-by .ensures
-    ∙ stops-is (b s) (s .args .t) (s .args .g) (l s) (m s) (kept s) (s .args .x) (out a) (out-known a) (sym (a .before .add-in-cycle .ensures .0) ∙ c .before .if1 .taken))
+    (c .ended-by .ensures
+    ∙ stops-is (b s) (s .args .t) (s .args .g) (l s) (m s) (s .args .x) (counts s) (out a) (out-known a) (sym (a .before .count-in-cycle .ensures .0) ∙ c .before .if1 .taken))
 
 counted-by-requires : tie.Need-counted-by-requires
-counted-by-requires c κs =
-    let s = entry (c .before) in
-    record { sound = kept s .sound; time = kept s .time; stands = kept s .stands; few = s .pre .1 .0; room = kept s .room (s .pre .1 .2) }
+counted-by-requires c κs = counts (entry (c .before))
 
 same-length-3 : tie.Need-same-length-3
 same-length-3 c = search needs
@@ -120,7 +111,7 @@ returns-2 c =
     let s = entry a in
     by a _
     (c .counted-by .ensures
-    ∙ goes-is (b s) (s .args .t) (s .args .g) (l s) (m s) (kept s) (s .args .x) (out a) (out-known a) (sym (a .before .add-in-cycle .ensures .0) ∙ c .before .if1 .left))
+    ∙ goes-is (b s) (s .args .t) (s .args .g) (l s) (m s) (s .args .x) (counts s) (out a) (out-known a) (sym (a .before .count-in-cycle .ensures .0) ∙ c .before .if1 .left))
 
 pub judge-one-spec : {M : Type 1} → statement M
 judge-one-spec =
@@ -130,8 +121,8 @@ judge-one-spec =
     is-outside-requires
     cast-mark-sample
     mark-sample-requires
-    add-in-cycle-requires
-    offered-by-requires
+    count-in-cycle-requires
+    ended-by-requires
     same-length
     same-length-2
     returns

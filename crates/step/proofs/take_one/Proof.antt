@@ -7,31 +7,31 @@ use Rattle.laws.specs.Beside.{isOpen}
 use Rattle.rules.specs.Course.{Course}
 use Rattle.rules.specs.Regular.{plan, courseOf}
 use Rattle.state.specs.State.{left}
-use Rattle.step.specs.Step.{State, Going, offeredOne, held, leftAt, oneTaken}
+use Rattle.step.specs.Step.{State, Going, offeredOne, progressed, withMemory, leftAt, oneTaken}
 use Rattle.step.proofs.Steps.{taken-open, taken-ended, offered-is}
 use Rattle.step.proofs.take_one.Statement.{statement}
 use Rattle.step.proofs.take_one.Tie as tie
 
 -- the state at the entry, and after the sample
 abbrev before : tie.Start → State
-before s = held (s .args .g) (s .args .ledger .now) (s .args .map .now)
+before s = withMemory (s .args .g) (s .args .ledger .now) (s .args .map .now)
 
 abbrev course : tie.Start → Course
 course s = courseOf (plan (s .args .cycle .now) (s .args .t))
 
 -- where it stands after a sample that is only offered, and its memory
-by : (s : tie.Start) (r : Going) → isOpen (s .args .g .progress .end) ≡ false → r ≡ offeredOne (s .args .g) (s .args .g .progress .end)
+by : (s : tie.Start) (r : Going) → isOpen (s .args .g .progress .end) ≡ false → r ≡ progressed (s .args .g) (offeredOne (s .args .g .progress) (s .args .g .progress .end))
     → left r (s .args .ledger .now) (s .args .map .now) ≡ oneTaken (s .args .cycle .now) (s .args .t) (s .args .g) (s .args .ledger .now) (s .args .map .now) (s .args .x)
 by s r e q =
     ap (λ (y : Going). left y (s .args .ledger .now) (s .args .map .now))
-    (q ∙ offered-is (s .args .cycle .now) (s .args .t) (s .args .g) (s .args .ledger .now) (s .args .map .now) (s .pre .0))
+    (q ∙ offered-is (s .args .cycle .now) (s .args .t .time) (s .args .g) (s .pre .0 .stands))
     ∙ ap (leftAt (plan (s .args .cycle .now) (s .args .t))) (sym (taken-ended (course s) (before s) (s .args .x) e))
 
 enum-told : tie.Need-enum-told
 enum-told c = search needs
 
-judge-one-requires : tie.Need-judge-one-requires
-judge-one-requires c κs =
+take-open-requires : tie.Need-take-open-requires
+take-open-requires c κs =
     let s = c .before .before .before .before .before .before .before in
     (s .pre .0, (s .pre .1 .0, s .pre .1 .1, ap isOpen (c .before .before .enum-told .given .1)))
 
@@ -57,7 +57,7 @@ returns : tie.Need-returns
 returns c =
     let j = c .before .before .before in
     let s = j .before .before .before .before .before .before .before .before in
-    j .judge-one .ensures
+    j .take-open .ensures
     ∙ ap (leftAt (plan (s .args .cycle .now) (s .args .t)))
     (sym (taken-open (course s) (before s) (s .args .x) (ap isOpen (j .before .before .before .enum-told .given .1))))
 
@@ -76,7 +76,7 @@ take-one-spec =
     tie.close
     (tie.spec
     enum-told
-    judge-one-requires
+    take-open-requires
     enum-told-2
     offered-by-requires
     enum-told-3

@@ -6,7 +6,7 @@ use borrow.Author.Tests.{not-true, not-false}
 use mir.Syntax.{w64}
 use mir.Val.{SFits}
 use Rattle.numbers.proofs.Signed.{read}
-use Rattle.rules.specs.Closing.{isTransfer}
+use Rattle.laws.specs.Beside.{isTransfer}
 use Rattle.values.specs.Limits.{areAmounts}
 use Rattle.values.proofs.are_amounts.Statement.{statement}
 use Rattle.values.proofs.are_amounts.Tie as tie

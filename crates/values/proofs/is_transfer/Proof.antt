@@ -5,7 +5,7 @@ use borrow.Author.Needs.{needs}
 use mir.Syntax.{w64}
 use mir.Val.{SFits}
 use Rattle.numbers.proofs.Signed.{read}
-use Rattle.rules.specs.Closing.{isTransfer}
+use Rattle.laws.specs.Beside.{isTransfer}
 use Rattle.values.proofs.is_transfer.Statement.{statement}
 use Rattle.values.proofs.is_transfer.Tie as tie
 

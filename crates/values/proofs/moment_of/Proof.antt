@@ -7,11 +7,14 @@ use Rattle.numbers.proofs.Signed.{read}
 use Rattle.values.proofs.moment_of.Statement.{statement}
 use Rattle.values.proofs.moment_of.Tie as tie
 
+cast-t2 : tie.Need-cast-t2
+cast-t2 c = search needs
+
 drawn-by-requires : tie.Need-drawn-by-requires
 drawn-by-requires c κs = search needs
 
 returns : tie.Need-returns
-returns c = λ i. record { speed = c .before .args .x .speed; energy = (read {w = w64} (record { sfits = c .drawn-by .ok }) ∙ c .drawn-by .ensures) i }
+returns c = λ i. record { speed = c .before .before .args .x .speed; energy = (read {w = w64} (record { sfits = c .drawn-by .ok }) ∙ c .drawn-by .ensures) i }
 
 pub moment-of-spec : {M : Type 1} → statement M
-moment-of-spec = tie.close (tie.spec drawn-by-requires returns)
+moment-of-spec = tie.close (tie.spec cast-t2 drawn-by-requires returns)

@@ -60,6 +60,22 @@ returns-5 c =
       lt-leb _ _ (c .if5 .taken),
     )
 
+is-held-requires : tie.Need-is-held-requires
+is-held-requires c κs = search needs
+
+returns-6 : tie.Need-returns-6
+unfolding isRun
+returns-6 c =
+    let few = c .before .before in
+    simp (
+      le-leb _ _ (few .before .before .before .before .before .before .before .before .if1 .left),
+      le-leb _ _ (few .before .before .before .before .before .before .if2 .left),
+      fine-ends (few .before .before .before .before),
+      is-tolerated (few .before .before),
+      le-leb _ _ (few .if5 .left),
+      sym (c .before .is-held .ensures) ∙ not-true _ (c .if6 .taken),
+    )
+
 mul-is-progress : tie.Need-mul-is-progress
 mul-is-progress c = search needs
 
@@ -69,10 +85,11 @@ mul-is-progress-2 c = search needs
 is-progress-requires : tie.Need-is-progress-requires
 is-progress-requires c κs = search needs
 
-returns-6 : tie.Need-returns-6
+returns-7 : tie.Need-returns-7
 unfolding isRun
-returns-6 c =
-    let few = c .before .before in
+returns-7 c =
+    let held = c .before .before in
+    let few = held .before .before in
     c .is-progress .ensures
     ∙ rw (
       le-leb _ _ (few .before .before .before .before .before .before .before .before .if1 .left),
@@ -80,6 +97,7 @@ returns-6 c =
       fine-ends (few .before .before .before .before),
       is-tolerated (few .before .before),
       le-leb _ _ (few .if5 .left),
+      sym (held .before .is-held .ensures) ∙ not-false _ (held .if6 .left),
     )
 
 pub is-run-spec : {M : Type 1} → statement M
@@ -93,7 +111,9 @@ is-run-spec =
     is-tolerable-requires
     returns-4
     returns-5
+    is-held-requires
+    returns-6
     mul-is-progress
     mul-is-progress-2
     is-progress-requires
-    returns-6)
+    returns-7)

@@ -41,16 +41,16 @@ turned-by-requires c κs = c .before .before .before .pre
 returns : tie.Need-returns
 returns c = search needs
 
-add-t7 : tie.Need-add-t7
-add-t7 c = omega (arith, c .before .before .before .before .before .before .pre .few)
+add-t8 : tie.Need-add-t8
+add-t8 c = omega (arith, c .before .before .before .before .before .before .pre .few)
 
-add-t9 : tie.Need-add-t9
-add-t9 c =
+add-t10 : tie.Need-add-t10
+add-t10 c =
     let start = c .before .before .before .before .before .before .before in
     omega (arith, start .pre .room, good start .short)
 
-add-t12 : tie.Need-add-t12
-add-t12 c = search needs
+add-t13 : tie.Need-add-t13
+add-t13 c = search needs
 
 shift-requires : tie.Need-shift-requires
 shift-requires c κs =
@@ -61,9 +61,9 @@ shift-requires c κs =
 returns-2 : tie.Need-returns-2
 returns-2 c =
     let start = c .before .before .before .before .before .before .before .before in
-    moved-is (start .args .cycle .now) (good start) (start .args .w) (start .args .g) (start .pre .stands) (omega arith) (start .pre .room) (c .shift .result) (c .shift .ensures)
+    moved-is (start .args .cycle .now) (good start) (start .args .w) (start .args .g) (start .pre .stands) (omega arith) (start .args .x) (c .shift .result) (c .shift .ensures)
 
 pub counted-by-spec : {M : Type 1} → statement M
 counted-by-spec =
     tie.close
-    (tie.spec add-if1 turned-by-requires returns add-t7 add-t9 add-t12 shift-requires returns-2)
+    (tie.spec add-if1 turned-by-requires returns add-t8 add-t10 add-t13 shift-requires returns-2)

@@ -3,7 +3,6 @@
 use mathlib.Core.Path.{_≡_, sym, ap, _∙_}
 use Prim.Native.Nat.{_<_}
 use native.Mathlib.Omega.{arith}
-use borrow.Author.Needs.{needs}
 use Rattle.rules.specs.Cycle.{phaseAt}
 use Rattle.rules.specs.Regular.{cycleOf, positionOf}
 use Rattle.laws.proofs.Sound.{Sound, sound}
@@ -42,8 +41,8 @@ seconds-of-requires c κs = let s = good (c .before) in omega arith
 mul-if1 : tie.Need-mul-if1
 mul-if1 c = let s = good (c .before .before) in omega arith
 
-add-t11 : tie.Need-add-t11
-add-t11 c = omega (arith, small-position (c .before .before .before))
+add-t9 : tie.Need-add-t9
+add-t9 c = omega (arith, small-position (c .before .before .before))
 
 next-phase-requires : tie.Need-next-phase-requires
 next-phase-requires c κs =
@@ -53,18 +52,15 @@ next-phase-requires c κs =
 returns : tie.Need-returns
 returns c =
     let start = c .before .before .before .before in
-    next-within (start .args .cycle .now) (good start) (start .args .g .progress .counted) _ _ (at-row start) (at-position start) _ (omega arith) (start .pre .room) (c .next-phase .ensures)
+    next-within (start .args .cycle .now) (good start) (start .args .g .progress .counted) _ _ (at-row start) (at-position start) _ (omega arith) (c .next-phase .ensures)
 
-add-row : tie.Need-add-row
-add-row c = omega (arith, small-row (c .before .before .before .before))
-
-end-after-requires : tie.Need-end-after-requires
-end-after-requires c κs = search needs
+add-t11 : tie.Need-add-t11
+add-t11 c = omega (arith, small-row (c .before .before .before .before))
 
 returns-2 : tie.Need-returns-2
 returns-2 c =
-    let start = c .before .before .before .before .before in
-    next-first (start .args .cycle .now) (good start) (start .args .g .progress .counted) _ _ (at-row start) (at-position start) _ (omega arith) (c .end-after .ensures)
+    let start = c .before .before .before .before in
+    next-first (start .args .cycle .now) (good start) (start .args .g .progress .counted) _ _ (at-row start) (at-position start) (omega arith)
 
 pub next-place-spec : {M : Type 1} → statement M
 next-place-spec =
@@ -73,9 +69,8 @@ next-place-spec =
     add-if1
     seconds-of-requires
     mul-if1
-    add-t11
+    add-t9
     next-phase-requires
     returns
-    add-row
-    end-after-requires
+    add-t11
     returns-2)

@@ -9,6 +9,7 @@ use Rattle.rules.specs.Regular.{positionOf}
 use Rattle.laws.proofs.Sound.{Sound, sound, real, phase-exists}
 use Rattle.step.specs.Step.{Next}
 use Rattle.step.proofs.Placing.{turned-is}
+use Rattle.step.proofs.Standing.{row-is, phase-is}
 use Rattle.step.proofs.places.turned_by.Statement.{statement}
 use Rattle.step.proofs.places.turned_by.Tie as tie
 
@@ -56,7 +57,10 @@ until-in-requires c κs =
 returns : tie.Need-returns
 returns c =
     let next = c .before .before .before .before .before in
-    turned-is _ _ _ _ _ _ (next .next-place .result) (next .next-place .ensures) (c .before .before .before .before .window-at .ensures .0) (c .until-in .ensures)
+    let s = start next in
+    turned-is (s .args .cycle .now) _ _ _ (s .args .g .progress) (s .args .x) (next .next-place .result) (next .next-place .ensures)
+    (c .before .before .before .before .window-at .ensures .0) (c .until-in .ensures) _ _
+    (row-is (s .args .cycle .now) (good s) (s .args .w) (s .args .g) (s .pre .stands)) (phase-is (s .args .cycle .now) (good s) (s .args .w) (s .args .g) (s .pre .stands))
 
 pub turned-by-spec : {M : Type 1} → statement M
 turned-by-spec =
