@@ -29,7 +29,7 @@ use Rattle.map.proofs.Marks.{drop-markedIf, drop-opened}
 use Rattle.state.specs.declared.Run.{Run}
 use Rattle.state.specs.State.{Memory, lent}
 use Rattle.state.proofs.Checked.{ground-passed}
-use Rattle.step.specs.Step.{State, Kept, intervalClosed, positionNow, outNow, onlyOffered, judge, closing, limited, openTakenBy, sampleTaken, samplesTaken, leftAt, stateOf}
+use Rattle.step.specs.Step.{State, Kept, intervalClosed, positionNow, outNow, onlyOffered, judge, closedWith, limited, openTakenBy, sampleTaken, samplesTaken, leftAt, stateOf}
 use Rattle.step.proofs.Keeping.{kept-all}
 use Rattle.rules.specs.Values.{momentAt, countIn}
 use Rattle.blocks.proofs.Accepted.{one-accepted, block-accepted}
@@ -55,7 +55,7 @@ module _ (p : Plan) where
   y = courseOf p
 
   -- the open interval is closed in the ledger
-  closed-beyond : (a : State) (x : Moment) → Kept p (leftAt p a) → isOpen (a .progress .end) ≡ true → drop ledgerNumbers (closing y a x .memory .ledger) ≡ drop ledgerNumbers (a .memory .ledger)
+  closed-beyond : (a : State) (x : Moment) → Kept p (leftAt p a) → isOpen (a .progress .end) ≡ true → drop ledgerNumbers (closedWith y a x .memory .ledger) ≡ drop ledgerNumbers (a .memory .ledger)
   unfolding intervalClosed
   closed-beyond a x k e = go (eqb (a .progress .counted) 0)
     where
@@ -90,7 +90,7 @@ module _ (p : Plan) where
   taken-beyond a x k = go (isOpen (a .progress .end)) (ltb (a .progress .counted) (most (p .cycle))) refl refl
     where
       z : State
-      z = closing y a x
+      z = closedWith y a x
 
       closed : isOpen (a .progress .end) ≡ true → Beyond (a .memory) (z .memory)
       closed e = record { in-ledger = closed-beyond a x k e; in-map = refl }

@@ -33,7 +33,7 @@ use Rattle.ledger.specs.Row.{intervalAdded}
 use Rattle.map.proofs.Marks.{set-cleared, ones-cleared}
 use Rattle.state.specs.declared.Progress.{Progress}
 use Rattle.state.specs.State.{lent}
-use Rattle.step.specs.Step.{State, lastOf, heldOf, endedBy, countedOne, onlyOffered, intervalClosed, overNow, judge, closing, limited, openTakenBy, sampleTaken, samplesTaken, startOf}
+use Rattle.step.specs.Step.{State, lastOf, heldOf, endedBy, countedOne, onlyOffered, intervalClosed, overNow, judge, closedWith, limited, openTakenBy, sampleTaken, samplesTaken, startOf}
 use Rattle.judge.proofs.LedgerShows.{LedgerShows, ledger-closes, ledger-judged, test-over}
 use Rattle.judge.proofs.MapShows.{MapShows, map-next}
 
@@ -71,7 +71,7 @@ module _ (p : Plan) (s : ℕ → Moment) (l₀ : List ℤ) (m₀ : List ℕ) (so
   -- sample n closes the open interval, where there is one
   closed-shows : (n : ℕ) (l : List ℤ) (e : End) → LedgerShows c s l₀ (n - 1) n l → ((j : ℕ) → suc j ≡ n → c .layout .row j < mostCycles)
       → LedgerShows c s l₀ n n (
-      closing c (record { progress = record { offered = n; counted = n; end = e; held = lastOf s n }; memory = lent l m₀ }) (s n) .memory .ledger)
+      closedWith c (record { progress = record { offered = n; counted = n; end = e; held = lastOf s n }; memory = lent l m₀ }) (s n) .memory .ledger)
   unfolding intervalClosed
   closed-shows zero l e h row = h
   closed-shows (suc j) l e h row =
@@ -126,7 +126,7 @@ module _ (p : Plan) (s : ℕ → Moment) (l₀ : List ℤ) (m₀ : List ℕ) (so
 
     -- once the open interval is closed
     abbrev z : State
-    z = closing c a₀ (s n)
+    z = closedWith c a₀ (s n)
 
     hz : LedgerShows c s l₀ n n (z .memory .ledger)
     hz = closed-shows n (a .memory .ledger) (ending c s n) hl (λ j e. orderly .few-rows j (omega (arith, g .short)))

@@ -30,7 +30,7 @@ use Rattle.laws.proofs.Sound.{Sound, sound, real}
 use Rattle.laws.proofs.Regular.{regular-cycles}
 
 -- how a run stands after n samples: its end, the samples counted, the intervals closed, the cycles finished
-pub record Standing (c : Course) (s : ℕ → Moment) (n : ℕ) (e : End) (m k q : ℕ) : Type 0 where
+pub record StandsAfter (c : Course) (s : ℕ → Moment) (n : ℕ) (e : End) (m k q : ℕ) : Type 0 where
   pub end : ending c s n ≡ e
   pub samples : counted c s n ≡ m
   pub intervals : closed c s n ≡ k
@@ -64,7 +64,7 @@ module _ (b : List ℕ) (t : Tolerances) (o : Sound b) (s : ℕ → Moment) (in-
   finished-are : (n m q r : ℕ) → closed c s n ≡ m → m ≤ most b → r < N → m ≡ q * N + r → cycles (regularLayout b) (closed c s n) ≡ q
   finished-are n m q r e l h g = ap (cycles (regularLayout b)) e ∙ regular-cycles b o m l ∙ sym (digits m N q r h g .1)
 
-  pub not-yet : Standing c s (most b) none (most b) (most b - 1) 63
+  pub not-yet : StandsAfter c s (most b) none (most b) (most b - 1) 63
   not-yet =
       let e : closed c s (most b) ≡ most b - 1 = omega (arith, all-counted (most b)) in
       record {
@@ -74,7 +74,7 @@ module _ (b : List ℕ) (t : Tolerances) (o : Sound b) (s : ℕ → Moment) (in-
         finished = finished-are (most b) (most b - 1) 63 (N - 1) e (omega arith) (omega (arith, real o)) (omega (arith, real o));
       }
 
-  pub at-limit : Standing c s (most b + 1) limit (most b) (most b) 64
+  pub at-limit : StandsAfter c s (most b + 1) limit (most b) (most b) 64
   at-limit =
       let e : closed c s (most b + 1) ≡ most b = omega (arith, all-counted (most b + 1)) in
       record {
@@ -102,10 +102,10 @@ steady-in : (j : ℕ) → out (regular flat (allowing 3)) steady j ≡ false
 unfolding allBelow be fold grid20 inside
 steady-in j = rw (all-at 40 (λ p. inside flat (allowing 3) p 100) refl (j % 40) (mod-lt j (lit< tt)))
 
-pub row-2560 : Standing (regular flat (allowing 3)) steady 2560 none 2560 2559 63
+pub row-2560 : StandsAfter (regular flat (allowing 3)) steady 2560 none 2560 2559 63
 unfolding be
 row-2560 = not-yet flat (allowing 3) flat-sound steady steady-in
 
-pub row-2561 : Standing (regular flat (allowing 3)) steady 2561 limit 2560 2560 64
+pub row-2561 : StandsAfter (regular flat (allowing 3)) steady 2561 limit 2560 2560 64
 unfolding be
 row-2561 = at-limit flat (allowing 3) flat-sound steady steady-in

@@ -3,7 +3,7 @@
 use mathlib.Core.Path.{_≡_, refl, sym, ap, ap₂, _∙_, subst}
 use mathlib.Core.Bool.{Bool, true, false, _&&_}
 use mathlib.Core.List.{List}
-use Prim.Native.Nat.{ℕ, _+_, _*_, _≤_, _<_}
+use Prim.Native.Nat.{ℕ, _+_, _-_, _*_, _≤_, _<_}
 use native.Mathlib.Decide.{decLt}
 use native.Mathlib.Nat.{zero-add}
 use native.Mathlib.Omega.{arith}
@@ -63,7 +63,7 @@ module _ (a n : ℕ) (xs : List ℤ) (nine : n ≡ 9) (h : a + 9 ≤ length xs) 
   abbrev part : List ℤ
   part = midOf a n xs
 
-  pub part-length : length (midOf a n xs) ≡ 9
+  part-length : length (midOf a n xs) ≡ 9
   part-length = omega (arith, length-take n (drop a xs), length-drop a xs)
 
   put-plus : (ys : List ℤ) (j : ℕ) (z : ℤ) → j < length ys → putMid a n xs (plus ys j z) ≡ plus (putMid a n xs ys) (a + j) z
@@ -71,17 +71,17 @@ module _ (a n : ℕ) (xs : List ℤ) (nine : n ≡ 9) (h : a + 9 ≤ length xs) 
       put-set a n xs (omega arith) ys j (at ys j +ℤ z) g
       ∙ ap (λ (v : ℤ). set (putMid a n xs ys) (a + j) (v +ℤ z)) (sym (put-getD a n xs (omega arith) ys j (pos 0) g))
 
-  pub put-outside : (out : Bool) → putMid a n xs (outsideAdded 0 (midOf a n xs) out) ≡ outsideAdded a xs out
+  put-outside : (out : Bool) → putMid a n xs (outsideAdded 0 (midOf a n xs) out) ≡ outsideAdded a xs out
   put-outside true = put-plus part 8 (pos 1) (omega (arith, part-length)) ∙ ap (λ (l : List ℤ). plus l (a + 8) (pos 1)) (put-same a n xs)
   put-outside false = put-same a n xs
 
-  pub over-part : (out : Bool) (al : ℕ) → isOver 0 (midOf a n xs) out al ≡ isOver a xs out al
+  over-part : (out : Bool) (al : ℕ) → isOver 0 (midOf a n xs) out al ≡ isOver a xs out al
   over-part out al =
       ap (λ (z : ℤ). out && ltZ (pos al) z)
       (sym (put-getD a n xs (omega arith) (outsideAdded 0 part out) 8 (pos 0) (omega (arith, part-length, length-outside 0 part out)))
       ∙ ap (λ (l : List ℤ). at l (a + 8)) (put-outside out))
 
-  pub put-interval : (k : ℕ) (x y : Moment) → k < 4 → putMid a n xs (intervalAdded 0 (midOf a n xs) k x y) ≡ intervalAdded a xs k x y
+  put-interval : (k : ℕ) (x y : Moment) → k < 4 → putMid a n xs (intervalAdded 0 (midOf a n xs) k x y) ≡ intervalAdded a xs k x y
   unfolding intervalAdded
   put-interval k x y g =
       put-plus p₁ (0 + (4 + k)) d (omega (arith, part-length, length-plus part (0 + k) e))
@@ -100,9 +100,35 @@ module _ (a n : ℕ) (xs : List ℤ) (nine : n ≡ 9) (h : a + 9 ≤ length xs) 
       one = put-plus part (0 + k) e (omega (arith, part-length)) ∙ ap₂ (λ (l : List ℤ) (j : ℕ). plus l (a + j) e) (put-same a n xs) (zero-add k)
 
 -- a part of a list whose first m numbers are within n
-pub part-small : (n m a k : ℕ) (l : List ℤ) → ((j : ℕ) → j < m → Sized n (at l j)) → a + k ≤ m → Small n (midOf a k l)
+part-small : (n m a k : ℕ) (l : List ℤ) → ((j : ℕ) → j < m → Sized n (at l j)) → a + k ≤ m → Small n (midOf a k l)
 part-small n m a k l s h j = go (decLt j k)
   where
     go : Dec (j < k) → Sized n (at (midOf a k l) j)
     go (yes g) = subst (Sized n) (sym (getD-take k (drop a l) j (pos 0) g ∙ getD-drop a l j (pos 0))) (s (a + j) (omega arith))
     go (no g) = subst (Sized n) (sym (List·getD-eq-default (midOf a k l) (pos 0) (omega (arith, length-take k (drop a l))))) (of-nat (omega arith))
+
+-- the nine numbers of cycle c, as the code lends them on
+module _ (c : ℕ) (l : List ℤ) (row : c < mostCycles) (long : ledgerNumbers ≤ length l) where
+  abbrev nine : ℕ
+  nine = 9 * c + 9 - 9 * c
+
+  there : 9 * c + 9 ≤ length l
+  there = omega arith
+
+  pub nine-length : length (midOf (9 * c) (9 * c + 9 - 9 * c) l) ≡ 9
+  nine-length = part-length (9 * c) nine l (omega arith) there
+
+  pub nine-small : {n : ℕ} → ((i : ℕ) → i < ledgerNumbers → Sized n (at l i)) → Small n (midOf (9 * c) (9 * c + 9 - 9 * c) l)
+  nine-small {n} s j = part-small n ledgerNumbers (9 * c) nine l s (omega arith) j
+
+  pub nine-over : (out : Bool) (al : ℕ) → isOver 0 (midOf (9 * c) (9 * c + 9 - 9 * c) l) out al ≡ isOver (9 * c) l out al
+  nine-over = over-part (9 * c) nine l (omega arith) there
+
+  -- what is done to them is done to the ledger
+  pub nine-outside : {ys : List ℤ} (out : Bool) → ys ≡ outsideAdded 0 (midOf (9 * c) (9 * c + 9 - 9 * c) l) out
+      → putMid (9 * c) (9 * c + 9 - 9 * c) l ys ≡ outsideAdded (9 * c) l out
+  nine-outside out e = ap (putMid (9 * c) nine l) e ∙ put-outside (9 * c) nine l (omega arith) there out
+
+  pub nine-interval : {ys : List ℤ} (k : ℕ) (x y : Moment) → k < mostPhases → ys ≡ intervalAdded 0 (midOf (9 * c) (9 * c + 9 - 9 * c) l) k x y
+      → putMid (9 * c) (9 * c + 9 - 9 * c) l ys ≡ intervalAdded (9 * c) l k x y
+  nine-interval k x y h e = ap (putMid (9 * c) nine l) e ∙ put-interval (9 * c) nine l (omega arith) there k x y h

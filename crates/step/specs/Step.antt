@@ -78,8 +78,8 @@ module _ (c : Course) (a : State) (x : Moment) where
   }
 
   -- document 02, L2: the interval "is closed by the next accepted sample and belongs to the earlier one's phase"
-  abbrev pub closing : State
-  closing = let j = a .progress .counted - 1 in record {
+  abbrev pub closedWith : State
+  closedWith = let j = a .progress .counted - 1 in record {
     progress = a .progress;
     memory = lent (intervalClosed (a .progress) (c .layout .row j) (c .layout .phase j) (a .memory .ledger) x) (a .memory .map);
   }
@@ -90,7 +90,7 @@ limited a = record { progress = endedBy (a .progress) limit; memory = a .memory 
 
 -- a sample of an open run closes the last interval, and is judged where it can count
 unfoldable pub openTakenBy : Course → State → Moment → State
-openTakenBy c a x = let z = closing c a x in cond (ltb (a .progress .counted) (c .layout .most)) (judge c z x) (limited z)
+openTakenBy c a x = let z = closedWith c a x in cond (ltb (a .progress .counted) (c .layout .most)) (judge c z x) (limited z)
 
 unfoldable pub sampleTaken : Course → State → Moment → State
 sampleTaken c a x = cond (isOpen (a .progress .end)) (openTakenBy c a x) (onlyOffered a)
