@@ -7,8 +7,11 @@ from rows import *
 
 SLOW = NAMED + cycle([2], [0] * 3) + DRAFT
 
-STRICT = NAMED + LEVEL + tolerances(30, 20, 0)
-STOPPING = (131, 6000, -240)
+# A whole test by the shortened method: T = 2 and M of 20 samples, so that cycles 1 and 2 have samples 0 to 79, M 80 to 99, cycles 3 and 4 100 to 179, and E
+# those from 180 on; a set speed of 140. Samples draw 720,000 in cycles 1 and 2, 1,200,000 in M, 660,000 in cycles 3 and 4, in E 1,320,000 and then 900,000
+TWENTY = HEAD + stretches(20, 140)
+LATER, IN_M, IN_E, FALLING = (100, 6000, -110), (140, 6000, -200), (140, 6000, -220), (100, 6000, -150)
+IN_TURN = [*[GOOD] * 80, *[IN_M] * 20, *[LATER] * 80, *[IN_E] * 30, *[FALLING] * 85]
 
 EXAMPLES = [
     ("first", "document 01's example: of 120 samples the last interval is open, so two cycles are finished", EXAMPLE + recharge(15), told("none 120", 2, 0, 0, 171360000)),
@@ -30,6 +33,26 @@ EXAMPLES = [
     # W = [62 x 720,000 x 115,200,000 + 3,720,480,000 x (61 x 720,000 + 2,200,851)] / (62 x 3,835,680,000) = 743,167.34..;
     # 19,178,400,000 / 53,508,024 = 358.42.. metres
     ("limit-closed", "one sample more than 64 cycles have: far outside, allowance 0, but it is not judged and brings the limit", STRICT + blocks(2560, GOOD) + block(2560, FAR), told("limit 2560", 64, 0, 0, 3835680000, ["weighted 743167", "range 358", "ac -"])),
+    # Sample 210 is the first below, 100 + 30 < 140, and sample 289 the 80th: it stops the run and closes the last interval.
+    # e_1 = 40 x 1,440,000 = 57,600,000; d_1 = 40 x 200 = 8,000; q_1 = 720,000
+    # e_2 = 39 x 1,440,000 + 1,920,000 = 58,080,000; d_2 = 39 x 200 + 240 = 8,040; q_2 = 722,388 (.05)
+    # M has 19 x 2,400,000 + 1,860,000 = 47,460,000
+    # e_3 = 40 x 1,320,000 = 52,800,000; d_3 = 8,000; q_3 = 660,000
+    # e_4 = 39 x 1,320,000 + 1,980,000 = 53,460,000; d_4 = 8,040; q_4 = 664,925 (.37)
+    # E has 29 x 2,640,000 + 2,220,000 + 79 x 1,800,000 = 220,980,000
+    # drawn is the sum of the six, 490,380,000; E = 2 x 28,800,000 + 490,380,000 = 547,980,000; F = 2 x 14,400,000 = 28,800,000
+    # W = [2 x (720,000 x 57,600,000 + 722,388 x 58,080,000) + (547,980,000 - 115,680,000) x (660,000 + 664,925)] / (2 x 547,980,000)
+    # = (166,856,590,080,000 + 572,765,077,500,000) / 1,095,960,000 = 674,861.91..; 5 x 547,980,000 / (72 x 674,861) = 2,739,900,000 / 48,589,992 = 56.38.. metres
+    # 547,980,000 x 45 x 1,000,000 / (576,780,000 x 56) = 763,447.19..
+    ("shortened", "a whole test by the shortened method: the 80th sample below the set speed in E stops it", TWENTY + transfer(0, 28800000) + drive(*IN_TURN) + transfer(1, 14400000) + recharge(45), told("stop 289", 4, 0, 0, 490380000, ["weighted 674861", "range 56", "ac 763447"])),
+    # e_1, e_2 and M as before. Sample 110 is position 10 of cycle 3: ten intervals are closed in it, 9 x 1,320,000 + 660,000 + 1,440,000 = 13,980,000
+    ("shortened-stop", "a stop in cycle 3 of the shortened method: only cycles are judged by the band, and M before it is not", STRICT + stretches(20, 140) + drive(*IN_TURN[:110], STOPPING, *[LATER] * 5), told("stop 110", 2, 1, 0, 177120000)),
+    # e_1, e_2 and 9 x 2,400,000 in M
+    ("shortened-in-m", "a shortened test that ends inside M: two cycles are finished", TWENTY + drive(*IN_TURN[:90]), told("none 90", 2, 0, 0, 137280000)),
+    # e_1, e_2, M, e_3 and e_4 as before, and nothing in E. E = drawn = 269,400,000;
+    # W = (166,856,590,080,000 + 153,720,000 x 1,324,925) / (2 x 269,400,000) = 687,683.85..; 1,347,000,000 / 49,513,176 = 27.20.. metres;
+    # 45,000,000 / 27 = 1,666,666.66..
+    ("shortened-open", "four cycles of the shortened method and one sample of E, which closes the fourth: nothing is closed in E", TWENTY + drive(*IN_TURN[:181]) + recharge(45), told("none 181", 4, 0, 0, 269400000, ["weighted 687683", "range 27", "ac 1666666"])),
     ("twins", "two trucks of one model on twin rollers: the other's blocks are passed over, whatever they hold", EXAMPLE + block(7, (9000, 0, 0), number=OTHER) + block(120, *[GOOD] * 41) + block(0, GOOD, number=OTHER) + recharge(15), told("none 161", 4, 0, 2, 230400000, ["weighted 720000", "range 22", "ac 681818"])),
     # E = 2 x 10^13 + 172,800,000, and E + F = 172,800,000. 100,000,864,000,000 / 51,840,000 = 1,929,029.01.. metres;
     # 300,002,592,000,000,000,000 / (172,800,000 x 1,929,029) = 900,000.00..
@@ -41,7 +64,10 @@ EXAMPLES = [
     ("refused-6", "a block that begins at sample 0 again", HEAD + block(0, GOOD) + block(0, GOOD), refused(6, 6)),
     ("refused-8", "the mark RUN2", field(1, b"RUN2"), refused(8, 1)),
     ("refused-9", "an energy before the test that stands after the first own block", HEAD + block(0, GOOD) + transfer(0, 0), refused(9, 6)),
+    ("refused-9-stretches", "a field 8 that stands after an energy before the test", HEAD + transfer(0, 0) + stretches(20, 140), refused(9, 6)),
     ("refused-10", "two finished cycles only", HEAD + block(0, *[GOOD] * 81), told("none 81", 2, 0, 0, 115200000)),
+    # e_1, e_2, M and e_3 as before, and 39 x 1,320,000 in cycle 4, whose last interval is open
+    ("refused-10-shortened", "three finished cycles of the shortened method, which asks for four", TWENTY + drive(*IN_TURN[:180]), told("none 180", 3, 0, 0, 267420000)),
     ("refused-11", "a battery that is charged all along", HEAD + block(0, *[(100, 6000, 120)] * 121), closed("refused 11", drawn=-172800000)),
     ("refused-12", "a vehicle that stands", SLOW + block(0, *[(0, 6000, -120)] * 121), closed("refused 12")),
     ("refused-12-late", "a recharge of 161 Wh for 16 metres: the recharge figure is above its limit", DRIVEN + recharge(161), driven("refused 12")),
@@ -50,6 +76,7 @@ EXAMPLES = [
     ("refused-14-late", "all energy given back after the test", DRIVEN + transfer(1, -86400000) + recharge(15), driven("refused 14")),
     ("refused-15", "an input that ends inside a block", HEAD + block(0, GOOD)[:-1], refused(15, 5)),
     ("refused-15-early", "an input that ends before the tolerances", NAMED + LEVEL, refused(15, 4)),
+    ("refused-19", "a field 8 with an M of no samples", HEAD + stretches(0, 140), refused(19, 5)),
 ]
 
 

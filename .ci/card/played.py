@@ -20,41 +20,91 @@ def is_inside(p, v, s):
     return min(window) <= 20 * v + 20 * s and 20 * v <= max(window) + 20 * s
 
 
-def play(s, allowance, offered, fast, asked):
-    """End (0 none, 1 stop, 2 limit), counted, cycles finished, outside, drawn; ones in the map, outside in the cycle last judged, agree; the asked set.
-    Then two rows of the ledger: of each the energies and distances of the two phases, and the outside count."""
-    samples = [FAST if i in fast else SLOW for i in range(offered)]
+def place(j, method):
+    """The row and position of sample j; None for M, E, and behind cycle 64. Document 02, L5: two cycles, M of m samples, two cycles, E."""
+    if method is None:
+        return divmod(j, N) if j < 64 * N else None
+    if j < 2 * N:
+        return divmod(j, N)
+    return divmod(j - method[0], N) if 2 * N + method[0] <= j < 4 * N + method[0] else None
+
+
+def stops_in_e(speeds, s, u):
+    """"from there the run stops at the 80th consecutive sample below the set speed less the speed tolerance": the speeds of E up to a sample."""
+    reached = [i for i, v in enumerate(speeds) if v >= u]
+    return bool(reached) and len(speeds) - reached[0] > 80 and all(v < u - s for v in speeds[-80:])
+
+
+def watch_of(speeds, s, u):
+    """0 until a sample of E has reached the set speed; then 1 and the samples below in a row, up to the last that counts."""
+    reached = [i for i, v in enumerate(speeds) if v >= u]
+    if not reached:
+        return 0
+    not_below = [i for i, v in enumerate(speeds) if v >= u - s and i >= reached[0]]
+    return 1 + len(speeds) - 1 - not_below[-1]
+
+
+def judge(s, allowance, samples, method):
+    """End (0 none, 1 stop, 2 limit), counted, the outside counts, the positions set, the cycle last judged, the speeds of E that count."""
     end = counted = cycle = 0
-    outside, marks = [0] * 64, set()
-    for speed, _ in samples:
-        if counted == 64 * N:
+    outside, marks, in_e = [0] * 64, set(), []
+    for j, (speed, _) in enumerate(samples):
+        at = place(j, method)
+        if at is not None:
+            cycle, p = at
+            if p == 0:
+                marks = set()
+            if not is_inside(p, speed, s):
+                outside[cycle] += 1
+                marks.add(p)
+            if outside[cycle] > allowance:
+                end = 1
+                break
+        elif method is None:
             end = 2  # "after cycle 64 it is not judged"
             break  # later samples raise only the number offered
-        cycle, p = divmod(counted, N)
-        if p == 0:
-            marks = set()
-        if not is_inside(p, speed, s):
-            outside[cycle] += 1
-            marks.add(p)
-        if outside[cycle] > allowance:
-            end = 1
-            break
+        elif j >= 4 * N + method[0]:
+            if stops_in_e(in_e + [speed], s, method[1]):
+                end = 1
+                break
+            in_e.append(speed)
         counted += 1
+    return end, counted, outside, marks, cycle, in_e
+
+
+def play(s, allowance, offered, fast, asked, method=None):
+    """End, counted, cycles finished, outside, drawn; ones in the map, outside in the cycle last judged, agree; the asked set. Then rows of the ledger: of
+    each the energies and distances of the two phases, and the outside count. Of a shortened run then energy and distance of M and of E, and the watch."""
+    samples = [FAST if i in fast else SLOW for i in range(offered)]
+    end, counted, outside, marks, cycle, in_e = judge(s, allowance, samples, method)
     # "A sample's interval is closed by the next accepted sample and belongs to the earlier one's phase": a stopping sample begins none
     closed = [j for j in range(counted) if j + 1 < offered]
-    ledger = [[0] * 9 for _ in range(64)]
+    ledger, stretches = [[0] * 9 for _ in range(64)], [0] * 4
+    shares = [0] * 64
     for j in closed:
-        c, p = divmod(j, N)
+        energy, distance = samples[j][1] + samples[j + 1][1], samples[j][0] + samples[j + 1][0]
+        at = place(j, method)
+        if at is None:
+            which = 0 if j < 2 * N + method[0] else 2
+            stretches[which] += energy
+            stretches[which + 1] += distance
+            continue
+        c, p = at
         phase = next(k for k, last in enumerate(ENDS) if p < 20 * last)
-        ledger[c][phase] += samples[j][1] + samples[j + 1][1]
-        ledger[c][4 + phase] += samples[j][0] + samples[j + 1][0]
-    drawn = sum(sum(row[:4]) for row in ledger)
-    figures = (end, counted, len(closed) // N, sum(outside), drawn, len(marks), outside[cycle], int(len(marks) == outside[cycle]), *[int(p in marks) for p in asked])
-    return figures, *[(*[ledger[c][k] for k in (0, 1, 4, 5)], outside[c]) for c in rows_of(offered)]
+        ledger[c][phase] += energy
+        ledger[c][4 + phase] += distance
+        shares[c] += 1
+    drawn = sum(sum(row[:4]) for row in ledger) + stretches[0] + stretches[2]
+    shown = (len(marks), outside[cycle], int(len(marks) == outside[cycle]))
+    figures = (end, counted, shares.count(N), sum(outside), drawn, *shown, *[int(p in marks) for p in asked])
+    rows = [(*[ledger[c][k] for k in (0, 1, 4, 5)], outside[c]) for c in rows_of(offered, method)]
+    return figures, *rows, *([] if method is None else [(*stretches, watch_of(in_e, s, method[1]))])
 
 
-def rows_of(offered):
-    """The rows that are printed: the first two, or the last two."""
+def rows_of(offered, method):
+    """The rows that are printed: the first two, or the last two; of a shortened run its four."""
+    if method is not None:
+        return range(4)
     return (0, 1) if offered < 64 * N else (62, 63)
 
 
@@ -112,6 +162,102 @@ RUNS = [
     (30, 0, 2561, range(2560, 2561), (0, 39), (2, 2560, 64, 0, 3687120000, 0, 0, 1, 0, 0), ALL_SLOW, (28800000, 29520000, 4000, 4031, 0)),
 ]
 
+# The shortened method. T = 2 again, and M of 10 samples in most runs: cycles 1 and 2 have samples 0 to 79, M 80 to 89, cycle 3 90 to 129, cycle 4 130 to 169,
+# and E those from 170 on. The set speed is 131 in most: a fast sample has reached it, and at s = 30 a slow one is below, since 100 + 30 < 131; at s = 31 it is
+# not. In each run: s, allowance, M's length, the set speed, samples offered, the fast ones, one fast one more or 0, two positions asked; then the figures, the
+# four rows of the ledger, and energy and distance of M, energy and distance of E, the watch.
+SLOW_M = (14400000, 2000)  # ten intervals
+ONE_FAST = (7920000, 0, 1031, 0, 1)  # five intervals of a first phase, the last closed by the fast sample that stops the run: 4 x 1,440,000 + 2,160,000
+LAST_FAST = (28800000, 29520000, 4000, 4031, 0)  # a cycle whose last interval goes on to a fast sample: 19 x 1,440,000 + 2,160,000 in its second phase
+THREE_SLOW = (ALL_SLOW, ALL_SLOW, ALL_SLOW)
+FAST_AT_END = (28800000, 32400000, 4000, 4155, 2)  # the last two samples and the one behind are fast: 17 x 1,440,000 + 2,160,000 + 2 x 2,880,000
+SHORTENED = [
+    # ends inside M: 84 intervals, of which four are of M.
+    (30, 0, 10, 131, 85, range(0, 0), 0, (0, 39), (0, 85, 2, 0, 120960000, 0, 0, 1, 0, 0), ALL_SLOW, ALL_SLOW, NOTHING, NOTHING, (5760000, 800, 0, 0, 0)),
+    # samples 78 and 79 of cycle 2 are outside, and 80 to 83 of M are as fast and not judged: a count of 2, not above 2. The map shows cycle 2 through M.
+    # M has 3 x 2,880,000 + 2,160,000 + 1,440,000.
+    (
+        30, 2, 10, 131, 86, range(78, 84), 0, (38, 0), (0, 86, 2, 2, 131040000, 2, 2, 1, 1, 0),
+        ALL_SLOW, FAST_AT_END, NOTHING, NOTHING, (12240000, 1217, 0, 0, 0),
+    ),
+    # the same up to M's last sample, whose interval is open: M has nine intervals, four slow ones more.
+    (
+        30, 2, 10, 131, 90, range(78, 84), 0, (38, 0), (0, 90, 2, 2, 136800000, 2, 2, 1, 1, 0),
+        ALL_SLOW, FAST_AT_END, NOTHING, NOTHING, (18000000, 2017, 0, 0, 0),
+    ),
+    # the first sample of cycle 3 closes M and clears the map.
+    (
+        30, 2, 10, 131, 91, range(78, 84), 0, (38, 0), (0, 91, 2, 2, 138240000, 0, 0, 1, 0, 0),
+        ALL_SLOW, FAST_AT_END, NOTHING, NOTHING, (19440000, 2217, 0, 0, 0),
+    ),
+    # a stop in cycle 1, by sample 5; in cycle 2, by sample 45.
+    (30, 0, 10, 131, 50, range(5, 6), 0, (5, 6), (1, 5, 0, 1, 7920000, 1, 1, 1, 1, 0), ONE_FAST, NOTHING, NOTHING, NOTHING, (0, 0, 0, 0, 0)),
+    (30, 0, 10, 131, 50, range(45, 46), 0, (5, 39), (1, 45, 1, 1, 65520000, 1, 1, 1, 1, 0), ALL_SLOW, ONE_FAST, NOTHING, NOTHING, (0, 0, 0, 0, 0)),
+    # in cycle 3, by sample 95, which is position 5 there; in cycle 4, by sample 155, which is position 25, in the second phase.
+    (30, 0, 10, 131, 100, range(95, 96), 0, (5, 15), (1, 95, 2, 1, 137520000, 1, 1, 1, 1, 0), ALL_SLOW, ALL_SLOW, ONE_FAST, NOTHING, (*SLOW_M, 0, 0, 0)),
+    (
+        30, 0, 10, 131, 160, range(155, 156), 0, (25, 35), (1, 155, 3, 1, 223920000, 1, 1, 1, 1, 0),
+        *THREE_SLOW, (28800000, 7920000, 4000, 1031, 1), (*SLOW_M, 0, 0, 0),
+    ),
+    # by sample 90, the first of cycle 3: it closes M, 9 x 1,440,000 + 2,160,000, and clears the map.
+    (
+        30, 0, 10, 131, 95, range(90, 91), 0, (0, 39), (1, 90, 2, 1, 130320000, 1, 1, 1, 1, 0),
+        ALL_SLOW, ALL_SLOW, (0, 0, 0, 0, 1), NOTHING, (15120000, 2031, 0, 0, 0),
+    ),
+    # by sample 169, the last of cycle 4, which is unfinished: its second phase has 18 x 1,440,000 + 2,160,000.
+    (
+        30, 0, 10, 131, 175, range(169, 170), 0, (39, 0), (1, 169, 3, 1, 244080000, 1, 1, 1, 1, 0),
+        *THREE_SLOW, (28800000, 28080000, 4000, 3831, 1), (*SLOW_M, 0, 0, 0),
+    ),
+    # M of one sample, which is fast and not judged: it closes cycle 2, and its own interval is M's. Sample 81 is the first of cycle 3.
+    (
+        30, 0, 1, 131, 83, range(80, 81), 0, (0, 39), (0, 83, 2, 0, 119520000, 0, 0, 1, 0, 0),
+        ALL_SLOW, LAST_FAST, (1440000, 0, 200, 0, 0), NOTHING, (2160000, 231, 0, 0, 0),
+    ),
+    # the same with sample 81 fast: it stops the run.
+    (
+        30, 0, 1, 131, 83, range(80, 82), 0, (0, 39), (1, 81, 2, 1, 118800000, 1, 1, 1, 1, 0),
+        ALL_SLOW, LAST_FAST, (0, 0, 0, 0, 1), NOTHING, (2880000, 262, 0, 0, 0),
+    ),
+    # 170 samples: cycle 4 lacks its last interval. One more closes it: four are finished, and none is closed in E. The set speed is not reached.
+    (
+        30, 0, 10, 131, 170, range(0, 0), 0, (0, 39), (0, 170, 3, 0, 243360000, 0, 0, 1, 0, 0),
+        *THREE_SLOW, (28800000, 27360000, 4000, 3800, 0), (*SLOW_M, 0, 0, 0),
+    ),
+    (30, 0, 10, 131, 171, range(0, 0), 0, (0, 39), (0, 171, 4, 0, 244800000, 0, 0, 1, 0, 0), *THREE_SLOW, ALL_SLOW, (*SLOW_M, 0, 0, 0)),
+    # E's first sample is fast: it is not outside, and has reached the set speed.
+    (30, 0, 10, 131, 171, range(170, 171), 0, (0, 39), (0, 171, 4, 0, 245520000, 0, 0, 1, 0, 0), *THREE_SLOW, LAST_FAST, (*SLOW_M, 0, 0, 1)),
+    # samples 171 to 249 are 79 below: no stop. E has 2,160,000 + 78 x 1,440,000.
+    (30, 0, 10, 131, 250, range(170, 171), 0, (0, 39), (0, 250, 4, 0, 360000000, 0, 0, 1, 0, 0), *THREE_SLOW, LAST_FAST, (*SLOW_M, 114480000, 15831, 80)),
+    # sample 250 is the 80th: it stops the run and closes the last interval, and neither counts nor is outside.
+    (30, 0, 10, 131, 251, range(170, 171), 0, (0, 39), (1, 250, 4, 0, 361440000, 0, 0, 1, 0, 0), *THREE_SLOW, LAST_FAST, (*SLOW_M, 115920000, 16031, 80)),
+    # nine samples more, one of them fast, change nothing.
+    (30, 0, 10, 131, 260, range(170, 171), 255, (0, 39), (1, 250, 4, 0, 361440000, 0, 0, 1, 0, 0), *THREE_SLOW, LAST_FAST, (*SLOW_M, 115920000, 16031, 80)),
+    # 79 below, sample 250 fast, 79 below: no stop. E has 3 x 2,160,000 + 156 x 1,440,000. One more is the 80th in a row.
+    (30, 0, 10, 131, 330, range(170, 171), 250, (0, 39), (0, 330, 4, 0, 476640000, 0, 0, 1, 0, 0), *THREE_SLOW, LAST_FAST, (*SLOW_M, 231120000, 31893, 80)),
+    (30, 0, 10, 131, 331, range(170, 171), 250, (0, 39), (1, 330, 4, 0, 478080000, 0, 0, 1, 0, 0), *THREE_SLOW, LAST_FAST, (*SLOW_M, 232560000, 32093, 80)),
+    # a set speed of 132 is never reached, neither by ten fast samples: E has 9 x 2,880,000 + 2,160,000 + 119 x 1,440,000.
+    (30, 0, 10, 132, 300, range(170, 180), 0, (0, 39), (0, 300, 4, 0, 444960000, 0, 0, 1, 0, 0), *THREE_SLOW, LAST_FAST, (*SLOW_M, 199440000, 26389, 0)),
+    # at s = 31 a slow sample is not below: 129 intervals in E, 2,160,000 + 128 x 1,440,000.
+    (31, 0, 10, 131, 300, range(170, 171), 0, (0, 39), (0, 300, 4, 0, 432000000, 0, 0, 1, 0, 0), *THREE_SLOW, LAST_FAST, (*SLOW_M, 186480000, 25831, 1)),
+    # s = u: no speed is below. Slow samples have reached the set speed: 129 x 1,440,000 in E.
+    (30, 0, 10, 30, 300, range(0, 0), 0, (0, 39), (0, 300, 4, 0, 430560000, 0, 0, 1, 0, 0), *THREE_SLOW, ALL_SLOW, (*SLOW_M, 185760000, 25800, 1)),
+    # the set speed is reached in M, by all ten samples, and in cycle 4, by sample 150, which is position 20 and outside; but not in E. M has
+    # 9 x 2,880,000 + 2,160,000, either phase of cycle 4 19 x 1,440,000 + 2,160,000. The map shows cycle 4 through E.
+    (
+        30, 1, 10, 131, 300, range(80, 90), 150, (20, 0), (0, 300, 4, 1, 446400000, 1, 1, 1, 1, 0),
+        ALL_SLOW, LAST_FAST, ALL_SLOW, (29520000, 29520000, 4031, 4031, 1), (28080000, 2589, 185760000, 25800, 0),
+    ),
+    # samples 168 and 169 of cycle 4 are outside, and 170 to 174 of E are as fast: a count of 2, not above 2; then five below. The map shows cycle 4 through E.
+    # E has 4 x 2,880,000 + 2,160,000 + 4 x 1,440,000.
+    (30, 2, 10, 131, 180, range(168, 175), 0, (38, 0), (0, 180, 4, 2, 267840000, 2, 2, 1, 1, 0), *THREE_SLOW, FAST_AT_END, (*SLOW_M, 19440000, 2079, 6)),
+    # 50 samples of E are below before sample 220 reaches the set speed; samples 221 to 299 are 79 below. One more is the 80th.
+    (30, 0, 10, 131, 300, range(220, 221), 0, (0, 39), (0, 300, 4, 0, 432000000, 0, 0, 1, 0, 0), *THREE_SLOW, ALL_SLOW, (*SLOW_M, 187200000, 25862, 80)),
+    (30, 0, 10, 131, 301, range(220, 221), 0, (0, 39), (1, 300, 4, 0, 433440000, 0, 0, 1, 0, 0), *THREE_SLOW, ALL_SLOW, (*SLOW_M, 188640000, 26062, 80)),
+    # more samples than 64 cycles have: there is no end by limit. 2429 x 1,440,000 in E.
+    (30, 0, 10, 132, 2600, range(0, 0), 0, (0, 39), (0, 2600, 4, 0, 3742560000, 0, 0, 1, 0, 0), *THREE_SLOW, ALL_SLOW, (*SLOW_M, 3497760000, 485800, 0)),
+]
+
 NAMES = ["end", "counted", "cycles", "outside", "drawn", "ones", "outside", "agree"]
 
 
@@ -121,15 +267,30 @@ def row_text(number, row):
     return f"row {number} energies {first} {second} 0 0 distances {near} {far} 0 0 outside {outside}"
 
 
+def stretched_text(numbers):
+    return "M energy {} distance {}, E energy {} distance {}, watch {}".format(*numbers)
+
+
+def say(method, offered, asked, worked, heading):
+    figures, *rows = worked
+    parts = [f"{name} {n}" for name, n in zip(NAMES, figures)] + [f"position {p} set {n}" for p, n in zip(asked, figures[8:])]
+    parts += [row_text(number, row) for number, row in zip(rows_of(offered, method), rows)]
+    parts += [] if method is None else [stretched_text(rows[-1])]
+    for how in "samples", "blocks":
+        print(f"{how}, {heading}: " + ", ".join(parts))
+
+
 def main():
     for s, allowance, offered, fast, asked, *worked in RUNS:
         again = play(s, allowance, offered, fast, asked)
         assert tuple(worked) == again, (worked, again)
-        figures, *rows = worked
-        parts = [f"{name} {n}" for name, n in zip(NAMES, figures)] + [f"position {p} set {n}" for p, n in zip(asked, figures[8:])]
-        parts += [row_text(number, row) for number, row in zip(rows_of(offered), rows)]
-        for how in "samples", "blocks":
-            print(f"{how}, s {s}, allowance {allowance}, offered {offered}, fast from {fast.start} upto {fast.stop}: " + ", ".join(parts))
+        say(None, offered, asked, worked, f"s {s}, allowance {allowance}, offered {offered}, fast from {fast.start} upto {fast.stop}")
+    for s, allowance, length, speed, offered, fast, more, asked, *worked in SHORTENED:
+        again = play(s, allowance, offered, [*fast, *[more] * (more > 0)], asked, (length, speed))
+        assert tuple(worked) == again, (worked, again)
+        heading = f"s {s}, allowance {allowance}, M {length}, set speed {speed}, offered {offered}, fast from {fast.start} upto {fast.stop}"
+        heading += f" and {more}" if more > 0 else ""
+        say((length, speed), offered, asked, worked, heading)
 
 
 if __name__ == "__main__":

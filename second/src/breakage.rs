@@ -40,9 +40,9 @@ fn remove_some(chance: &mut Chance, bytes: &mut Vec<u8>, at: usize) {
 
 /// Bytes behind the record: often a known tag, which begins a field.
 fn append_some(chance: &mut Chance, bytes: &mut Vec<u8>) {
-    bytes.push(chance.between16(0, 8) as u8);
+    bytes.push(chance.between16(0, 9) as u8);
     for _ in 0..chance.below(5) {
-        bytes.push(chance.pick(&[0, 4, 9, 17, 27, 255]));
+        bytes.push(chance.pick(&[0, 4, 6, 9, 17, 27, 255]));
     }
 }
 

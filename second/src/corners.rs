@@ -1,5 +1,6 @@
 //! Corners of the closing: cycles whose energies and distances are wished
-//! for exactly, at and beside every limit of 10, 11, 12 and 13.
+//! for exactly, at and beside every limit of 10, 11, 12 and 13. One in two is
+//! of the shortened method.
 
 use crate::chance::Chance;
 use crate::closing::close;
@@ -7,6 +8,7 @@ use crate::draft::{sprinkle_foreign, Draft};
 use crate::recharge::recharge_corner;
 use crate::record::MOST_TRANSFER;
 use crate::run::Finished;
+use crate::shortened::{Stretches, SHORTENED_CYCLES};
 use crate::wish::Wish;
 
 /// A record at some corner of the closing or of the recharge figure.
@@ -26,9 +28,11 @@ pub fn corner(chance: &mut Chance) -> Vec<Vec<u8>> {
 }
 
 fn usual_wish(chance: &mut Chance, positions: usize) -> Wish {
-    let cycles = chance.between(3, 5);
+    let shortened = chance.one_in(2);
+    let cycles = if shortened { SHORTENED_CYCLES } else { chance.between(3, 5) as usize };
     Wish {
         finished: (0..cycles).map(|_| usual_cycle(chance, positions)).collect(),
+        m: shortened.then(|| usual_m(chance)),
         open: if chance.one_in(3) { chance.between(-200_000, 200_000).into() } else { 0 },
         before: chance.one_in(3).then(|| chance.between(0, 1_000_000).into()),
         after: chance.one_in(3).then(|| chance.between(0, 1_000_000).into()),
@@ -40,6 +44,14 @@ fn usual_cycle(chance: &mut Chance, positions: usize) -> Finished {
     let distance = chance.between(600, Wish::most_distance(positions) as i64);
     let energy = chance.between(100 * distance, 50_000 * distance);
     Finished { energy: energy.into(), distance: distance.into() }
+}
+
+/// M draws energy, or gives some back.
+fn usual_m(chance: &mut Chance) -> (usize, Finished) {
+    let length = chance.between(12, 60) as usize;
+    let distance = chance.between(300, Wish::most_distance(length) as i64);
+    let energy = chance.between(-1_000, 50_000) * distance;
+    (length, Finished { energy: energy.into(), distance: distance.into() })
 }
 
 /// 11 or nearly: one cycle draws next to nothing. Now and then another one
@@ -57,7 +69,7 @@ fn thin(chance: &mut Chance, wish: &mut Wish) {
 }
 
 /// E is e_1 + e_2, one less or one more: by the transfer before the test, or
-/// by an open cycle that gives energy back.
+/// by an open cycle, or E, that gives energy back.
 fn split(chance: &mut Chance, wish: &mut Wish) {
     let energy = wish.first_two() + i128::from(chance.between(-1, 1));
     if chance.one_in(2) {
@@ -118,13 +130,20 @@ fn few(chance: &mut Chance, wish: &mut Wish) {
     if chance.one_in(2) {
         thin(chance, wish);
     }
-    wish.finished.truncate(chance.below(3));
+    let enough = if wish.m.is_some() { SHORTENED_CYCLES } else { 3 };
+    wish.finished.truncate(chance.below(enough));
 }
 
-/// Writes the wish as a record, with foreign blocks now and then.
+/// Writes the wish as a record, with foreign blocks now and then. No speed is
+/// above the speed tolerance of 100, so E brings no stop: either the set speed
+/// is not reached, or no speed is too slow.
 fn written(chance: &mut Chance, wish: &Wish, seconds: usize) -> Vec<Vec<u8>> {
     let tolerances = [100, chance.between16(0, 40), chance.between16(0, 1200)];
     let mut draft = Draft::new(chance, vec![0; seconds + 1], tolerances);
+    draft.stretches = wish.m.map(|(length, _)| {
+        let set_speed = chance.between(1, 1500) as i16;
+        Stretches { length, set_speed }
+    });
     draft.samples = wish.samples(chance, draft.positions());
     draft.before = wish.before.map(|energy| energy as i64);
     draft.after = wish.after.map(|energy| energy as i64);

@@ -2,16 +2,19 @@
 
 use crate::chance::Chance;
 use crate::cycle::{Cycle, Gate};
-use crate::write::{block, head, recharge, transfer, Raw, Vehicle};
+use crate::shortened::Stretches;
+use crate::write::{block, head, recharge, stretches, transfer, Raw, Vehicle};
 
 const CHARACTERS: &[u8] = b"0123456789ABCDEFGHJKLMNPRSTUVWXYZ";
 
-/// A record in plain numbers. Fields can be left out by `None`.
+/// A record in plain numbers. Fields can be left out by `None`; without
+/// stretches the method is the regular one.
 pub struct Draft {
     pub vehicle: Vehicle,
     pub phase_ends: Vec<u16>,
     pub points: Vec<u16>,
     pub tolerances: [u16; 3],
+    pub stretches: Option<Stretches>,
     pub before: Option<i64>,
     pub samples: Vec<Raw>,
     pub after: Option<i64>,
@@ -26,6 +29,7 @@ impl Draft {
             phase_ends: some_phases(chance, points.len() - 1),
             points,
             tolerances,
+            stretches: None,
             before: None,
             samples: Vec::new(),
             after: None,
@@ -36,6 +40,22 @@ impl Draft {
     /// 20T.
     pub fn positions(&self) -> usize {
         20 * (self.points.len() - 1)
+    }
+
+    /// The number of the first sample of a cycle, counted from 0. What would be
+    /// cycle 4 is E in the shortened method.
+    pub fn first_of(&self, cycle: usize) -> usize {
+        let m = self.stretches.filter(|_| cycle >= 2).map_or(0, |stretches| stretches.length);
+        cycle * self.positions() + m
+    }
+
+    /// The position at which this sample stands; none in M and in E.
+    pub fn position_of(&self, at: usize) -> Option<usize> {
+        let shortened = self.stretches.is_some();
+        let in_m = shortened && (2 * self.positions()..self.first_of(2)).contains(&at);
+        let in_e = shortened && at >= self.first_of(4);
+        let from = if at < self.first_of(2) { 0 } else { self.first_of(2) };
+        (!in_m && !in_e).then(|| (at - from) % self.positions())
     }
 
     /// The draft's cycle, as the rules know it.
@@ -68,6 +88,8 @@ impl Draft {
     /// All fields in order, the samples cut into blocks by chance.
     pub fn fields(&self, chance: &mut Chance) -> Vec<Vec<u8>> {
         let mut fields = head(&self.vehicle, &self.phase_ends, &self.points, self.tolerances);
+        let field_8 = |one: Stretches| stretches(one.length as u32, one.set_speed as u16);
+        fields.extend(self.stretches.map(field_8));
         fields.extend(self.before.map(|energy| transfer(0, energy)));
         fields.extend(self.blocks(chance));
         fields.extend(self.after.map(|energy| transfer(1, energy)));

@@ -1,8 +1,9 @@
-//! Driving: speeds near, at and beyond the edges of the band, and the
-//! voltage and current that go with them.
+//! Driving: speeds near, at and beyond the edges of the band, speeds about the
+//! set speed in M and E, and the voltage and current that go with them.
 
 use crate::chance::Chance;
 use crate::cycle::Gate;
+use crate::draft::Draft;
 use crate::write::Raw;
 
 /// The least and greatest speed of the gate that a sample can have.
@@ -46,6 +47,14 @@ pub fn outside(chance: &mut Chance, gate: &Gate) -> u16 {
     }
 }
 
+/// A speed in M or E: the set speed, a little more, or a little less.
+pub fn constant(chance: &mut Chance, draft: &Draft) -> u16 {
+    let set_speed = draft.stretches.map_or(0, |stretches| stretches.set_speed.into());
+    let [tolerance, ..] = draft.tolerances.map(i64::from);
+    let beside = chance.pick(&[0, 0, 0, 1, 5, 20, -1, -tolerance, -tolerance - 1]);
+    (set_speed + beside).clamp(0, 1500) as u16
+}
+
 /// Ways to draw and give back energy.
 #[derive(Clone, Copy, Debug)]
 pub enum Power {
@@ -74,28 +83,36 @@ pub fn sample(chance: &mut Chance, speed: u16, power: Power) -> Raw {
     Raw { speed, voltage: voltage as u16, current: current as i16 }
 }
 
-/// Samples all inside the band, as many as asked for, cycle after cycle.
-pub fn drive_inside(chance: &mut Chance, gates: &[Gate], count: usize, power: Power) -> Vec<Raw> {
+/// Samples all inside the band where it judges them, as many as asked for.
+pub fn drive_inside(chance: &mut Chance, draft: &Draft, count: usize, power: Power) -> Vec<Raw> {
+    let gates = draft.gates();
     let mut samples = Vec::with_capacity(count);
     for at in 0..count {
-        let speed = inside(chance, &gates[at % gates.len()]);
+        let speed = match draft.position_of(at) {
+            Some(position) => inside(chance, &gates[position]),
+            None => constant(chance, draft),
+        };
         samples.push(sample(chance, speed, power));
     }
     samples
 }
 
-/// Samples of which about one in `rarity` is outside.
+/// Samples of which about one in `rarity` is outside, or of any speed in M and E.
 pub fn drive_mixed(
     chance: &mut Chance,
-    gates: &[Gate],
+    draft: &Draft,
     count: usize,
     power: Power,
     rarity: usize,
 ) -> Vec<Raw> {
-    let mut samples = drive_inside(chance, gates, count, power);
+    let gates = draft.gates();
+    let mut samples = drive_inside(chance, draft, count, power);
     for (at, one) in samples.iter_mut().enumerate() {
         if chance.one_in(rarity) {
-            one.speed = outside(chance, &gates[at % gates.len()]);
+            one.speed = match draft.position_of(at) {
+                Some(position) => outside(chance, &gates[position]),
+                None => chance.between16(0, 1500),
+            };
         }
     }
     samples

@@ -6,17 +6,29 @@
 
 use crate::chance::Chance;
 use crate::draft::foreign_block;
-use crate::write::{cycle_value, field, recharge, transfer, Vehicle};
+use crate::write::{cycle_value, field, recharge, stretches, transfer, Vehicle};
 
 /// The refusal numbers that a fault in a small record's fields can bring.
-const NUMBERS: [u8; 9] = [2, 3, 4, 5, 6, 8, 9, 14, 15];
+const NUMBERS: [u8; 10] = [2, 3, 4, 5, 6, 8, 9, 14, 19, 15];
 
-/// Plants one fault, or two or three. They are planted in rising order of
-/// their numbers, so that fields are whole until the last one cuts them.
+/// Plants one fault, or two or three. They are planted in the order of the
+/// numbers above, so that fields are whole until the last one cuts them.
 pub fn plant_some(chance: &mut Chance, fields: &mut Vec<Vec<u8>>, own: &Vehicle) {
+    if chance.one_in(5) {
+        return plant_on_stretches(chance, fields);
+    }
     let count = chance.pick(&[1, 1, 1, 2, 3]);
     for at in chance.some_of(count, NUMBERS.len()) {
         plant(chance, fields, own, NUMBERS[at]);
+    }
+}
+
+/// Plants one fault of field 8: a wrong length, bad content, a wrong place.
+fn plant_on_stretches(chance: &mut Chance, fields: &mut Vec<Vec<u8>>) {
+    match chance.below(14) {
+        0..=2 => misshape_stretches(chance, fields),
+        3..=7 => insert_in_time(fields, vec![bad_stretches(chance)]),
+        _ => misplace_stretches(chance, fields),
     }
 }
 
@@ -31,6 +43,7 @@ pub fn plant(chance: &mut Chance, fields: &mut Vec<Vec<u8>>, own: &Vehicle, numb
         8 => spoil_form(chance, fields),
         9 => spoil_order(chance, fields, own),
         14 => spoil_amount(chance, fields),
+        19 => insert_in_time(fields, vec![bad_stretches(chance)]),
         _ => cut_short(chance, fields),
     }
 }
@@ -60,6 +73,8 @@ fn spoil_content(chance: &mut Chance, one: &mut Vec<u8>) {
         (5, _) => spoil_sample(chance, one),
         (6, 0) => one[3] = chance.pick(&[2, 255]),
         (6, _) => *one = transfer(one[3], bad_transfer(chance)),
+        (8, 0) => spoil_length(chance, one),
+        (8, _) => spoil_stretches(chance, one),
         _ => *one = recharge(bad_recharge(chance)),
     }
 }
@@ -155,8 +170,8 @@ pub fn spoil_last_block(chance: &mut Chance, fields: &mut [Vec<u8>]) {
 /// Refusal 8: tag, length, mark or kind.
 fn spoil_form(chance: &mut Chance, fields: &mut Vec<Vec<u8>>) {
     let at = chance.below(fields.len());
-    match chance.below(7) {
-        0 => fields[at][0] = chance.pick(&[0, 8, 9, 128, 255]),
+    match chance.below(8) {
+        0 => fields[at][0] = chance.pick(&[0, 8, 9, 10, 128, 255]),
         1 => spoil_length(chance, &mut fields[at]),
         2 => on_field(chance, fields, &[1], |chance, one| one[3 + chance.below(4)] ^= 0x20),
         3 => fields.insert(at, transfer(chance.pick(&[2, 3, 255]), 0)),
@@ -164,6 +179,7 @@ fn spoil_form(chance: &mut Chance, fields: &mut Vec<Vec<u8>>) {
             *one = field(3, &[1; 4812][..chance.pick(&[0, 8, 4812])]);
         }),
         5 => on_field(chance, fields, &[5], |_, one| *one = field(5, &one[3..24])),
+        6 => misshape_stretches(chance, fields),
         _ => on_field(chance, fields, &[5], |_, one| {
             let value = [&one[3..24], &[0; 6 * 201]].concat();
             *one = field(5, &value);
@@ -186,6 +202,7 @@ fn spoil_order(chance: &mut Chance, fields: &mut Vec<Vec<u8>>, own: &Vehicle) {
         1 => fields.insert(other, fields[at].clone()),
         2 => fields.swap(at, other),
         3 => fields.insert(other, stray(chance, own)),
+        4 | 5 => misplace_stretches(chance, fields),
         _ => add_at_the_end(chance, fields, own),
     }
 }
@@ -200,24 +217,43 @@ fn add_at_the_end(chance: &mut Chance, fields: &mut Vec<Vec<u8>>, own: &Vehicle)
 
 /// A good field that has its place in the order.
 fn stray(chance: &mut Chance, own: &Vehicle) -> Vec<u8> {
-    match chance.below(5) {
+    match chance.below(6) {
         0 => foreign_block(chance, own),
         1 => transfer(0, 5),
         2 => recharge(7),
+        3 => stretches(1, 1),
         _ => transfer(1, 5),
+    }
+}
+
+/// Refusal 9: a field 8, good or bad, in every place that is not its own.
+fn misplace_stretches(chance: &mut Chance, fields: &mut Vec<Vec<u8>>) {
+    let one = if chance.one_in(3) { stretches(1, 1) } else { bad_stretches(chance) };
+    match chance.below(6) {
+        0 => fields.insert(chance.below(4).min(fields.len()), one),
+        1 => insert_in_time(fields, vec![stretches(1, 1), one]),
+        2 => insert_in_time(fields, vec![transfer(0, 5), one]),
+        3 => put_behind_the_blocks(fields, vec![transfer(1, 5), one]),
+        4 => put_behind_the_blocks(fields, vec![recharge(7), one]),
+        _ => put_behind_the_blocks(fields, vec![one]),
     }
 }
 
 /// Refusal 14: an amount outside its limits, in a field 6 or 7 at a good place.
 fn spoil_amount(chance: &mut Chance, fields: &mut Vec<Vec<u8>>) {
-    while fields.len() > 4 && fields.last().is_some_and(|last| last[0] > 5) {
-        fields.pop();
-    }
     match chance.below(3) {
         0 if fields.len() > 4 => fields.insert(4, transfer(0, bad_transfer(chance))),
-        1 => fields.push(transfer(1, bad_transfer(chance))),
-        _ => fields.push(recharge(bad_recharge(chance))),
+        1 => put_behind_the_blocks(fields, vec![transfer(1, bad_transfer(chance))]),
+        _ => put_behind_the_blocks(fields, vec![recharge(bad_recharge(chance))]),
     }
+}
+
+/// Puts fields behind the last block, in the place of the fields 6 and 7 there.
+fn put_behind_the_blocks(fields: &mut Vec<Vec<u8>>, some: Vec<Vec<u8>>) {
+    while fields.last().is_some_and(|last| matches!(last[0], 6 | 7)) {
+        fields.pop();
+    }
+    fields.extend(some);
 }
 
 fn bad_transfer(chance: &mut Chance) -> i64 {
@@ -229,13 +265,45 @@ fn bad_recharge(chance: &mut Chance) -> u32 {
     chance.pick(&[0, 2_000_001, u32::MAX, 1 << 31])
 }
 
+/// Refusal 8: a field 8 of no byte, of one too few, of one too many.
+fn misshape_stretches(chance: &mut Chance, fields: &mut Vec<Vec<u8>>) {
+    let length = chance.pick(&[0, 5, 7]);
+    insert_in_time(fields, vec![field(8, &[0, 0, 0, 1, 0, 1, 0][..length])]);
+}
+
+/// Puts fields right behind field 4, in the place of the field 8 that may be there.
+fn insert_in_time(fields: &mut Vec<Vec<u8>>, some: Vec<Vec<u8>>) {
+    fields.retain(|field| field[0] != 8);
+    let place = fields.iter().position(|field| field[0] == 4).map_or(0, |at| at + 1);
+    fields.splice(place..place, some);
+}
+
+/// Refusal 19: one of the two numbers just outside its limits, or far outside.
+fn bad_stretches(chance: &mut Chance) -> Vec<u8> {
+    let mut one = stretches(4_000_000, 1500);
+    spoil_stretches(chance, &mut one);
+    one
+}
+
+fn spoil_stretches(chance: &mut Chance, one: &mut Vec<u8>) {
+    let length: u32 = chance.pick(&[0, 4_000_001, u32::MAX, 1 << 31]);
+    let set_speed: u16 = chance.pick(&[0, 1501, 65535, 0x8000]);
+    if chance.one_in(2) {
+        one[3..7].copy_from_slice(&length.to_be_bytes());
+    } else {
+        one[7..9].copy_from_slice(&set_speed.to_be_bytes());
+    }
+}
+
 /// Refusal 15: the input ends inside a field, or before field 4.
 fn cut_short(chance: &mut Chance, fields: &mut Vec<Vec<u8>>) {
     if chance.one_in(2) {
         fields.truncate(chance.below(4));
         return;
     }
-    fields.truncate(1 + chance.below(fields.len()));
+    let any = chance.below(fields.len());
+    let stretches = fields.iter().position(|field| field[0] == 8).filter(|_| chance.one_in(2));
+    fields.truncate(1 + stretches.unwrap_or(any));
     let last = fields.last_mut().expect("at least one field is left");
     last.truncate(1 + chance.below(last.len() - 1));
 }

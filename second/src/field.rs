@@ -19,9 +19,10 @@ pub enum Cut<'a> {
 }
 
 /// Cuts one field off the front.
+#[inline]
 pub fn cut(bytes: &[u8]) -> Cut<'_> {
     match bytes {
-        [tag, ..] if !(1..=7).contains(tag) => Cut::Impossible,
+        [tag, ..] if !(1..=8).contains(tag) => Cut::Impossible,
         [tag, high, low, rest @ ..] => {
             let length = usize::from(*high) * 256 + usize::from(*low);
             cut_value(*tag, length, rest)
@@ -50,6 +51,7 @@ pub fn length_allowed(tag: u8, length: usize) -> bool {
         5 => (1..=200).any(|samples| length == 17 + 4 + 6 * samples),
         6 => length == 9,
         7 => length == 4,
+        8 => length == 6,
         _ => false,
     }
 }

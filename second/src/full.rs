@@ -1,15 +1,18 @@
 //! Full records: 4,000,000 samples offered or blocks passed over, and what
 //! may still follow then. Here refusal 7 occurs, and its neighbours 6 and 5.
+//! One case is of the shortened method, which has no limit.
 
 use crate::chance::Chance;
 use crate::draft::{foreign_block, Draft};
 use crate::million::{add_blocks, add_foreign, start};
 use crate::record::MOST;
-use crate::write::{block, transfer, Raw};
+use crate::write::{block, stretches, transfer, Raw};
 
-/// Two samples inside the band, and one with a forbidden speed.
+/// Two samples inside the band, the one that draws most, and one with a
+/// forbidden speed.
 const GOOD: Raw = Raw { speed: 300, voltage: 6000, current: -100 };
 const FAST: Raw = Raw { speed: 310, voltage: 6000, current: -130 };
+const MOST_DRAWN: Raw = Raw { speed: 1500, voltage: 15000, current: -10000 };
 const BAD: Raw = Raw { speed: 1501, voltage: 6000, current: -100 };
 
 /// The full record of a seed; twelve seeds in a row show all cases.
@@ -17,6 +20,7 @@ pub fn full(seed: u64) -> Vec<u8> {
     let chance = &mut Chance::new(seed);
     let draft = Draft::new(chance, vec![300, 300, 300], [30, 20, 300]);
     match seed % 12 {
+        5 => full_of_stretches(chance, &draft),
         0..=7 => full_of_samples(chance, &draft, seed % 12),
         case => full_of_foreign(chance, &draft, case),
     }
@@ -41,10 +45,22 @@ fn full_of_samples(chance: &mut Chance, draft: &Draft, case: u64) -> Vec<u8> {
         2 => bytes.extend(own(offered, &vec![BAD; room + 1])),
         3 => bytes.extend(own(offered + 1, &too_many)),
         4 => bytes.extend([fits, own(MOST, &[GOOD])].concat()),
-        5 => bytes.extend([fits, foreign_block(chance, &draft.vehicle)].concat()),
         6 => bytes.extend(block(&forbidden, offered as u32, &too_many)),
         _ => bytes.extend([fits, transfer(1, 9), own(MOST, &[GOOD])].concat()),
     }
+    bytes
+}
+
+/// The shortened method: four cycles, and M and E at the greatest energy there
+/// is. The last own block ends at the limit, a foreign one follows.
+fn full_of_stretches(chance: &mut Chance, draft: &Draft) -> Vec<u8> {
+    let (positions, length) = (draft.positions(), MOST / 2 + chance.below(MOST / 4));
+    let mut bytes = [start(draft), stretches(length as u32, 1500)].concat();
+    let mut samples = vec![MOST_DRAWN; MOST];
+    samples[..2 * positions].fill(GOOD);
+    samples[2 * positions + length..4 * positions + length].fill(FAST);
+    add_blocks(&mut bytes, draft, &samples, 0, 200);
+    bytes.extend(foreign_block(chance, &draft.vehicle));
     bytes
 }
 

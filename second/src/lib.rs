@@ -1,10 +1,11 @@
 //! An independent second program, written from the papers alone: document 01,
-//! the rules, and document 02, the requests, of which L2 is in it.
+//! the rules, and document 02, the requests, of which L2 and L5 are in it.
 //!
 //! It holds the whole record in memory, collects all accepted samples first
 //! and only then drives the run over them, cycle by cycle.
 //!
-//! The rules:      `cycle`, `run`, `closing`, `record`, `field`, `sheet`, `bench`.
+//! The rules:      `cycle`, `run`, `shortened`, `method`, `closing`, `record`,
+//!                 `field`, `sheet`, `bench`.
 //! Made records:   `make` and the modules it calls.
 //! The comparison: `compare`, `survey`.
 
@@ -12,9 +13,11 @@ pub mod bench;
 pub mod closing;
 pub mod cycle;
 pub mod field;
+pub mod method;
 pub mod record;
 pub mod run;
 pub mod sheet;
+pub mod shortened;
 
 pub mod ask;
 pub mod breakage;
@@ -30,6 +33,7 @@ pub mod make;
 pub mod million;
 pub mod nearby;
 pub mod recharge;
+pub mod slowing;
 pub mod small;
 pub mod wish;
 pub mod write;

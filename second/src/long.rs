@@ -1,16 +1,18 @@
 //! Long records: 100,000 samples and more, speeds that follow the cycle with
-//! a lag and some noise, runs that go on, stop, or reach the limit.
+//! a lag and some noise, runs that go on, stop, or reach the limit; and the
+//! shortened method with long stretches.
 
 use crate::chance::Chance;
 use crate::draft::{sprinkle_foreign, Draft};
 use crate::drive::{sample, Power};
+use crate::shortened::{Stretches, SHORTENED_CYCLES};
 use crate::write::Raw;
 
-/// The long record of a seed.
+/// The long record of a seed; every fourth one is of the shortened method.
 pub fn long(seed: u64) -> Vec<u8> {
     let chance = &mut Chance::new(seed);
-    let (seconds, count) = some_length(chance);
-    let mut draft = long_draft(chance, seconds);
+    let (mut draft, count) =
+        if seed.is_multiple_of(4) { shortened_draft(chance) } else { regular_draft(chance) };
     draft.samples = follow(chance, &draft, count);
     if chance.one_in(3) {
         leave_the_band(chance, &mut draft);
@@ -21,6 +23,21 @@ pub fn long(seed: u64) -> Vec<u8> {
     let blocks = chance.pick(&[0, 1, 50]);
     sprinkle_foreign(chance, &mut fields, &draft.vehicle, blocks);
     fields.concat()
+}
+
+fn regular_draft(chance: &mut Chance) -> (Draft, usize) {
+    let (seconds, count) = some_length(chance);
+    (long_draft(chance, seconds), count)
+}
+
+/// Short cycles, and M and E as long as all of them together or longer.
+fn shortened_draft(chance: &mut Chance) -> (Draft, usize) {
+    let seconds = 100 + chance.below(200);
+    let mut draft = long_draft(chance, seconds);
+    let (length, set_speed) = (20_000 + chance.below(80_000), chance.between(300, 900) as i16);
+    draft.stretches = Some(Stretches { length, set_speed });
+    let count = draft.first_of(SHORTENED_CYCLES) + 50_000 + chance.below(100_000);
+    (draft, count)
 }
 
 /// T and a number of samples: usual, T = 2400, or about 64 cycles and more.
@@ -62,18 +79,29 @@ fn walk(chance: &mut Chance, seconds: usize) -> Vec<u16> {
 }
 
 /// Samples that follow the cycle with a fixed lag within the time tolerance
-/// and noise within the speed tolerance, and leave the band now and then.
+/// and noise within the speed tolerance, and leave the band now and then. In M
+/// and E they follow the set speed.
 pub fn follow(chance: &mut Chance, draft: &Draft, count: usize) -> Vec<Raw> {
     let targets = whole_targets(draft);
     let [tolerance, time, allowance] = draft.tolerances.map(i64::from);
     let lag = chance.between(0, time) as usize;
     let noise = (tolerance - 1).max(0);
     let mut excursion = Excursion { allowance, left: 0, spent: 0 };
+    let set_speed = draft.stretches.map_or(0, |stretches| stretches.set_speed.into());
+    let mut cruise = Cruise { set_speed, tolerance, now: 0, slow: 0 };
     let mut samples = Vec::with_capacity(count);
     for at in 0..count {
-        let position = at % targets.len();
-        let near = targets[position.saturating_sub(lag)] + chance.between(-noise, noise);
-        let speed = if excursion.on(chance, position) { away(near) } else { near };
+        let speed = match draft.position_of(at) {
+            None => cruise.speed(chance),
+            Some(position) => {
+                let near = targets[position.saturating_sub(lag)] + chance.between(-noise, noise);
+                if excursion.on(chance, position) {
+                    away(near)
+                } else {
+                    near
+                }
+            }
+        };
         samples.push(sample(chance, speed.clamp(0, 1500) as u16, Power::Regenerating));
     }
     samples
@@ -102,6 +130,29 @@ impl Excursion {
         self.left -= 1;
         self.spent += 1;
         true
+    }
+}
+
+/// Driving at a constant speed, with the pedal down until it is reached, and
+/// slower for some samples now and then, seldom for 80 or more.
+struct Cruise {
+    set_speed: i64,
+    tolerance: i64,
+    now: i64,
+    slow: i64,
+}
+
+impl Cruise {
+    fn speed(&mut self, chance: &mut Chance) -> i64 {
+        if self.slow == 0 && chance.one_in(4000) {
+            self.slow = chance.between(1, 85);
+        }
+        self.now = (self.now + 3).min(self.set_speed);
+        if self.slow > 0 {
+            self.slow -= 1;
+            return self.now - self.tolerance - chance.between(1, 20);
+        }
+        self.now + chance.between(-self.tolerance, self.tolerance)
     }
 }
 

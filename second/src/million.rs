@@ -4,7 +4,8 @@ use crate::chance::Chance;
 use crate::draft::{foreign_vehicle, Draft};
 use crate::drive::{drive_inside, Power};
 use crate::long::{follow, long_draft};
-use crate::write::{block, head, recharge, transfer, Raw};
+use crate::shortened::Stretches;
+use crate::write::{block, head, recharge, stretches, transfer, Raw};
 
 /// `count` samples that follow a cycle of 1800 seconds closely, in blocks of
 /// `size`; the time tolerance is the one given or else the seed's. The run does
@@ -22,14 +23,21 @@ pub fn million(seed: u64, size: usize, count: usize, time_tolerance: Option<u16>
     bytes
 }
 
-/// A short own drive with `count` foreign blocks of one sample around it.
+/// A short own drive with `count` foreign blocks of one sample around it. An
+/// even seed has the shortened method, and half of the foreign blocks stand
+/// before its field 8.
 pub fn foreign(seed: u64, count: usize) -> Vec<u8> {
     let chance = &mut Chance::new(seed);
     let points = vec![chance.between16(100, 900); 3];
-    let draft = Draft::new(chance, points, [30, 20, 300]);
-    let samples = drive_inside(chance, &draft.gates(), 200, Power::Steady);
+    let mut draft = Draft::new(chance, points, [30, 20, 300]);
     let mut bytes = start(&draft);
+    let (length, set_speed) = (20, 700);
+    draft.stretches = seed.is_multiple_of(2).then_some(Stretches { length, set_speed });
+    let samples = drive_inside(chance, &draft, 200, Power::Steady);
     add_foreign(chance, &mut bytes, &draft, count / 2);
+    if draft.stretches.is_some() {
+        bytes.extend(stretches(length as u32, set_speed as u16));
+    }
     add_blocks(&mut bytes, &draft, &samples[..90], 0, 30);
     add_foreign(chance, &mut bytes, &draft, count - count / 2);
     add_blocks(&mut bytes, &draft, &samples[90..], 90, 30);

@@ -9,11 +9,11 @@ use crate::wish::Wish;
 
 /// Sets transfers and recharge amount to some corner.
 pub fn recharge_corner(chance: &mut Chance, wish: &mut Wish) {
-    match chance.below(12) {
-        0..=2 => sum_about_one(chance, wish),
-        3 => amount_at_the_top(chance, wish),
-        4 => after_at_a_figure(chance, wish, MOST_MWH_PER_KM),
-        5..=7 => {
+    match chance.below(14) {
+        0..=3 => sum_about_one(chance, wish),
+        4 => amount_at_the_top(chance, wish),
+        5 | 6 => after_at_a_figure(chance, wish, MOST_MWH_PER_KM),
+        7..=9 => {
             draw_little(chance, wish);
             after_at_a_figure(chance, wish, 0);
         }
@@ -21,9 +21,9 @@ pub fn recharge_corner(chance: &mut Chance, wish: &mut Wish) {
     }
 }
 
-/// E + F from -2 to 2, with field 7 or without.
+/// E + F from -2 to 3, with field 7 or without.
 fn sum_about_one(chance: &mut Chance, wish: &mut Wish) {
-    let sum = i128::from(chance.between(-1, 2));
+    let sum = i128::from(chance.between(-1, 3));
     wish.after = Some((sum - wish.energy()).div_euclid(2));
     wish.recharge = (!chance.one_in(4)).then(|| chance.pick(&[1, 50, MOST_RECHARGE as u32]));
 }
@@ -43,6 +43,9 @@ fn amount_at_the_top(chance: &mut Chance, wish: &mut Wish) {
 fn draw_little(chance: &mut Chance, wish: &mut Wish) {
     for cycle in &mut wish.finished {
         cycle.energy = cycle.distance * i128::from(chance.between(1, 100));
+    }
+    if let Some((_, m)) = &mut wish.m {
+        m.energy = chance.between(0, 1000).into();
     }
     wish.open = 0;
     wish.before = None;

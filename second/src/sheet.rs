@@ -1,6 +1,6 @@
 //! The sheet that the report program prints for a record.
 
-use crate::closing::{close, recharge};
+use crate::closing::recharge;
 use crate::record::{read, Record, Refused};
 use crate::run::{End, Run};
 
@@ -17,7 +17,7 @@ fn join(lines: &[String]) -> String {
 }
 
 fn lines(record: &Record) -> Vec<String> {
-    let run = Run::drive(&record.cycle, &record.tolerances, &record.samples);
+    let run = record.run();
     let mut lines = run_lines(record, &run);
     lines.extend(closing_lines(record, &run));
     lines
@@ -42,12 +42,11 @@ fn run_lines(record: &Record, run: &Run) -> Vec<String> {
 /// A closing refusal stands in place of `weighted`, a recharge refusal in
 /// place of `ac`; each ends the list.
 fn closing_lines(record: &Record, run: &Run) -> Vec<String> {
-    let energy = record.before + run.drawn;
-    let figures = match close(&run.finished, energy) {
+    let figures = match record.close(run) {
         Ok(figures) => figures,
         Err(number) => return vec![format!("refused {number}")],
     };
-    let last = match recharge(&figures, energy, record.after, record.recharge) {
+    let last = match recharge(&figures, record.energy(run), record.after, record.recharge) {
         Ok(Some(figure)) => format!("ac {figure}"),
         Ok(None) => "ac -".to_string(),
         Err(number) => format!("refused {number}"),

@@ -3,7 +3,8 @@
 //!
 //! Each end of an interval adds to it (document 02, L2), so a cycle has its
 //! samples twice, but its first sample and the one after its last only once:
-//! each of these is a joint, which two cycles share.
+//! each of these is a joint, which two cycles share. The same holds of M, which
+//! stands between two cycles, and of E.
 
 use crate::chance::Chance;
 use crate::run::Finished;
@@ -15,10 +16,19 @@ const MOST_DRAWN: i128 = 150_000_000;
 /// speed tolerance is 100.
 const MOST_SPEED: i128 = 100;
 
-/// Finished cycles, the open cycle's energy, and the transfers as they stand
-/// in field 6.
+/// Energy and distance of so many intervals.
+#[derive(Clone, Copy)]
+struct Part {
+    all: Finished,
+    intervals: usize,
+}
+
+/// Finished cycles, the energy of the open one or of E, and the transfers as
+/// they stand in field 6. In the shortened method also the length of M, and
+/// what M has once cycle 2 is finished.
 pub struct Wish {
     pub finished: Vec<Finished>,
+    pub m: Option<(usize, Finished)>,
     pub open: i128,
     pub before: Option<i128>,
     pub after: Option<i128>,
@@ -28,8 +38,18 @@ pub struct Wish {
 impl Wish {
     /// E: all closed intervals and the transfer before the test, doubled.
     pub fn energy(&self) -> i128 {
-        let finished: i128 = self.finished.iter().map(|cycle| cycle.energy).sum();
-        finished + self.open + 2 * self.before.unwrap_or(0)
+        let closed: i128 = self.parts(0).iter().map(|part| part.all.energy).sum();
+        closed + self.open + 2 * self.before.unwrap_or(0)
+    }
+
+    /// The finished cycles, and M where it is driven.
+    fn parts(&self, positions: usize) -> Vec<Part> {
+        let cycle = |all: &Finished| Part { all: *all, intervals: positions };
+        let mut parts: Vec<Part> = self.finished.iter().map(cycle).collect();
+        if let Some((intervals, all)) = self.m.filter(|_| parts.len() >= 2) {
+            parts.insert(2, Part { all, intervals });
+        }
+        parts
     }
 
     /// E + F.
@@ -43,44 +63,44 @@ impl Wish {
     }
 
     /// Makes E this energy by the transfer before the test. That is doubled,
-    /// so an odd unit comes from the open cycle.
+    /// so an odd unit comes from the open cycle or E.
     pub fn set_energy(&mut self, energy: i128) {
         let missing = energy - self.energy();
         self.before = Some(self.before.unwrap_or(0) + missing.div_euclid(2));
         self.open += missing.rem_euclid(2);
     }
 
-    /// The greatest distance that a cycle can have whatever its joints are.
-    pub fn most_distance(positions: usize) -> i128 {
-        2 * MOST_SPEED * (positions as i128 - 1)
+    /// The greatest distance that so many intervals can have whatever the joints are.
+    pub fn most_distance(intervals: usize) -> i128 {
+        2 * MOST_SPEED * (intervals as i128 - 1)
     }
 
     /// Samples for the wish. The last one closes the interval before it.
     pub fn samples(&self, chance: &mut Chance, positions: usize) -> Vec<Raw> {
-        let mut samples = Vec::new();
-        let (odd, speed) = (chance.one_in(2), chance.between(0, self.room(0) as i64));
+        let (mut samples, parts) = (Vec::new(), self.parts(positions));
+        let (odd, speed) = (chance.one_in(2), chance.between(0, room(&parts, 0) as i64));
         let mut joint = some_sample(chance, odd, speed.into());
-        for (at, cycle) in self.finished.iter().enumerate() {
-            let next = joint_after(chance, &joint, cycle, self.room(at + 1));
-            samples.extend(lap(&joint, cycle, &next, positions));
+        for (at, part) in parts.iter().enumerate() {
+            let next = joint_after(chance, &joint, &part.all, room(&parts, at + 1));
+            samples.extend(lap(&joint, part, &next));
             joint = next;
         }
         if self.open != 0 {
             let distance = i128::from(joint.speed) + i128::from(chance.between(0, 300));
-            let cycle = Finished { energy: self.open, distance };
-            let next = joint_after(chance, &joint, &cycle, MOST_SPEED);
+            let all = Finished { energy: self.open, distance };
+            let next = joint_after(chance, &joint, &all, MOST_SPEED);
             let intervals = chance.between(12, positions as i64 - 1) as usize;
-            samples.extend(lap(&joint, &cycle, &next, intervals));
+            samples.extend(lap(&joint, &Part { all, intervals }, &next));
             joint = next;
         }
         samples.push(joint);
         samples
     }
+}
 
-    /// The greatest speed that the first sample of this cycle may have.
-    fn room(&self, cycle: usize) -> i128 {
-        self.finished.get(cycle).map_or(MOST_SPEED, |one| one.distance.min(MOST_SPEED))
-    }
+/// The greatest speed that the first sample of this part may have.
+fn room(parts: &[Part], at: usize) -> i128 {
+    parts.get(at).map_or(MOST_SPEED, |part| part.all.distance.min(MOST_SPEED))
 }
 
 fn drawn(sample: &Raw) -> i128 {
@@ -98,26 +118,27 @@ fn some_sample(chance: &mut Chance, odd: bool, speed: i128) -> Raw {
     }
 }
 
-/// The joint after a cycle: what it and the joint before leave of the cycle's
+/// The joint after a part: what it and the joint before leave of the part's
 /// energy and distance is even, for the samples between count twice. Only
 /// before a cycle that stands still the distance may come out one less.
-fn joint_after(chance: &mut Chance, joint: &Raw, cycle: &Finished, room: i128) -> Raw {
-    let odd = (cycle.energy - drawn(joint)).rem_euclid(2) == 1;
-    let left = cycle.distance - i128::from(joint.speed);
+fn joint_after(chance: &mut Chance, joint: &Raw, all: &Finished, room: i128) -> Raw {
+    let odd = (all.energy - drawn(joint)).rem_euclid(2) == 1;
+    let left = all.distance - i128::from(joint.speed);
     let most = left.min(room);
     let least = (left % 2).min(most);
     let steps = chance.between(0, (most - least) as i64 / 2);
     some_sample(chance, odd, least + 2 * i128::from(steps))
 }
 
-/// The samples of a cycle, from its first joint on, without the next joint.
-/// The energy and distance of all intervals are those of the cycle.
-fn lap(joint: &Raw, cycle: &Finished, next: &Raw, intervals: usize) -> Vec<Raw> {
-    let half = (cycle.energy - drawn(joint) - drawn(next)) / 2;
-    let mut distance = (cycle.distance - i128::from(joint.speed) - i128::from(next.speed)) / 2;
+/// The samples of a part, from its first joint on, without the next joint.
+/// The energy and distance of all intervals are those of the part.
+fn lap(joint: &Raw, part: &Part, next: &Raw) -> Vec<Raw> {
+    let all = &part.all;
+    let half = (all.energy - drawn(joint) - drawn(next)) / 2;
+    let mut distance = (all.distance - i128::from(joint.speed) - i128::from(next.speed)) / 2;
     let (mut energy, sign) = (half.abs(), if half < 0 { 1 } else { -1 });
     let mut samples = vec![*joint];
-    for _ in 1..intervals {
+    for _ in 1..part.intervals {
         let speed = distance.min(MOST_SPEED);
         let (voltage, current) = largest_part(energy);
         samples.push(Raw {

@@ -45,6 +45,11 @@ pub fn tolerances(numbers: [u16; 3]) -> Vec<u8> {
     field(4, &value)
 }
 
+/// Field 8: the length of M and the set speed of E.
+pub fn stretches(length: u32, set_speed: u16) -> Vec<u8> {
+    field(8, &[&length.to_be_bytes()[..], &set_speed.to_be_bytes()].concat())
+}
+
 pub fn block(number: &Vehicle, first: u32, samples: &[Raw]) -> Vec<u8> {
     let mut value = number.to_vec();
     value.extend(first.to_be_bytes());

@@ -1,5 +1,5 @@
 //! Refusal 7, where 4,000,000 samples are offered or blocks passed over, and
-//! its neighbours in the order.
+//! its neighbours in the order; and the shortened method, which has no limit.
 
 mod common;
 
@@ -10,7 +10,10 @@ const MOST: usize = 4_000_000;
 
 /// Fields 1 to 4 and own blocks of 200 up to `offered`, as bytes.
 fn offered(offered: usize) -> Vec<u8> {
-    let mut bytes = start().concat();
+    started_and_offered(start().concat(), offered)
+}
+
+fn started_and_offered(mut bytes: Vec<u8>, offered: usize) -> Vec<u8> {
     for first in (0..offered).step_by(200) {
         bytes.extend(block(OWN, first as u32, &[GOOD; 200]));
     }
@@ -53,4 +56,26 @@ fn seven_for_foreign_blocks_and_its_neighbours() {
     assert_eq!(line(&own, "range"), "range 16");
     bytes.extend(transfer(1, 0));
     assert_eq!(and(&bytes, &block(OTHER, 0, &[BAD])), refused(9, field + 1));
+}
+
+/// All of M: 3,999,999 intervals of 1,440,000.
+#[test]
+fn the_longest_m_and_seven_behind_it() {
+    let started = [start().concat(), stretches(4_000_000, 1500)].concat();
+    let bytes = started_and_offered(started, MOST);
+    let sheet = second::sheet::sheet(&bytes);
+    assert!(sheet.contains("end none 4000000\ncycles 2\noutside 0\npassed 0\n"));
+    assert!(sheet.ends_with("drawn 5759998560000\nrefused 10\n"));
+    assert_eq!(and(&bytes, &block(OWN, MOST as u32, &[GOOD])), refused(7, 6 + MOST / 200));
+}
+
+/// 160 samples in the cycles draw 600,000 and 780,000, all others 150,000,000;
+/// every sample adds twice, but the first and the last once.
+#[test]
+fn the_greatest_energy_of_m_and_e() {
+    let sheet = second::sheet::sheet(&second::make::make("full", 5, &[]).unwrap());
+    let inside = 80 * 600_000 + 80 * 780_000i64;
+    let drawn = 2 * (inside + 3_999_840 * 150_000_000) - 600_000 - 150_000_000;
+    assert!(sheet.contains("end none 4000000\ncycles 4\noutside 0\npassed 1\n"));
+    assert_eq!(line(&sheet, "drawn"), format!("drawn {drawn}"));
 }

@@ -1,6 +1,7 @@
 //! The run against a naive judge that takes sample after sample and keeps
 //! document 01's nine numbers and its map, with document 02's open interval;
 //! against the sums over the closed intervals; and the promise about blocks.
+//! All of it over both methods.
 
 mod common;
 
@@ -12,10 +13,31 @@ use second::record::{read, Record};
 use second::run::{End, Finished, Run, Sample};
 use second::sheet::sheet;
 
+/// Where a sample stands: in a cycle, counted from 0, at a position; or in M or E.
+#[derive(Clone, Copy, PartialEq)]
+enum Stand {
+    Cycle(usize, i128),
+    M,
+    E,
+}
+
+/// Where the sample of this number stands in the record's method.
+fn stand(record: &Record, j: usize) -> Stand {
+    let n = record.cycle.positions() as usize;
+    let in_cycle = |j: usize| Stand::Cycle(j / n, (j % n) as i128);
+    match record.stretches {
+        None => in_cycle(j),
+        Some(_) if j < 2 * n => in_cycle(j),
+        Some(stretches) if j < 2 * n + stretches.length => Stand::M,
+        Some(stretches) if j < 4 * n + stretches.length => in_cycle(j - stretches.length),
+        Some(_) => Stand::E,
+    }
+}
+
 /// The interval that the next sample closes: where its earlier sample stands,
 /// and that sample.
 struct Open {
-    position: i128,
+    stand: Stand,
     earlier: Sample,
 }
 
@@ -24,19 +46,32 @@ struct Judge {
     end: End,
     counted: usize,
     closed: usize,
-    position: i128,
     open: Option<Open>,
     /// Nine numbers a cycle: phase energies, phase distances, outside count.
     ledger: Vec<[i128; 9]>,
     map: Vec<bool>,
     finished: usize,
+    /// Energy and distance of M and of E, outside the ledger.
+    stretches: [[i128; 2]; 2],
+    /// Whether a sample of E reached the set speed, and how many are too slow.
+    reached: bool,
+    slow: usize,
 }
 
 impl Judge {
     fn new() -> Judge {
-        let (ledger, map, open) = (vec![[0; 9]], Vec::new(), None);
-        let (end, counted, closed, position, finished) = (End::None, 0, 0, 0, 0);
-        Judge { end, counted, closed, position, open, ledger, map, finished }
+        Judge {
+            end: End::None,
+            counted: 0,
+            closed: 0,
+            open: None,
+            ledger: vec![[0; 9]],
+            map: Vec::new(),
+            finished: 0,
+            stretches: [[0; 2]; 2],
+            reached: false,
+            slow: 0,
+        }
     }
 
     /// A sample closes the open interval, then is judged, then begins its own.
@@ -45,54 +80,82 @@ impl Judge {
             return;
         }
         self.close(&record.cycle, sample);
-        if self.finished == 64 {
+        if record.stretches.is_none() && self.finished == 64 {
             self.end = End::Limit;
             return;
         }
-        if self.position == 0 {
-            self.map = vec![false; record.cycle.positions() as usize];
-            self.ledger.resize(self.finished + 1, [0; 9]);
-        }
-        if self.stops(record, sample) {
+        let stand = stand(record, self.counted);
+        let stops = match stand {
+            Stand::Cycle(cycle, position) => self.stops(record, cycle, position, sample),
+            Stand::M => false,
+            Stand::E => self.stops_in_e(record, sample),
+        };
+        if stops {
             self.end = End::Stop;
             return;
         }
         self.counted += 1;
-        self.open = Some(Open { position: self.position, earlier: *sample });
-        self.position = (self.position + 1) % record.cycle.positions();
+        self.open = Some(Open { stand, earlier: *sample });
     }
 
-    /// Enters the open interval into the phase and cycle of its earlier sample.
+    /// Enters the open interval where its earlier sample stands.
     fn close(&mut self, cycle: &Cycle, later: &Sample) {
-        let Some(Open { position, earlier }) = self.open.take() else {
+        let Some(Open { stand, earlier }) = self.open.take() else {
             return;
         };
-        let phase = cycle.phase_ends.iter().position(|end| position / 20 < *end).unwrap();
-        let nine = self.ledger.last_mut().unwrap();
-        nine[phase] += product(&earlier) + product(later);
-        nine[4 + phase] += i128::from(earlier.speed) + i128::from(later.speed);
+        let energy = product(&earlier) + product(later);
+        let distance = i128::from(earlier.speed) + i128::from(later.speed);
         self.closed += 1;
-        if position + 1 == cycle.positions() {
-            self.finished += 1;
+        if let Stand::Cycle(row, position) = stand {
+            let phase = cycle.phase_ends.iter().position(|end| position / 20 < *end).unwrap();
+            self.ledger[row][phase] += energy;
+            self.ledger[row][4 + phase] += distance;
+            if position + 1 == cycle.positions() {
+                self.finished += 1;
+            }
+        } else {
+            let numbers = &mut self.stretches[usize::from(stand == Stand::E)];
+            numbers[0] += energy;
+            numbers[1] += distance;
         }
+    }
+
+    /// In E: from the sample on that reaches the set speed, true at the 80th
+    /// of consecutive samples with v + s < u.
+    fn stops_in_e(&mut self, record: &Record, sample: &Sample) -> bool {
+        let (u, s) = (record.stretches.unwrap().set_speed.into(), record.tolerances.speed);
+        let v = i128::from(sample.speed);
+        if v >= u {
+            self.reached = true;
+        }
+        if self.reached && v + s < u {
+            self.slow += 1;
+        } else {
+            self.slow = 0;
+        }
+        self.slow == 80
     }
 
     /// Marks and counts an outside sample; true when the count is above the allowance.
-    fn stops(&mut self, record: &Record, sample: &Sample) -> bool {
+    fn stops(&mut self, record: &Record, row: usize, position: i128, sample: &Sample) -> bool {
+        if position == 0 {
+            self.map = vec![false; record.cycle.positions() as usize];
+            self.ledger.resize(row + 1, [0; 9]);
+        }
         let tolerances = &record.tolerances;
-        let band = record.cycle.band_by_walking(self.position, tolerances.time);
+        let band = record.cycle.band_by_walking(position, tolerances.time);
         if band.verdict(tolerances.speed, sample.speed.into()) == Verdict::Inside {
             return false;
         }
-        let nine = self.ledger.last_mut().unwrap();
-        self.map[self.position as usize] = true;
-        nine[8] += 1;
-        nine[8] > tolerances.allowance
+        self.map[position as usize] = true;
+        self.ledger[row][8] += 1;
+        self.ledger[row][8] > tolerances.allowance
     }
 
     /// The same run in the form of `Run`.
     fn run(&self) -> Run {
         let energy = |nine: &[i128; 9]| nine[..4].iter().sum::<i128>();
+        let [m, e] = self.stretches;
         let finished = self.ledger[..self.finished]
             .iter()
             .map(|nine| Finished { energy: energy(nine), distance: nine[4..8].iter().sum() });
@@ -101,7 +164,7 @@ impl Judge {
             counted: self.counted,
             closed: self.closed,
             outside: self.ledger.iter().map(|nine| nine[8]).sum(),
-            drawn: self.ledger.iter().map(energy).sum(),
+            drawn: self.ledger.iter().map(energy).sum::<i128>() + m[0] + e[0],
             finished: finished.collect(),
         }
     }
@@ -110,11 +173,6 @@ impl Judge {
 /// -(voltage × current).
 fn product(sample: &Sample) -> i128 {
     -(i128::from(sample.voltage) * i128::from(sample.current))
-}
-
-/// The run of a record, which the naive judge must find too.
-fn run_of(record: &Record) -> Run {
-    Run::drive(&record.cycle, &record.tolerances, &record.samples)
 }
 
 /// The records of the first small seeds that are not refused.
@@ -129,9 +187,9 @@ fn the_naive_judge_agrees() {
         for sample in &record.samples {
             judge.take(&record, sample);
             let ones = judge.map.iter().filter(|outside| **outside).count() as i128;
-            assert_eq!(ones, judge.ledger.last().unwrap()[8]);
+            assert_eq!(ones, judge.ledger.last().unwrap()[8], "seed {seed}");
         }
-        assert_eq!(run_of(&record), judge.run(), "seed {seed}");
+        assert_eq!(record.run(), judge.run(), "seed {seed}");
     }
 }
 
@@ -140,20 +198,27 @@ fn the_naive_judge_agrees() {
 #[test]
 fn sums_over_the_closed_intervals() {
     for (seed, record) in some_records() {
-        let (run, samples) = (run_of(&record), &record.samples);
+        let (run, samples) = (record.run(), &record.samples);
         assert_eq!(run.closed, run.counted.min(samples.len().saturating_sub(1)), "seed {seed}");
         let energy = |j: usize| product(&samples[j]) + product(&samples[j + 1]);
         let distance = |j: usize| i128::from(samples[j].speed) + i128::from(samples[j + 1].speed);
         assert_eq!(run.drawn, (0..run.closed).map(energy).sum::<i128>(), "seed {seed}");
         let positions = record.cycle.positions() as usize;
-        let finished = (0..run.closed / positions).map(|c| {
-            let all = c * positions..(c + 1) * positions;
+        let finished = last_positions(&record, run.closed).map(|last| {
+            let all = last + 1 - positions..last + 1;
             Finished { energy: all.clone().map(energy).sum(), distance: all.map(distance).sum() }
         });
         assert_eq!(run.finished, finished.collect::<Vec<Finished>>(), "seed {seed}");
-        let limit = run.end == End::Limit;
-        assert_eq!(limit, run.end != End::Stop && samples.len() > 64 * positions, "seed {seed}");
+        let limit = record.stretches.is_none() && samples.len() > 64 * positions;
+        assert_eq!(run.end == End::Limit, run.end != End::Stop && limit, "seed {seed}");
     }
+}
+
+/// The numbers of the samples at the last position of a cycle, as far as their
+/// intervals are closed.
+fn last_positions(record: &Record, closed: usize) -> impl Iterator<Item = usize> + '_ {
+    let last = record.cycle.positions() - 1;
+    (0..closed).filter(move |j| matches!(stand(record, *j), Stand::Cycle(_, p) if p == last))
 }
 
 /// Cuts every own block of a record into blocks by chance, foreign ones stay.

@@ -67,7 +67,7 @@ fn two_before_three() {
 fn eight_from_the_first_and_third_byte_before_fifteen() {
     let started = start().concat();
     let ends_with = |bytes: &[u8]| sheet(&[&started[..], bytes].concat());
-    assert_eq!(ends_with(&[8]), refused(8, 5));
+    assert_eq!(ends_with(&[9]), refused(8, 5));
     assert_eq!(ends_with(&[7]), refused(15, 5));
     assert_eq!(ends_with(&[7, 99]), refused(15, 5));
     assert_eq!(ends_with(&[7, 0, 5]), refused(8, 5));

@@ -97,7 +97,7 @@ fn six_a_first_number() {
 
 #[test]
 fn eight_tag_length_mark_and_kind() {
-    for tag in [0, 8, 255] {
+    for tag in [0, 9, 255] {
         assert_eq!(with_also(4, field(tag, b"RUN1")), refused(8, 5));
     }
     assert_eq!(with(0, field(1, b"RUN2")), refused(8, 1));
@@ -111,11 +111,11 @@ fn eight_every_impossible_length() {
         1 | 7 => length == 4,
         2 => length == 17,
         3 => (9..=4811).contains(&length),
-        4 => length == 6,
+        4 | 8 => length == 6,
         5 => (27..=1221).contains(&length) && (21..length).step_by(6).any(|at| at + 6 == length),
         _ => length == 9,
     };
-    for tag in 1..=7u8 {
+    for tag in 1..=8u8 {
         for length in 0..=65535usize {
             let head = [&[tag][..], &(length as u16).to_be_bytes()].concat();
             let number = if allowed(tag, length) { 15 } else { 8 };

@@ -3,6 +3,7 @@
 use second::chance::Chance;
 use second::cycle::Cycle;
 use second::run::{End, Finished, Run, Sample, Tolerances};
+use second::shortened::Stretches;
 use second::wish::Wish;
 use second::write::Raw;
 
@@ -15,7 +16,19 @@ fn some_wish(chance: &mut Chance, positions: usize) -> Wish {
     });
     let finished = finished.collect();
     let open = chance.pick(&[0, 1, -1, 55_555, -1_200_000_000]);
-    Wish { finished, open, before: None, after: None, recharge: None }
+    let m = chance.one_in(2).then(|| some_m(chance));
+    let mut wish = Wish { finished, m, open, before: None, after: None, recharge: None };
+    if wish.m.is_some() {
+        wish.finished.truncate(4);
+    }
+    wish
+}
+
+fn some_m(chance: &mut Chance) -> (usize, Finished) {
+    let length = chance.between(12, 30) as usize;
+    let energy = chance.pick(&[-1_200_000_000, -1, 0, 1, 55_555, 400_000_000]);
+    let distance = chance.between(200, Wish::most_distance(length) as i64);
+    (length, Finished { energy, distance: distance.into() })
 }
 
 fn run(wish: &Wish, chance: &mut Chance, seconds: usize) -> Run {
@@ -26,7 +39,13 @@ fn run(wish: &Wish, chance: &mut Chance, seconds: usize) -> Run {
         Sample { speed, voltage, current: raw.current }
     };
     let samples: Vec<Sample> = wish.samples(chance, 20 * seconds).iter().map(good).collect();
-    Run::drive(&cycle, &tolerances, &samples)
+    match wish.m {
+        None => Run::drive(&cycle, &tolerances, &samples),
+        Some((length, _)) => {
+            let stretches = Stretches { length, set_speed: chance.between(1, 1500) as i16 };
+            Run::drive_shortened(&cycle, &tolerances, &stretches, &samples)
+        }
+    }
 }
 
 #[test]
@@ -47,6 +66,7 @@ fn standing_still_and_an_odd_energy() {
     let chance = &mut Chance::new(6);
     for _ in 0..2_000 {
         let mut wish = some_wish(chance, 40);
+        wish.finished.truncate(3);
         wish.finished.push(Finished { energy: 5, distance: 0 });
         let energy = chance.between(-1_000, 1_000).into();
         wish.set_energy(energy);

@@ -10,14 +10,14 @@ use lib.IntN.{ℤ}
 use Rattle.rules.specs.Words.{unless}
 use Rattle.numbers.proofs.Tests.{not-refused, pass, settled-taken, settled-refused, settled-answer}
 use Rattle.rules.specs.declared.Amounts.{Amounts}
-use Rattle.rules.specs.Closing.{closingRefusal}
+use Rattle.rules.specs.Closing.{leastFinished, closingRefusal}
 use Rattle.values.specs.Limits.{areAmounts}
 use Rattle.laws.specs.Answers.{Said, gives, refuses, orRefused, Figured, figuredSaid, closingSaid}
 use Rattle.laws.proofs.Answers.{closing-or}
 use Rattle.ledger.specs.Row.{energyIn, distanceIn}
 use Rattle.state.specs.declared.Run.{Run}
 use Rattle.state.specs.State.{ground}
-use Rattle.state.specs.Refusals.{cyclesBy}
+use Rattle.state.specs.Refusals.{besideBy, cyclesBy}
 use Rattle.state.proofs.Checked.{Ground, ground-passed, ground-on, ground-off}
 use Rattle.consumption.specs.Figures.{closingOn}
 use Rattle.closing.specs.Answers.{grounds, whole, refusalOf, closedFigures, closingAnswer}
@@ -45,18 +45,20 @@ module _ (r : Run) (a : Amounts) (b : List ℕ) (l : List ℤ) (m : List ℕ) wh
       go false h = refl
 
   -- 1 and 2, then the closing by the rules
-  pub closing-after : orRefused (grounds r a b l m 0) (closingSaid (closingOn l (cyclesBy r) a)) ≡ closingAnswer r a b l m
+  pub closing-after : orRefused (grounds r a b l m 0) (closingSaid (closingOn l (besideBy r) (leastFinished (r .track .method)) (cyclesBy r) a))
+      ≡ closingAnswer r a b l m
   unfolding refusalOf
   closing-after = go (eqb (grounds r a b l m 0) 0) refl
     where
       k : ℕ
-      k = closingRefusal (whole r a b l m) (cyclesBy r) (energyIn l) (distanceIn l)
+      k = closingRefusal (whole r a b l m) (cyclesBy r) (energyIn l) (distanceIn l) (leastFinished (r .track .method))
 
       said : Said Figured
       said = gives (figuredSaid (closedFigures r a b l m))
 
       go : (t : Bool) → eqb (grounds r a b l m 0) 0 ≡ t
-          → orRefused (grounds r a b l m 0) (closingSaid (closingOn l (cyclesBy r) a)) ≡ orRefused (grounds r a b l m k) said
+          → orRefused (grounds r a b l m 0) (closingSaid (closingOn l (besideBy r) (leastFinished (r .track .method)) (cyclesBy r) a))
+          ≡ orRefused (grounds r a b l m k) said
       go true e =
           let none = eqb-true (grounds r a b l m 0) 0 e in
           settled-taken _ none ∙ closing-or k (closedFigures r a b l m) ∙ ap (λ (n : ℕ). orRefused n said) (sym (grounds-on k none))

@@ -2,14 +2,14 @@
 -- Assumes nothing.
 use mathlib.Core.Bool.{true, false}
 use mathlib.Core.List.{List, _++_}
-use mathlib.Core.Path.{_≡_, refl, sym, ap, ap₂, _∙_}
+use mathlib.Core.Path.{_≡_, refl, sym, ap, _∙_}
 use Prim.Native.Nat.{ℕ}
 use lib.IntN.{ℤ, _+ℤ_}
 use Rattle.numbers.proofs.Tests.{pass, settled-taken}
 use Rattle.rules.specs.declared.Moment.{Moment}
 use Rattle.rules.specs.declared.Amounts.{Amounts}
-use Rattle.rules.specs.Regular.{Plan}
-use Rattle.rules.specs.Closing.{closingBy}
+use Rattle.rules.specs.Plan.{Plan}
+use Rattle.rules.specs.Closing.{leastFinished, closingBy}
 use Rattle.rules.specs.Figures.{energies, distances, cyclesIn, closingIn}
 use Rattle.values.specs.Limits.{areAmounts}
 use Rattle.laws.specs.Answers.{closingSaid}
@@ -18,20 +18,22 @@ use Rattle.laws.proofs.Ended.{closing-ended}
 use Rattle.laws.proofs.Same.{closing-same}
 use Rattle.ledger.specs.Row.{energyIn, distanceIn}
 use Rattle.state.specs.declared.Run.{Run}
-use Rattle.state.specs.Refusals.{cyclesBy}
-use Rattle.judge.proofs.Runs.{Reached, run-shows, cycle-energies, cycle-distances, few-cycles, never-refused}
+use Rattle.state.specs.Refusals.{besideBy, cyclesBy}
+use Rattle.judge.proofs.Runs.{Reached, in-order, run-shows, cycle-energies, cycle-distances, few-cycles, never-refused}
 use Rattle.consumption.specs.Figures.{closingOn}
 use Rattle.closing.specs.Answers.{grounds, closingAnswer}
 use Rattle.closing.proofs.Grounds.{closing-after}
 
 module _ (p : Plan) (l₀ : List ℤ) (m₀ : List ℕ) {xs : List Moment} {r : Run} {l : List ℤ} {m : List ℕ} (h : Reached p l₀ m₀ xs r l m) (a : Amounts) where
-  -- E, n, e_c and d_c that the ledger has are those of the samples
-  pub closing-on-run : closingOn l (cyclesBy r) a ≡ closingIn p xs a
+  -- E, n, e_c and d_c that ledger and run have are those of the samples, and the method is the plan's
+  pub closing-on-run : closingOn l (besideBy r) (leastFinished (r .track .method)) (cyclesBy r) a ≡ closingIn p xs a
   closing-on-run =
       let shown = run-shows p l₀ m₀ h in
-      ap₂ (λ (E : ℤ) (n : ℕ). closingBy (a .before +ℤ E) n (energyIn l) (distanceIn l) (a .after) (a .charge)) (shown .energies-add-up) (shown .cycles-are)
+      (λ i.
+      closingBy (a .before +ℤ shown .energies-add-up i) (shown .cycles-are i) (energyIn l) (distanceIn l) (a .after)
+      (leastFinished (in-order p l₀ m₀ h .run i .track .method)) (a .charge))
       ∙ closing-same _ (cyclesIn p xs) (few-cycles p l₀ m₀ h) (energyIn l) (distanceIn l) (energies p xs) (distances p xs)
-      (cycle-energies p l₀ m₀ h) (cycle-distances p l₀ m₀ h) (a .after) (a .charge)
+      (cycle-energies p l₀ m₀ h) (cycle-distances p l₀ m₀ h) (a .after) (leastFinished (p .method)) (a .charge)
 
   -- such a run is refused by the closing's own numbers only
   pub closing-of-run : areAmounts a ≡ true → closingAnswer r a (p .cycle) l m ≡ closingSaid (closingIn p xs a)

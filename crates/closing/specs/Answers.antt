@@ -6,13 +6,13 @@ use lib.IntN.{ℤ, _+ℤ_}
 use Rattle.rules.specs.Words.{unless}
 use Rattle.rules.specs.declared.Amounts.{Amounts}
 use Rattle.rules.specs.declared.Closing.{Closing}
-use Rattle.rules.specs.Closing.{closingRefusal, closingFigures}
+use Rattle.rules.specs.Closing.{leastFinished, closingRefusal, closingFigures}
 use Rattle.values.specs.Limits.{areAmounts}
 use Rattle.laws.specs.Answers.{Said, gives, orRefused, Figured, figuredSaid}
 use Rattle.ledger.specs.Row.{energyIn, distanceIn, energyAll}
 use Rattle.state.specs.declared.Run.{Run}
 use Rattle.state.specs.State.{ground}
-use Rattle.state.specs.Refusals.{cyclesBy}
+use Rattle.state.specs.Refusals.{besideBy, cyclesBy}
 
 module _ (r : Run) (a : Amounts) (b : List ℕ) (l : List ℤ) (m : List ℕ) where
   -- "In a started run 1 and 2 come before all others": the amounts are numbers of the state
@@ -21,11 +21,11 @@ module _ (r : Run) (a : Amounts) (b : List ℕ) (l : List ℤ) (m : List ℕ) wh
 
   -- E
   abbrev pub whole : ℤ
-  whole = a .before +ℤ energyAll l
+  whole = a .before +ℤ (energyAll l +ℤ besideBy r)
 
   -- 1, 2, 10, 11, 12, 13, or 0
   unfoldable pub refusalOf : ℕ
-  refusalOf = grounds (closingRefusal whole (cyclesBy r) (energyIn l) (distanceIn l))
+  refusalOf = grounds (closingRefusal whole (cyclesBy r) (energyIn l) (distanceIn l) (leastFinished (r .track .method)))
 
   -- the figures of its finished cycles
   abbrev pub closedFigures : Closing

@@ -158,9 +158,9 @@ module _ {l : List ℤ} {n : ℕ} {E : ℤ} (g : Tested l n E) where
   }
 
   -- only 13 is left to refuse
-  pub only-range : closingRefusal E n e d ≡ unless 13 (leb 1 (rangeFigure E n e d)) 0
+  pub only-range : (asked : ℕ) → asked ≤ n → closingRefusal E n e d asked ≡ unless 13 (leb 1 (rangeFigure E n e d)) 0
   unfolding closingRefusal
-  only-range = sym (pass 10 (le-leb 3 n (g .three)) (pass 11 (g .drawn) (pass 11 (g .fits) (pass 12 moved (pass 12 (g .rated) refl)))))
+  only-range asked h = sym (pass 10 (le-leb asked n h) (pass 11 (g .drawn) (pass 11 (g .fits) (pass 12 moved (pass 12 (g .rated) refl)))))
 
 -- ---- the answer
 
@@ -170,14 +170,14 @@ unfolding unless
 unless-13 true x = refl
 unless-13 false x = refl
 
--- what the code finishes is what the closing by the rules says
-pub finished-is : {l : List ℤ} {n : ℕ} {E : ℤ} → Tested l n E → (F : ℤ) (charge : Charge)
-    → finishedBy (gatheredIn l n) n E F charge ≡ closingSaid (closingBy E n (energyIn l) (distanceIn l) F charge)
+-- what the code finishes is what the closing by the rules says, of a method that asks for no more cycles than are finished
+pub finished-is : {l : List ℤ} {n : ℕ} {E : ℤ} → Tested l n E → (F : ℤ) (asked : ℕ) → asked ≤ n → (charge : Charge)
+    → finishedBy (gatheredIn l n) n E F charge ≡ closingSaid (closingBy E n (energyIn l) (distanceIn l) F asked charge)
 unfolding finishedBy weighing
-finished-is {l} {n} {E} g F charge =
+finished-is {l} {n} {E} g F asked h charge =
     let e = energyIn l in
     let d = distanceIn l in
     let figures = closingFigures E n e d F charge in
     unless-13 (leb 1 (rangeFigure E n e d)) (gives (figuredSaid figures))
-    ∙ ap (λ (k : ℕ). orRefused k (gives (figuredSaid figures))) (sym (only-range g))
-    ∙ sym (closing-or (closingRefusal E n e d) figures)
+    ∙ ap (λ (k : ℕ). orRefused k (gives (figuredSaid figures))) (sym (only-range g asked h))
+    ∙ sym (closing-or (closingRefusal E n e d asked) figures)

@@ -17,9 +17,9 @@ use Rattle.ledger.specs.Row.{energyIn, distanceIn, energyAll}
 use Rattle.consumption.specs.declared.Rated.{Rated}
 use Rattle.consumption.specs.declared.Gathered.{Gathered}
 
--- the closing by the rules, of n finished cycles and these amounts
-abbrev pub closingOn : List ℤ → ℕ → Amounts → ClosingAnswer
-closingOn l n a = closingBy (a .before +ℤ energyAll l) n (energyIn l) (distanceIn l) (a .after) (a .charge)
+-- the closing by the rules, of n finished cycles and these amounts: so much energy is beside the cycles, and the method asks for so many
+abbrev pub closingOn : List ℤ → ℤ → ℕ → ℕ → Amounts → ClosingAnswer
+closingOn l beside asked n a = closingBy (a .before +ℤ (energyAll l +ℤ beside)) n (energyIn l) (distanceIn l) (a .after) asked (a .charge)
 
 -- ---- what one pass gathers
 

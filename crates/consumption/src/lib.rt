@@ -23,6 +23,7 @@ ghost use Rattle.values.specs.Limits.{areAmounts};
 ghost use Rattle.laws.specs.Answers.{figureSaid, closingSaid};
 ghost use Rattle.laws.specs.Beside.{mostTransfer, mostWhole};
 ghost use Rattle.rules.specs.Bench.{mostCycles};
+ghost use Rattle.rules.specs.Shown.{mostStretchEnergy};
 ghost use Rattle.ledger.specs.Row.{bounded, energyIn, energyAll};
 ghost use Rattle.wide.specs.Ratio.{ratio};
 ghost use Rattle.consumption.specs.Figures.{closingOn, weighedBy, Weighable, finishedBy};
@@ -44,13 +45,13 @@ pub struct Gathered {
     pub rated: bool,
 }
 
-// E, of the transfer energy before the test, the energy of the n finished cycles and that of the others.
-fn whole_energy(ledger: &[i64], n: usize, finished: u64, before: i64) -> i64
+// E, of the transfer energy before the test, the energy of the n finished cycles, that of the others, and that beside the cycles.
+fn whole_energy(ledger: &[i64], n: usize, finished: u64, beside: i64, before: i64) -> i64
     requires { ⌜ (bounded (now ledger) ≡ true) × (n ≤ mostCycles) ⌝ }
-    requires { ⌜ (pos finished ≡ sumℤ (energyIn (now ledger)) n) × Sized mostTransfer before ⌝ }
-    ensures { λ r. ⌜ r ≡ before +ℤ energyAll (now (ledger .entry)) ⌝ }
+    requires { ⌜ (pos finished ≡ sumℤ (energyIn (now ledger)) n) × Sized mostTransfer before × Sized (2 * mostStretchEnergy) beside ⌝ }
+    ensures { λ r. ⌜ r ≡ before +ℤ (energyAll (now (ledger .entry)) +ℤ beside) ⌝ }
 {
-    before + (finished as i64 + energy_from(ledger, n))
+    before + (finished as i64 + energy_from(ledger, n) + beside)
 }
 
 // The three products over one divisor, k the number of cycles after the second.
@@ -152,18 +153,19 @@ fn finish(g: Gathered, n: usize, total: i64, after: i64, charge: Charge) -> Clos
 }
 
 // The closing of n finished cycles with these amounts: 10, 11, 12, 13, or the figures together.
-pub fn close(ledger: &[i64], n: usize, a: Amounts) -> ClosingAnswer
+pub fn close(ledger: &[i64], beside: i64, asked: usize, n: usize, a: Amounts) -> ClosingAnswer
     requires { ⌜ (bounded (now ledger) ≡ true) × (n ≤ mostCycles) × (areAmounts a ≡ true) ⌝ }
-    ensures { λ r. ⌜ closingSaid r ≡ closingSaid (closingOn (now (ledger .entry)) n a) ⌝ }
+    requires { ⌜ Sized (2 * mostStretchEnergy) beside × (3 ≤ asked) ⌝ }
+    ensures { λ r. ⌜ closingSaid r ≡ closingSaid (closingOn (now (ledger .entry)) beside asked n a) ⌝ }
 {
-    if n < 3 {
+    if n < asked {
         return ClosingAnswer::Refused(10);
     }
     let g = gather_cycles(ledger, n);
     if !g.drawn {
         return ClosingAnswer::Refused(11);
     }
-    let total = whole_energy(ledger, n, g.energy, a.before);
+    let total = whole_energy(ledger, n, g.energy, beside, a.before);
     if total < (g.first.energy + g.second.energy) as i64 {
         return ClosingAnswer::Refused(11);
     }

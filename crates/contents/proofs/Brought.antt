@@ -10,17 +10,17 @@ use lib.Dec.{leb, eqb}
 use lib.ListN.{getD}
 use Rattle.rules.specs.Words.{allBelow}
 use Rattle.numbers.proofs.Tests.{pass, stop}
-use Rattle.rules.specs.Table.{Matter, block, energyBefore, energyAfter, recharge, begins, among, byRow, lengthAllowed, behindTolerances, blockPlaces, tags, RUN1}
+use Rattle.rules.specs.Table.{Matter, stretches, block, energyBefore, energyAfter, recharge, begins, among, byRow, lengthAllowed, behindTolerances, behindStretches, blockPlaces, tags, RUN1}
 use Rattle.laws.specs.Beside.{mayStand}
 use Rattle.rules.specs.Front.{Field}
-use Rattle.rules.specs.Record.{Content as Comes, brought, foreign, wrong, nothing, aNumber, aCycle, theTolerances, ownSamples, before, after, charged, contentOf}
-use Rattle.laws.proofs.Contents.{content-order, block-place, recharge-place, not-first}
+use Rattle.rules.specs.Record.{Content as Comes, brought, foreign, wrong, nothing, aNumber, aCycle, theTolerances, theStretches, ownSamples, before, after, charged, contentOf}
+use Rattle.laws.proofs.Contents.{content-order, first-place, block-place, recharge-place, not-first}
 use Rattle.laws.proofs.Tags.{pick, by-tag, no-length}
 use Rattle.fields.specs.Fields.{hasRow}
 use Rattle.fields.proofs.Fronts.{row-of-energy}
 use Rattle.contents.specs.Content.{Content, Bring, bringSaid, contentSaid, laterContent}
 use Rattle.contents.specs.declared.Content.the-variants.{Brought, Foreign, Refused}
-use Rattle.contents.specs.declared.Bring.the-variants.{Samples, Before, After, Recharge}
+use Rattle.contents.specs.declared.Bring.the-variants.{Stretch, Samples, Before, After, Recharge}
 
 -- ---- 8, 9, then its content
 
@@ -60,6 +60,10 @@ module _ {A : Type 0} (g : Matter → A) (z : A) (v : List ℕ) (tag : ℕ) wher
   unfolding byRow begins allBelow
   row-of-recharge e = ap at e
 
+  pub row-of-stretches : tag ≡ 8 → at tag ≡ g stretches
+  unfolding byRow begins allBelow
+  row-of-stretches e = ap at e
+
   pub row-of-kind : tag ≡ 6 → hasRow tag v ≡ true → at tag ≡ cond (eqb (getD v 0 0) 0) (g energyBefore) (g energyAfter)
   unfolding byRow begins allBelow
   row-of-kind e h = ap at e ∙ go (subst (λ (t : ℕ). hasRow t v ≡ true) e h)
@@ -71,20 +75,25 @@ module _ (p : ℕ) (v : List ℕ) (tag : ℕ) where
   abbrev may : ℕ → Bool
   may t = mayStand tags (behindTolerances + p) t v
 
-  pub stands-block : tag ≡ 5 → may tag ≡ leb p 2
+  pub stands-block : tag ≡ 5 → may tag ≡ leb p 3
   unfolding byRow begins allBelow
   stands-block e = ap may e ∙ block-place p
 
-  pub stands-recharge : tag ≡ 7 → may tag ≡ leb p 3
+  pub stands-recharge : tag ≡ 7 → may tag ≡ leb p 4
   unfolding byRow begins allBelow
   stands-recharge e = ap may e ∙ recharge-place p
 
+  pub stands-stretches : tag ≡ 8 → may tag ≡ eqb p 0
+  unfolding byRow begins allBelow
+  stands-stretches e = ap may e ∙ first-place p
+
   pub stands-energy : tag ≡ 6 → hasRow tag v ≡ true
-      → may tag ≡ cond (eqb (getD v 0 0) 0) (among (behindTolerances + p) (behindTolerances ∷ [])) (among (behindTolerances + p) blockPlaces)
+      → may tag ≡ cond (eqb (getD v 0 0) 0) (among (behindTolerances + p) (behindTolerances ∷ behindStretches ∷ [])) (among (behindTolerances + p) blockPlaces)
   unfolding byRow begins allBelow
   stands-energy e h = ap may e ∙ go (subst (λ (t : ℕ). hasRow t v ≡ true) e h)
     where
-      go : hasRow 6 v ≡ true → may 6 ≡ cond (eqb (getD v 0 0) 0) (among (behindTolerances + p) (behindTolerances ∷ [])) (among (behindTolerances + p) blockPlaces)
+      go : hasRow 6 v ≡ true → may 6
+          ≡ cond (eqb (getD v 0 0) 0) (among (behindTolerances + p) (behindTolerances ∷ behindStretches ∷ [])) (among (behindTolerances + p) blockPlaces)
       go r = pick (getD v 0 0) 0 (λ k. rw (eq-eqb _ 0 k)) (λ n. rw (ne-eqb _ 0 n, eq-eqb (getD v 0 0) 1 (kind v r n)))
 
   never : (b : Bool) → cond b false false ≡ false
@@ -96,13 +105,13 @@ module _ (p : ℕ) (v : List ℕ) (tag : ℕ) where
   stands-mark = ap (λ (x : Bool). cond (begins RUN1 v) x false) (not-first p 0 (omega arith)) ∙ never (begins RUN1 v)
 
   -- the first four fields stand nowhere there
-  pub stands-first : (n : ℕ) → lengthAllowed tags tag n ≡ true → (tag ≡ 5 → ⊥) → (tag ≡ 6 → ⊥) → (tag ≡ 7 → ⊥) → mayStand tags (behindTolerances + p) tag v ≡ false
+  pub stands-first : (n : ℕ) → lengthAllowed tags tag n ≡ true → (tag ≡ 5 → ⊥) → (tag ≡ 6 → ⊥) → (tag ≡ 7 → ⊥) → (tag ≡ 8 → ⊥) → may tag ≡ false
   unfolding byRow begins allBelow
   stands-first n =
-      by-tag (λ t. lengthAllowed tags t n ≡ true → (t ≡ 5 → ⊥) → (t ≡ 6 → ⊥) → (t ≡ 7 → ⊥) → mayStand tags (behindTolerances + p) t v ≡ false) tag
-      (λ _ _ _ _. stands-mark) (λ _ _ _ _. not-first p 1 (omega arith)) (λ _ _ _ _. not-first p 2 (omega arith)) (λ _ _ _ _. not-first p 3 (omega arith))
-      (λ _ a _ _. absurd (a refl)) (λ _ _ a _. absurd (a refl)) (λ _ _ _ a. absurd (a refl))
-      (λ w l _ _ _. absurd (false≢true (sym (no-length tag n w) ∙ l)))
+      by-tag (λ t. lengthAllowed tags t n ≡ true → (t ≡ 5 → ⊥) → (t ≡ 6 → ⊥) → (t ≡ 7 → ⊥) → (t ≡ 8 → ⊥) → may t ≡ false) tag
+      (λ _ _ _ _ _. stands-mark) (λ _ _ _ _ _. not-first p 1 (omega arith)) (λ _ _ _ _ _. not-first p 2 (omega arith)) (λ _ _ _ _ _. not-first p 3 (omega arith))
+      (λ _ a _ _ _. absurd (a refl)) (λ _ _ a _ _. absurd (a refl)) (λ _ _ _ a _. absurd (a refl)) (λ _ _ _ _ a. absurd (a refl))
+      (λ w l _ _ _ _. absurd (false≢true (sym (no-length tag n w) ∙ l)))
 
 -- ---- one answer: each case is known by what it says
 abbrev caseOf : Comes → Content
@@ -110,6 +119,7 @@ caseOf (brought nothing) = Refused 9
 caseOf (brought (aNumber v)) = Refused 9
 caseOf (brought (aCycle v)) = Refused 9
 caseOf (brought (theTolerances t)) = Refused 9
+caseOf (brought (theStretches x)) = Brought (Stretch x)
 caseOf (brought (ownSamples xs)) = Brought Samples
 caseOf (brought (before e)) = Brought (Before e)
 caseOf (brought (after e)) = Brought (After e)
@@ -121,6 +131,7 @@ case-said : (v : List ℕ) (c : Content) → caseOf (contentSaid v c) ≡ c
 case-said v (Brought b) = brings b
   where
     brings : (b : Bring) → caseOf (brought (bringSaid v b)) ≡ Brought b
+    brings (Stretch x) = refl
     brings Samples = refl
     brings (Before e) = refl
     brings (After e) = refl

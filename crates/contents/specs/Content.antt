@@ -5,14 +5,15 @@ use Prim.Native.Nat.{ℕ, _+_}
 use Rattle.rules.specs.Table.{behindTolerances}
 use Rattle.rules.specs.Front.{Field}
 use Rattle.rules.specs.Values.{samplesOf, momentsIn}
-use Rattle.rules.specs.Record.{Bring as Brings, Content as Comes, brought, foreign, wrong, ownSamples, before, after, charged, contentOf, fieldContent}
+use Rattle.rules.specs.Record.{Bring as Brings, Content as Comes, brought, foreign, wrong, theStretches, ownSamples, before, after, charged, contentOf, fieldContent}
 pub use Rattle.contents.specs.declared.Content.{Content}
 pub use Rattle.contents.specs.declared.Bring.{Bring}
 use Rattle.contents.specs.declared.Content.the-variants.{Brought, Foreign, Refused}
-use Rattle.contents.specs.declared.Bring.the-variants.{Samples, Before, After, Recharge}
+use Rattle.contents.specs.declared.Bring.the-variants.{Stretch, Samples, Before, After, Recharge}
 
 -- what each case says of a field with the value v: what it brings, another vehicle's, or the number of a refusal
 abbrev pub bringSaid : List ℕ → Bring → Brings
+bringSaid v (Stretch x) = theStretches x
 bringSaid v Samples = ownSamples (momentsIn (samplesOf v))
 bringSaid v (Before e) = before e
 bringSaid v (After e) = after e

@@ -10,31 +10,25 @@ use lib.Dec.{eqb}
 use lib.IntN.{ℤ, pos}
 use lib.ListN.{length}
 use Rattle.numbers.proofs.Lists.{drop-cleared}
-use Rattle.numbers.proofs.Tests.{not-refused, pass, both}
-use Rattle.rules.specs.declared.Tolerances.{Tolerances}
-use Rattle.rules.specs.Bench.{tolerable}
+use Rattle.numbers.proofs.Tests.{not-refused}
 use Rattle.rules.specs.Cycle.{valid}
-use Rattle.rules.specs.Regular.{plan, courseOf, momentIn}
+use Rattle.rules.specs.Regular.{momentIn}
 use Rattle.rules.specs.Shown.{ledgerNumbers, mapWords}
 use Rattle.rules.specs.Table.{behindTolerances, tags}
 use Rattle.rules.specs.Machine.{Reply, toField, notYet, noField, taken, passed, refused, on, moveOf, moveAt}
 use Rattle.rules.specs.Values.{momentAt, countIn, samplesOf}
-use Rattle.rules.specs.Record.{Bring, nothing, aNumber, aCycle, theTolerances, ownSamples, before, after, charged}
+use Rattle.rules.specs.Record.{Bring, nothing, aNumber, aCycle, theTolerances, theStretches, ownSamples, before, after, charged}
 use Rattle.laws.specs.Answers.{refuses}
 use Rattle.laws.proofs.Prefixes.{kept as keeps-all}
 use Rattle.laws.proofs.Says.{movesTo, Says}
-use Rattle.laws.proofs.Samples.{moments-at}
 use Rattle.state.specs.State.{Memory, lent, Left, left}
-use Rattle.state.specs.Refusals.{startRefusal, started}
 use Rattle.state.proofs.Checked.{ground-passed}
-use Rattle.step.specs.Step.{State, Kept, startOf, samplesTaken, leftAt}
-use Rattle.step.proofs.Keeping.{kept-all}
-use Rattle.judge.proofs.Calls.{kept-ground}
-use Rattle.judge.proofs.Runs.{Reached, never-refused}
-use Rattle.records.specs.Stage.{Stage, planOn, isLong, bringOn, takeOn, replyOn, runOn, stageAfter}
+use Rattle.laws.proofs.Sound.{sound}
+use Rattle.step.specs.Step.{State, samplesTaken}
+use Rattle.records.specs.Stage.{Stage, planOn, bringOn, takeOn, replyOn, runOn, stageAfter}
 use Rattle.records.proofs.Came.{Enough, Moved, took, went, moved}
 use Rattle.records.proofs.Later.{taken-list}
-use Rattle.laws.proofs.Places.{place-is, block-places, recharge-places}
+use Rattle.laws.proofs.Places.{place-is, before-places, block-places, recharge-places}
 use Rattle.opening.specs.declared.Opening.{Opening}
 use Rattle.opening.specs.Answers.{stageOf, openGround, notOpened, openedBy, frontOpened}
 use Rattle.opening.proofs.Readied.{ground-ready}
@@ -44,55 +38,44 @@ use Rattle.reader.specs.Answers.{readBy, allBy, readLeft, allLeft}
 use Rattle.demands.specs.Runs.{Beyond}
 use Rattle.demands.proofs.Beyond.{untouched, beyond-then, all-beyond}
 
--- a start on memory that is long enough is kept
-start-kept : (b : List ℕ) (t : Tolerances) (c : Memory) → valid b ≡ true → tolerable t ≡ true → isLong c ≡ true
-    → Kept (plan b t) (leftAt (plan b t) (startOf (c .ledger) (c .map)))
-unfolding startRefusal
-start-kept b t c good ok long =
-    let w = both _ _ long in
-    let granted : startRefusal b t (c .ledger) (c .map) ≡ 0 = sym (pass 1 (w .0) (pass 1 (w .1) (pass 2 good (pass 3 ok refl)))) in
-    let z = startOf (c .ledger) (c .map) in
-    kept-ground (started b t) b (z .memory .ledger) (z .memory .map)
-    (ground-passed (never-refused (plan b t) (c .ledger) (c .map) (Reached.start granted) 0))
-
 -- what every accepted field keeps, on memory that was a
 module _ (a : Memory) where
   pub record Keeps (x : Stage) : Type 0 where
     pub beyond : Beyond a (x .run .memory)
-    pub kept : behindTolerances ≤ x .place → Kept (planOn x) (leftAt (planOn x) (x .run))
+    pub sound : behindTolerances ≤ x .place → valid (x .cycle) ≡ true
 
   keeps-brought : (x : Stage) (tag : ℕ) (v : List ℕ) (g : Bring) → Says (x .passed) (x .vehicle) (x .cycle) (x .run .progress .offered) tag v (x .place) g → Enough x g
       → Keeps x → Keeps (bringOn x (movesTo g) g)
-  keeps-brought x tag v nothing s n h = record { beyond = h .beyond; kept = λ e. absurd (omega arith) }
-  keeps-brought x tag v (aNumber w) s n h = record { beyond = h .beyond; kept = λ e. absurd (omega arith) }
-  keeps-brought x tag v (aCycle w) s n h = record { beyond = h .beyond; kept = λ e. absurd (omega arith) }
+  keeps-brought x tag v nothing s n h = record { beyond = h .beyond; sound = λ e. absurd (omega arith) }
+  keeps-brought x tag v (aNumber w) s n h = record { beyond = h .beyond; sound = λ e. absurd (omega arith) }
+  keeps-brought x tag v (aCycle w) s n h = record { beyond = h .beyond; sound = λ e. absurd (omega arith) }
   keeps-brought x tag v (theTolerances t) s n h =
       let c = x .run .memory in
       record {
         beyond = beyond-then (h .beyond) (record { in-ledger = drop-cleared (pos 0) ledgerNumbers (c .ledger); in-map = drop-cleared 0 mapWords (c .map) });
-        kept = λ _. start-kept (x .cycle) t c (s .3) (s .4) n;
+        sound = λ _. s .3;
       }
+  keeps-brought x tag v (theStretches y) s n h = record { beyond = h .beyond; sound = λ _. h .sound (omega (arith, place-is (x .place) behindTolerances (s .1))) }
   keeps-brought x tag v (ownSamples xs) s n h =
       let q = samplesOf v in
       let p = planOn x in
-      let good = moments-at q (countIn q) (s .3 .samples) in
-      let k = h .kept (block-places (x .place) (s .1) .0) in
-      let run-is : samplesTaken (courseOf p) (x .run) (momentAt q) (countIn q) ≡ samplesTaken (courseOf p) (x .run) (momentIn xs) (length xs) =
-      taken-list (courseOf p) (x .run) (momentAt q) (countIn q) ∙ (λ i. samplesTaken (courseOf p) (x .run) (momentIn (sym (s .2) i)) (length (sym (s .2) i))) in
+      let good = h .sound (block-places (x .place) (s .1) .0) in
+      let run-is : samplesTaken p (x .run) (momentAt q) (countIn q) ≡ samplesTaken p (x .run) (momentIn xs) (length xs) =
+      taken-list p (x .run) (momentAt q) (countIn q) ∙ (λ i. samplesTaken p (x .run) (momentIn (sym (s .2) i)) (length (sym (s .2) i))) in
       record {
-        beyond = subst (λ (z : State). Beyond a (z .memory)) run-is (beyond-then (h .beyond) (all-beyond p (x .run) (momentAt q) (countIn q) k good));
-        kept = λ _. subst (λ (z : State). Kept p (leftAt p z)) run-is (kept-all p (x .run) (momentAt q) (countIn q) k good);
+        beyond = subst (λ (z : State). Beyond a (z .memory)) run-is (beyond-then (h .beyond) (all-beyond p (x .run) (momentAt q) (countIn q) (sound (x .cycle) good)));
+        sound = λ _. good;
       }
-  keeps-brought x tag v (before e) s n h = record { beyond = h .beyond; kept = λ _. h .kept (omega (arith, place-is (x .place) behindTolerances (s .1))) }
-  keeps-brought x tag v (after e) s n h = record { beyond = h .beyond; kept = λ _. h .kept (block-places (x .place) (s .1) .0) }
-  keeps-brought x tag v (charged w) s n h = record { beyond = h .beyond; kept = λ _. h .kept (recharge-places (x .place) (s .1) .0) }
+  keeps-brought x tag v (before e) s n h = record { beyond = h .beyond; sound = λ _. h .sound (before-places (x .place) (s .1) .0) }
+  keeps-brought x tag v (after e) s n h = record { beyond = h .beyond; sound = λ _. h .sound (block-places (x .place) (s .1) .0) }
+  keeps-brought x tag v (charged w) s n h = record { beyond = h .beyond; sound = λ _. h .sound (recharge-places (x .place) (s .1) .0) }
 
   pub keeps-move : (x : Stage) (i : List ℕ) (y : Stage) (m : ℕ) → moveAt tags takeOn x i ≡ on y m → Keeps x → Keeps y
   keeps-move x i y m e h = go (moved x i y m e)
     where
       go : Moved x i y m → Keeps y
       go (took f _ _ _ c) = subst Keeps (c .is) (keeps-brought x (f .tag) (f .value) (c .brings) (c .says) (c .enough) h)
-      go (went f _ _ d _ _) = subst Keeps d (record { beyond = h .beyond; kept = h .kept })
+      go (went f _ _ d _ _) = subst Keeps d (record { beyond = h .beyond; sound = h .sound })
 
   -- after the field at the front, and after all
   keeps-reply : (x : Stage) (i : List ℕ) → Keeps x → Keeps (stageAfter x (replyOn x i))
@@ -112,7 +95,7 @@ module _ (a : Memory) where
 
 module _ (o : Opening) (room : List ℕ) (l : List ℤ) (m : List ℕ) where
   pub opening-keeps : openGround o room ≡ 0 → Keeps (lent l m) (stageOf o room l m)
-  opening-keeps e = record { beyond = untouched; kept = λ p. absurd (omega (arith, ground-ready o room e .few)) }
+  opening-keeps e = record { beyond = untouched; sound = λ p. absurd (omega (arith, ground-ready o room e .few)) }
 
   opened-memory : (x : Stage) (y : Reply Stage) → stageAfter x y .run .memory ≡ openedBy o room x y .memory
   opened-memory x (toField (taken z) n) = refl
@@ -139,7 +122,7 @@ module _ (r : Reading) (b : List ℕ) (l : List ℤ) (m : List ℕ) where
   -- where the tests before it are passed, a reading begins with memory that is its own
   pub reading-keeps : readGround r b l m ≡ 0 → Keeps (lent l m) (stageAt r b l m)
   unfolding readGround
-  reading-keeps e = record { beyond = untouched; kept = λ _. kept-ground (r .run) b l m (ground-passed (not-refused 0 _ _ e .1)) }
+  reading-keeps e = record { beyond = untouched; sound = λ _. ground-passed (not-refused 0 _ _ e .1) .sound }
 
   module _ (i : List ℕ) where
     abbrev x : Stage

@@ -9,12 +9,12 @@ use lib.IntN.{ℤ}
 use lib.ListN.{length, length-drop}
 use Rattle.numbers.proofs.Tables.{length-table}
 use Rattle.rules.specs.declared.Moment.{Moment}
-use Rattle.rules.specs.Table.{block, lengthAllowed, behindBefore, behindBlock, tags}
+use Rattle.rules.specs.Table.{block, lengthAllowed, behindTolerances, behindBefore, behindBlock, tags}
 use Rattle.rules.specs.Front.{Field}
 use Rattle.rules.specs.Machine.{on, moveAt, run}
 use Rattle.rules.specs.Values.{samplesOf, momentAt, countIn}
-use Rattle.rules.specs.Record.{Told, Bring, nothing, aNumber, aCycle, theTolerances, ownSamples, before, after, charged, holding, bringAt, takeField}
-use Rattle.laws.proofs.Places.{place-is, block-places}
+use Rattle.rules.specs.Record.{Told, Bring, nothing, aNumber, aCycle, theTolerances, theStretches, ownSamples, before, after, charged, holding, bringAt, takeField}
+use Rattle.laws.proofs.Places.{place-is, before-places, block-places}
 use Rattle.laws.proofs.Prefixes.{kept}
 use Rattle.laws.proofs.Samples.{block-of}
 use Rattle.laws.proofs.Says.{movesTo}
@@ -33,8 +33,9 @@ late s f nothing w l = absurd (let p = place-is (s .place) 0 (w .1) in omega ari
 late s f (aNumber v) w l = absurd (let p = place-is (s .place) 1 (w .1) in omega arith)
 late s f (aCycle v) w l = absurd (let p = place-is (s .place) 2 (w .1) in omega arith)
 late s f (theTolerances t) w l = absurd (let p = place-is (s .place) 3 (w .1) in omega arith)
+late s f (theStretches x) w l = absurd (let p = place-is (s .place) behindTolerances (w .1) in omega arith)
 late s f (ownSamples xs) w l = samples-late xs
-late s f (before e) w l = absurd (let p = place-is (s .place) 4 (w .1) in omega arith)
+late s f (before e) w l = absurd (omega (arith, l, before-places (s .place) (w .1) .1))
 late s f (after e) w l = after-late e
 late s f (charged k) w l = charged-late k
 

@@ -3,7 +3,7 @@
 use mathlib.Core.Bool.{Bool, true, false, cond, false≢true}
 use mathlib.Core.List.{List, _++_, append-assoc}
 use mathlib.Core.Path.{_≡_, refl, sym, ap, subst, _∙_}
-use Prim.Native.Nat.{ℕ, zero, suc, _+_, _-_, _≤_, max}
+use Prim.Native.Nat.{ℕ, zero, suc, _+_, _≤_, max}
 use native.Mathlib.Omega.{arith}
 use lib.Dec.{leb, eqb}
 use lib.ListN.{length, drop, length-append}
@@ -11,7 +11,7 @@ use borrow.Author.Tests.{le-leb}
 use Rattle.rules.specs.Words.{unless}
 use Rattle.rules.specs.declared.Moment.{Moment}
 use Rattle.rules.specs.Bench.{mostOffered}
-use Rattle.rules.specs.Table.{Matter, mark, number, cycle, tolerances, block, energyBefore, energyAfter, recharge, isOf, among, lengthAllowed, byRow, behindTolerances, behindBefore, behindBlock, tags}
+use Rattle.rules.specs.Table.{Matter, mark, number, cycle, tolerances, stretches, block, energyBefore, energyAfter, recharge, isOf, among, lengthAllowed, byRow, behindTolerances, behindBefore, behindBlock, tags}
 use Rattle.rules.specs.Front.{Field, Front, incomplete, impossible, field, bytesOf, frontOf}
 use Rattle.rules.specs.Machine.{Answer, taken, waiting, Ran, Move, on, off, moveBy, onwards, goOn, replyAt, moveAt, upto}
 use Rattle.rules.specs.Values.{isNumber, sameNumber, firstIn, samplesOf, momentsIn, countIn, areSamples, blockOr}
@@ -31,7 +31,7 @@ use Rattle.demands.proofs.Blocked.{Late, samples-late, after-late, char
 
 -- ---- a field behind the blocks, where the samples ys are told
 
--- places 5 and 6 are one to the table
+-- behind a 6 before and behind a block are one place to the table
 place-same : (content : Matter → List ℕ → Content) (f : Field) (p : ℕ) → behindBefore ≤ p
     → fieldContent (max behindBlock p) content f ≡ fieldContent p content f
 unfolding fieldContent byRow
@@ -84,6 +84,7 @@ module _ (ys : List Moment) where
     content-same number v = λ _ _. refl
     content-same cycle v = λ _ _. refl
     content-same tolerances v = λ _ _. refl
+    content-same stretches v = λ _ _. refl
     content-same block v = block-same v
     content-same energyBefore v = λ _ _. refl
     content-same energyAfter v = λ _ _. refl
@@ -178,11 +179,12 @@ blocks-bring s more y l h six over =
     let b = subst (Blocked s) (h .state) (blocked-run s more l) in
     let r = subst (λ (t : Told). s .place ≤ t .place) (h .state) (run-place s more) in
     let place : y .place ≡ max behindBlock (s .place) = omega arith in
+    let method = w .method (omega arith) in
     let amounts = b .amounts (omega arith) in
     λ k. record {
       place = place k;
       passed = over k;
-      holding = holding (w .vehicle k) (w .cycle k) (w .tolerances k) (y .holding .samples) (amounts k);
+      holding = holding (w .vehicle k) (w .cycle k) (w .tolerances k) (method k) (y .holding .samples) (amounts k);
     }
 
 module _ (a more z : List ℕ) (s y x : Told) (e : sheetOf a ≡ told s) (l : behindBefore ≤ s .place)

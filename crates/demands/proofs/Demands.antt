@@ -5,7 +5,7 @@ use mathlib.Core.Path.{_≡_}
 use lib.IntN.{ℤ}
 use Prim.Native.Nat.{ℕ}
 use Rattle.rules.specs.declared.Moment.{Moment}
-use Rattle.rules.specs.Regular.{Plan}
+use Rattle.rules.specs.Plan.{Plan}
 use Rattle.state.specs.declared.Run.{Run}
 use Rattle.judge.proofs.Runs as runs
 use Rattle.intake.proofs.Told as intake
@@ -29,7 +29,7 @@ use Rattle.demands.proofs.Arrivals.{before-all, prints}
 use Rattle.demands.proofs.WiderRuns.{wider-run, longer-run}
 use Rattle.demands.proofs.Calls.{wider-calls, longer-calls}
 use Rattle.demands.proofs.Splits.{told-has-four}
-use Rattle.demands.proofs.ToldLaws.{told-grows}
+use Rattle.demands.proofs.ToldLaws.{told-grows, none-behind-four}
 use Rattle.demands.proofs.Records.{field-four-alone, wider-record, longer-told, ended-stays, blocks-added-between}
 
 pub demand-1 : {M : Type 1} → Demand1 M
@@ -73,6 +73,7 @@ demand-3 = record {
   field-four-alone = field-four-alone;
   wider-records = wider-record;
   longer-record = told-grows;
+  none-behind-four = none-behind-four;
   longer-told = longer-told;
   ended-stays = ended-stays;
   blocks-added-between = blocks-added-between;

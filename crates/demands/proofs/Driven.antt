@@ -6,9 +6,10 @@ use Prim.Native.Nat.{ℕ}
 use lib.IntN.{ℤ}
 use denote.Ref.{now}
 use Rattle.numbers.proofs.Tests.{settled-taken}
+use Rattle.rules.specs.declared.Method.{Method}
 use Rattle.rules.specs.declared.Moment.{Moment}
 use Rattle.rules.specs.declared.Tolerances.{Tolerances}
-use Rattle.rules.specs.Regular.{Plan}
+use Rattle.rules.specs.Plan.{Plan}
 use Rattle.laws.specs.Answers.{gives}
 use Rattle.laws.proofs.Answers.{was-given, given-is}
 use Rattle.state.specs.declared.Run.{Run}
@@ -26,7 +27,7 @@ use Rattle.demands.specs.Runs.{StartOn, SampleOn, BlockOn, sampleIn, byt
 
 -- ---- what they promise
 
-pub start-promised : (c : StartCall) → (let (b, (t, (l, (m, _)))) = c .args in StartPromise (now b) t (now l) (now m) (c .answer) (startLeaves c))
+pub start-promised : (c : StartCall) → (let (b, (t, (y, (l, (m, _))))) = c .args in StartPromise (now b) t y (now l) (now m) (c .answer) (startLeaves c))
 start-promised c = promised (c .kept)
 
 pub sample-promised : (c : SampleCall) → (let (r, (b, (l, (m, _)))) = c .args in SamplePromise r (now b) (now l) (now m) (sampleIn c) (c .answer) (sampleLeaves c))
@@ -37,8 +38,10 @@ pub block-promised : (c : BlockCall)
 block-promised c = promised (c .kept)
 
 -- on what they are lent
-pub start-kept : {b : List ℕ} {t : Tolerances} {l : List ℤ} {m : List ℕ} (c : StartCall) → StartOn b t l m c → StartPromise b t l m (c .answer) (startLeaves c)
-start-kept c on = transport (λ i. StartPromise (on .cycle i) (on .tolerances i) (on .ledger i) (on .map i) (c .answer) (startLeaves c)) (start-promised c)
+pub start-kept : {b : List ℕ} {t : Tolerances} {y : Method} {l : List ℤ} {m : List ℕ} (c : StartCall) → StartOn b t y l m c
+    → StartPromise b t y l m (c .answer) (startLeaves c)
+start-kept c on =
+    transport (λ i. StartPromise (on .cycle i) (on .tolerances i) (on .method i) (on .ledger i) (on .map i) (c .answer) (startLeaves c)) (start-promised c)
 
 pub sample-kept : {r : Run} {b : List ℕ} {l : List ℤ} {m : List ℕ} (c : SampleCall) → SampleOn r b l m c
     → SamplePromise r b l m (sampleIn c) (c .answer) (sampleLeaves c)

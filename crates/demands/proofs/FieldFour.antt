@@ -19,7 +19,7 @@ use Rattle.rules.specs.Table.{tolerances, begins, lengthAllowed, isTag, byRow, 
 use Rattle.rules.specs.Front.{Field, field, frontOf}
 use Rattle.rules.specs.Machine.{Answer, End, waiting, broken, stopped, Ran, moveBy, replyAt, moveAt, run}
 use Rattle.rules.specs.Values.{tolerancesIn}
-use Rattle.rules.specs.Record.{Told, Bring, nothing, aNumber, aCycle, theTolerances, ownSamples, before, after, charged, Content, brought, wrong, fieldContent, answerBy, contentAt, bringAt, morePassed, takeField, untold, Sheet, told, refusedAt, sheetBy, sheetFrom, sheetOf}
+use Rattle.rules.specs.Record.{Told, Bring, nothing, aNumber, aCycle, theTolerances, theStretches, ownSamples, before, after, charged, Content, brought, wrong, fieldContent, answerBy, contentAt, bringAt, morePassed, takeField, untold, Sheet, told, refusedAt, sheetBy, sheetFrom, sheetOf}
 use Rattle.laws.proofs.Carried.{Carries, carried}
 use Rattle.laws.proofs.Fronts.{whole-front}
 use Rattle.laws.proofs.Moves.{moveAs}
@@ -44,6 +44,7 @@ module _ (t : Tolerances) where
   differs-brought s f (aNumber v) w m e l = absurd (let p = place-is (s .place) 1 (w .1) in omega arith)
   differs-brought s f (aCycle v) w m e l = absurd (let p = place-is (s .place) 2 (w .1) in omega arith)
   differs-brought s f (theTolerances u) w m e l = absurd (let p = place-is (s .place) 3 (w .1) in omega arith)
+  differs-brought s f (theStretches x) w m e l = (omega arith, refl)
   differs-brought s f (ownSamples xs) w m e l = (omega arith, refl)
   differs-brought s f (before z) w m e l = (omega arith, refl)
   differs-brought s f (after z) w m e l = (omega arith, refl)

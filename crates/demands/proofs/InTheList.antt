@@ -37,15 +37,15 @@ use Rattle.reading.specs.Answers.{unfinished, stepSaid, replySaid, ReadSaid, Al
 use Rattle.reader.specs.Answers.{mayEnd, endingSaid, readBy, allBy, readLeft, allLeft, endingOf}
 use Rattle.desk.specs.Feeding.{outcomeSaid, Laid, Consumed, laidOf, stageOn, deskGround, feedOf}
 use Rattle.desk.proofs.LeftOver.{by-feed}
-use Rattle.demands.specs.Cases.{Listed}
+use Rattle.demands.specs.Cases.{Known, in-01, in-02, Listed}
 use Rattle.demands.specs.Demand1.{InTheList}
 use Rattle.demands.proofs.HasItsNumber.{closed-by}
-use Rattle.demands.proofs.Proper.{Few, few-unless, few-ground, few-closing, few-reading, few-opening, few-desk, listed, given-listed, Proper, at, content-proper, end-proper, reply-listed, run-listed}
+use Rattle.demands.proofs.Proper.{few-unless, few-ground, few-closing, few-reading, few-opening, few-desk, listed, given-listed, Proper, at, content-proper, end-proper, reply-listed, run-listed}
 
 -- ---- the answers
 
 eight : Listed 8
-eight = at 8 (omega arith) (omega arith)
+eight = at 8 (omega arith) (in-01 (omega arith))
 
 -- after the last accepted field
 end-listed : {A : Type 0} (a : A) (x : Stage) (i : List ℕ) (n : ℕ) → endSaid a (runOn x i .end) ≡ refuses n → Listed n
@@ -117,8 +117,8 @@ ended-listed started left n = go started (eqb left 0)
   where
     go : (s t : Bool) → unless (refuses 15) s (unless (refuses 15) t mayEnd) ≡ refuses n → Listed n
     go true true e = absurd (false≢true cc)
-    go true false e = let d : 15 ≡ n = cc e in subst Listed d (at 15 (omega arith) (omega arith))
-    go false t e = let d : 15 ≡ n = cc e in subst Listed d (at 15 (omega arith) (omega arith))
+    go true false e = let d : 15 ≡ n = cc e in subst Listed d (at 15 (omega arith) (in-01 (omega arith)))
+    go false t e = let d : 15 ≡ n = cc e in subst Listed d (at 15 (omega arith) (in-01 (omega arith)))
 
 feed-listed : (x : Laid) (i : List ℕ) (n : ℕ) → feedOf x i .outcome ≡ refuses n → Listed n
 feed-listed x i n =
@@ -134,8 +134,8 @@ sheet-listed i n k = by (run tags takeField untold i .end) refl
   where
     at-end : (a b : Bool) (f : ℕ) (s : Told) → unless (refusedAt 15 f) a (unless (refusedAt 15 f) b (told s)) ≡ refusedAt n k → Listed n
     at-end true true f s e = absurd (false≢true cc)
-    at-end true false f s e = let d : 15 ≡ n = cc e in subst Listed d (at 15 (omega arith) (omega arith))
-    at-end false b f s e = let d : 15 ≡ n = cc e in subst Listed d (at 15 (omega arith) (omega arith))
+    at-end true false f s e = let d : 15 ≡ n = cc e in subst Listed d (at 15 (omega arith) (in-01 (omega arith)))
+    at-end false b f s e = let d : 15 ≡ n = cc e in subst Listed d (at 15 (omega arith) (in-01 (omega arith)))
 
     x : Ran Told
     x = run tags takeField untold i
@@ -152,35 +152,35 @@ recharge-listed : (E : ℤ) (R : ℕ) (F : ℤ) (y : Charge) (n : ℕ) → figur
 unfolding rechargeRefusal
 recharge-listed E R F absent n q = absurd (given-refused q)
 recharge-listed E R F (wh A) n q =
-    given-listed (rechargeRefusal E R F A) (is (rechargeFigure E R F A)) n (few-unless _ (omega arith) (few-unless _ (omega arith) zero-le))
+    given-listed (rechargeRefusal E R F A) (is (rechargeFigure E R F A)) n (few-unless _ (in-01 (omega arith)) (few-unless _ (in-01 (omega arith)) (in-01 zero-le)))
     (sym (figure-or (rechargeRefusal E R F A) (Is (rechargeFigure E R F A))) ∙ q)
 
 -- the closing
-few-closed : (r : Run) (a : Amounts) (b : List ℕ) (l : List ℤ) (m : List ℕ) → Few (refusalOf r a b l m)
+few-closed : (r : Run) (a : Amounts) (b : List ℕ) (l : List ℤ) (m : List ℕ) → Known (refusalOf r a b l m)
 unfolding refusalOf
-few-closed r a b l m = few-unless _ (omega arith) (few-ground r b l m _ (few-closing (whole r a b l m) (cyclesBy r) (energyIn l) (distanceIn l)))
+few-closed r a b l m = few-unless _ (in-01 (omega arith)) (few-ground r b l m _ (few-closing (whole r a b l m) (cyclesBy r) (energyIn l) (distanceIn l) _))
 
 pub in-the-list : InTheList
 unfolding startRefusal sampleRefusal blockRefusal
 in-the-list = record {
   start-listed = λ c n e.
-      given-listed _ _ n (few-unless _ (omega arith) (few-unless _ (omega arith) (few-unless _ (omega arith) (few-unless _ (omega arith) zero-le))))
+      given-listed _ _ n (few-unless _ (in-01 (omega arith)) (few-unless _ (in-01 (omega arith)) (few-unless _ (in-01 (omega arith)) (few-unless _ (in-01 (omega arith)) (few-unless _ (in-02 refl) (in-01 zero-le))))))
       (sym (ap (λ (y : Left (Said Run)). y .answer) (c .kept)) ∙ ap answerSaid e);
   sample-listed = λ c n e.
       let (r, (b, (l, (m, _)))) = c .args in
-      given-listed _ _ n (few-ground r (now b) (now l) (now m) _ (few-unless _ (omega arith) (few-unless _ (omega arith) zero-le)))
+      given-listed _ _ n (few-ground r (now b) (now l) (now m) _ (few-unless _ (in-01 (omega arith)) (few-unless _ (in-01 (omega arith)) (in-01 zero-le))))
       (sym (ap (λ (y : Left (Said Run)). y .answer) (c .kept)) ∙ ap answerSaid e);
   block-listed = λ c n e.
       let (r, (b, (l, (m, _)))) = c .args in
       given-listed _ _ n
-      (few-ground r (now b) (now l) (now m) _ (few-unless _ (omega arith) (few-unless _ (omega arith) (few-unless _ (omega arith) (few-unless _ (omega arith) zero-le)))))
+      (few-ground r (now b) (now l) (now m) _ (few-unless _ (in-01 (omega arith)) (few-unless _ (in-01 (omega arith)) (few-unless _ (in-01 (omega arith)) (few-unless _ (in-01 (omega arith)) (in-01 zero-le))))))
       (sym (ap (λ (y : Left (Said Run)). y .answer) (c .kept)) ∙ ap answerSaid e);
   shown-listed = λ c n e.
       let (r, (b, (l, (m, _)))) = c .args in
-      given-listed _ _ n (few-ground r (now b) (now l) (now m) 0 zero-le) (sym (c .kept) ∙ ap shownSaid e);
+      given-listed _ _ n (few-ground r (now b) (now l) (now m) 0 (in-01 zero-le)) (sym (c .kept) ∙ ap shownSaid e);
   totals-listed = λ c n e.
       let (r, (b, (l, (m, _)))) = c .args in
-      given-listed _ _ n (few-ground r (now b) (now l) (now m) 0 zero-le) (sym (c .kept) ∙ ap totalsSaid e);
+      given-listed _ _ n (few-ground r (now b) (now l) (now m) 0 (in-01 zero-le)) (sym (c .kept) ∙ ap totalsSaid e);
   closing-listed = λ c n e. given-listed _ _ n (few-closed _ _ _ _ _) (sym (c .kept) ∙ ap closingSaid e);
   recharge-listed = λ c x is n e.
       let (r, (a, (b, (l, (m, _))))) = c .args in

@@ -42,9 +42,9 @@ pub by-number : {A : Type 0} (number : A → ℕ) (refused : ℕ → A) → ((k 
 by-number number refused h e g = (λ f. g .0 (sym e ∙ ap number f ∙ h 1), λ f. g .1 (sym e ∙ ap number f ∙ h 2))
 
 -- "Closing: 10, 11, 12, 13."
-pub closing-neither : (E : ℤ) (n : ℕ) (e d : ℕ → ℤ) → Neither (closingRefusal E n e d)
+pub closing-neither : (E : ℤ) (n : ℕ) (e d : ℕ → ℤ) (asked : ℕ) → Neither (closingRefusal E n e d asked)
 unfolding closingRefusal
-closing-neither E n e d =
+closing-neither E n e d asked =
     unless-neither _ (omega arith)
     (unless-neither _ (omega arith)
     (unless-neither _ (omega arith)
@@ -90,6 +90,7 @@ module _ (x : Stage) (late : behindTolerances ≤ x .place) where
   content-neither v r (there (there (there (there (there here))))) a = passed-neither _ (along Neither wrongNumber _ (omega arith) zero-neither)
   content-neither v r (there (there (there (there (there (there here)))))) a = passed-neither _ (along Neither wrongNumber _ (omega arith) zero-neither)
   content-neither v r (there (there (there (there (there (there (there here))))))) a = passed-neither _ (along Neither wrongNumber _ (omega arith) zero-neither)
+  content-neither v r (there (there (there (there (there (there (there (there here)))))))) a = passed-neither _ (along Neither wrongNumber _ (omega arith) zero-neither)
 
   field-neither : (f : Field) → At (fieldContent (x .place) (contentOn x) f)
   field-neither f = by-field At (x .place) (contentOn x) f (omega arith) (omega arith) (content-neither (f .value))

@@ -11,7 +11,7 @@ use lib.ListN.{drop}
 use denote.Ref.{RefT, now}
 use Rattle.numbers.proofs.Tests.{pass}
 use Rattle.rules.specs.declared.Moment.{Moment}
-use Rattle.rules.specs.Regular.{Plan}
+use Rattle.rules.specs.Plan.{Plan}
 use Rattle.laws.specs.Answers.{numberOf, figureSaid, closingSaid}
 use Rattle.values.specs.Limits.{areAmounts}
 use Rattle.state.specs.declared.Run.{Run}
@@ -70,7 +70,7 @@ module _ {p : Plan} {l₀ : List ℤ} {m₀ : List ℕ} {xs : List Moment} {r : 
   unfolding refusalOf
   closing-call-neither c on ok =
       by-number (λ (z : ClosingAnswer). numberOf (closingSaid z)) closings.Refused (λ k. refl)
-      (has-its-number .closing-number c ∙ sym (pass 1 ok (sym (grounded on _)))) (closing-neither _ _ _ _)
+      (has-its-number .closing-number c ∙ sym (pass 1 ok (sym (grounded on _)))) (closing-neither _ _ _ _ _)
 
   reading-neither : (reading : Reading) (cycle : RefT (List ℕ)) (ledger : RefT (List ℤ)) (map : RefT (List ℕ)) → On r (p .cycle) l m (reading .run) cycle ledger map
       → isReading reading ≡ true → (next : ℕ) → Neither next → Neither (orElse (readGround reading (now cycle) (now ledger) (now map)) next)

@@ -13,15 +13,16 @@ use Rattle.numbers.proofs.Tests.{pass, settled-taken}
 use Rattle.rules.specs.declared.Closing.{Closing}
 use Rattle.rules.specs.declared.ClosingAnswer.the-variants.{Closed}
 use Rattle.rules.specs.declared.Moment.{Moment}
-use Rattle.rules.specs.Closing.{weight, weighing, wholeEnergy, weightedFigure, closingRefusal, closingFigures}
+use Rattle.rules.specs.Closing.{weight, weighing, wholeEnergy, weightedFigure, leastFinished, closingRefusal, closingFigures}
 use Rattle.values.specs.Limits.{areAmounts}
 use Rattle.rules.specs.Course.{Course, outside, counted, judged, closed}
 use Rattle.rules.specs.Parts.{phasePart, partEnergy, partDistance}
-use Rattle.rules.specs.Regular.{Plan, courseOf, momentIn}
+use Rattle.rules.specs.Regular.{momentIn}
+use Rattle.rules.specs.Plan.{Plan, courseOf}
 use Rattle.rules.specs.Shown.{shownRow}
-use Rattle.laws.proofs.Regular.{no-such-phase}
+use Rattle.laws.proofs.Plans.{planned-no-such-phase}
 use Rattle.laws.proofs.Total.{energy-none, distance-none}
-use Rattle.laws.proofs.Closes.{closes}
+use Rattle.laws.proofs.Closes.{three-at-least, closes}
 use Rattle.laws.proofs.Closes as rule
 use Rattle.ledger.specs.Row.{at, outsideIn}
 use Rattle.laws.specs.Answers.{gives, Figured, figuredSaid, closingSaid}
@@ -74,12 +75,13 @@ module _ {p : Plan} {l₀ : List ℤ} {m₀ : List ℕ} {xs : List Moment} {r : 
   pub run-shows : RunShows p l₀ m₀ xs r l m
   run-shows = record {
     state-shows = (shows .offered, shows .counted-is, shows .end-is, shows .held-is);
+    stretches-show = shows .stretched-is;
     ledger-shows = shows .ledger-shows;
     phase-energies = energies-in;
     phase-distances = distances-in;
     outside-counts = outsides-are p l₀ m₀ reached;
     no-phase-holds-0 = λ c k g none f.
-        let nowhere = no-such-phase (p .cycle) (runs.good p l₀ m₀ reached) c k none in
+        let nowhere = planned-no-such-phase (p .cycle) (runs.good p l₀ m₀ reached) (p .method) c k none in
         let part = phasePart (y .layout) c k in
         (energies-in c k g f ∙ energy-none (y .share) s part _ nowhere, distances-in c k g f ∙ ap pos (distance-none (y .share) s part _ nowhere));
     map-shows = shows .map-shows;
@@ -108,7 +110,6 @@ module _ {p : Plan} {l₀ : List ℤ} {m₀ : List ℕ} {xs : List Moment} {r : 
   reading-not-refused x ok is = sym (pass 1 ok (sym (ap (λ (y : Run). ground y (p .cycle) l m 0) is ∙ runs.never-refused p l₀ m₀ reached 0)))
 
   pub run-answers : RunAnswers p l₀ m₀ xs r l m
-  unfolding isReading
   run-answers = record {
     shown-agrees = shown-is;
     totals-of-run = λ c on.
@@ -123,7 +124,7 @@ module _ {p : Plan} {l₀ : List ℤ} {m₀ : List ℕ} {xs : List Moment} {r : 
         })));
     closing-of-run = λ c on ok. same-closing _ _ (closing-kept c on ∙ closing.closing-of-run p l₀ m₀ reached (closingAmounts c) ok);
     figures-of-run = λ c on ok.
-        let none = reading-not-refused (figuresReading c r) ok refl in
+        let none = reading-not-refused (figuresReading c r) (ap (λ (z : Run). isReading (figuresReading c z)) (sym (on .run-is)) ∙ ok) refl in
         let found = settled-taken _ none ∙ figures.figures-of-run p l₀ m₀ (figuresReading c r) reached in
         figures-kept c on ∙ (λ i. record { refusal = none i; figures = found i });
   }
@@ -139,11 +140,15 @@ module _ {p : Plan} {l₀ : List ℤ} {m₀ : List ℕ} {xs : List Moment} {r : 
   abbrev whole : ClosingCall → ℤ
   whole c = wholeEnergy (closingAmounts c .before) y s n
 
+  -- how many cycles a closing asks for
+  abbrev asked : ℕ
+  asked = leastFinished (p .method)
+
   answered : (c : ClosingCall) → ClosingOn r (p .cycle) l m c → areAmounts (closingAmounts c) ≡ true → (x : Closing) → c .answer ≡ Closed x
-      → (closingRefusal (whole c) (cyclesIn p xs) e d ≡ 0) × (weightedFigure (whole c) (cyclesIn p xs) e d ≡ x .weighted)
+      → (closingRefusal (whole c) (cyclesIn p xs) e d asked ≡ 0) × (weightedFigure (whole c) (cyclesIn p xs) e d ≡ x .weighted)
   answered c on ok x is =
       let a = closingAmounts c in
-      let refusal = closingRefusal (whole c) (cyclesIn p xs) e d in
+      let refusal = closingRefusal (whole c) (cyclesIn p xs) e d asked in
       let said = closing-or refusal (closingFigures (whole c) (cyclesIn p xs) e d (a .after) (a .charge)) in
       let (none, same) = was-given refusal _ (figuredSaid x) (sym said ∙ ap closingSaid (sym (run-answers .closing-of-run c on ok) ∙ is)) in
       (none, ap (λ (f : Figured). f .weighted) (given-is same))
@@ -153,11 +158,11 @@ module _ {p : Plan} {l₀ : List ℤ} {m₀ : List ℕ} {xs : List Moment} {r : 
     recharge-aside = λ c on ok none. run-answers .closing-of-run c on ok ∙ settled-taken _ none;
     weighted-between = λ c on ok x is a z g.
         let (none, same) = answered c on ok x is in
-        subst (λ (w : ℕ). (a ≤ w) × (w ≤ z)) same (rule.weighted-between (whole c) (cyclesIn p xs) e d (closes (whole c) (cyclesIn p xs) e d none) a z g);
+        subst (λ (w : ℕ). (a ≤ w) × (w ≤ z)) same (rule.weighted-between (whole c) (cyclesIn p xs) e d (closes (whole c) (cyclesIn p xs) e d asked (three-at-least (p .method)) none) a z g);
     weighted-close = λ c on ok x is k u some g.
         let (none, same) = answered c on ok x is in
         let E = up (whole c) in
         subst (λ (w : ℕ). (w * (k * weight E (cyclesIn p xs)) ≤ weighing E (cyclesIn p xs) (λ j. up (e j)) u)
         × (weighing E (cyclesIn p xs) (λ j. up (e j)) u < (w + 2) * (k * weight E (cyclesIn p xs))))
-        same (rule.weighted-close (whole c) (cyclesIn p xs) e d (closes (whole c) (cyclesIn p xs) e d none) k u some g);
+        same (rule.weighted-close (whole c) (cyclesIn p xs) e d (closes (whole c) (cyclesIn p xs) e d asked (three-at-least (p .method)) none) k u some g);
   }

@@ -12,7 +12,7 @@ use lib.ListN.{drop}
 use Rattle.rules.specs.Words.{unless}
 use Rattle.rules.specs.Bench.{mostPassed}
 use Rattle.rules.specs.Closing.{closingRefusal}
-use Rattle.rules.specs.Table.{Matter, mark, number, cycle, tolerances, block, energyBefore, energyAfter, recharge, tags}
+use Rattle.rules.specs.Table.{Matter, mark, number, cycle, tolerances, stretches, block, energyBefore, energyAfter, recharge, tags}
 use Rattle.rules.specs.Front.{Field, Front, incomplete, impossible, field, frontOf}
 use Rattle.rules.specs.Machine.{Reply, toField, notYet, noField, taken, passed, refused, stopped, off, Answer, moveOf, replyAs, replyAt, run}
 use Rattle.rules.specs.Values.{sameNumber, firstIn, samplesOf, momentsIn, blockOr}
@@ -29,60 +29,57 @@ use Rattle.opening.specs.Answers.{openGround}
 use Rattle.reading.specs.declared.Reading.{Reading}
 use Rattle.reading.specs.Answers.{readGround}
 use Rattle.desk.specs.Feeding.{Laid, deskGround}
-use Rattle.demands.specs.Cases.{Listed}
+use Rattle.demands.specs.Cases.{Known, in-01, in-02, Listed}
 use Rattle.demands.proofs.Numbers.{along, either}
 
 -- ---- numbers: 0 where nothing is refused
 
-abbrev pub Few : ℕ → Type 0
-Few n = n ≤ 15
+pub few-unless : {n : ℕ} (t : Bool) {rest : ℕ} → Known n → Known rest → Known (unless n t rest)
+few-unless = along Known (λ (k : ℕ). k)
 
-pub few-unless : {n : ℕ} (t : Bool) {rest : ℕ} → Few n → Few rest → Few (unless n t rest)
-few-unless = along Few (λ (k : ℕ). k)
+few-cond : (t : Bool) (m n : ℕ) → Known m → Known n → Known (cond t m n)
+few-cond = either Known (λ (k : ℕ). k)
 
-few-cond : (t : Bool) (m n : ℕ) → Few m → Few n → Few (cond t m n)
-few-cond = either Few (λ (k : ℕ). k)
-
-pub few-ground : (r : Run) (b : List ℕ) (l : List ℤ) (m : List ℕ) (others : ℕ) → Few others → Few (ground r b l m others)
+pub few-ground : (r : Run) (b : List ℕ) (l : List ℤ) (m : List ℕ) (others : ℕ) → Known others → Known (ground r b l m others)
 unfolding ground
-few-ground r b l m others h = few-unless _ (omega arith) (few-unless _ (omega arith) h)
+few-ground r b l m others h = few-unless _ (in-01 (omega arith)) (few-unless _ (in-01 (omega arith)) h)
 
-pub few-closing : (E : ℤ) (n : ℕ) (e d : ℕ → ℤ) → Few (closingRefusal E n e d)
+pub few-closing : (E : ℤ) (n : ℕ) (e d : ℕ → ℤ) (asked : ℕ) → Known (closingRefusal E n e d asked)
 unfolding closingRefusal
-few-closing E n e d =
-    few-unless _ (omega arith)
-    (few-unless _ (omega arith)
-    (few-unless _ (omega arith) (few-unless _ (omega arith) (few-unless _ (omega arith) (few-unless _ (omega arith) zero-le)))))
+few-closing E n e d asked =
+    few-unless _ (in-01 (omega arith))
+    (few-unless _ (in-01 (omega arith))
+    (few-unless _ (in-01 (omega arith)) (few-unless _ (in-01 (omega arith)) (few-unless _ (in-01 (omega arith)) (few-unless _ (in-01 (omega arith)) (in-01 zero-le))))))
 
-pub few-reading : (r : Reading) (b : List ℕ) (l : List ℤ) (m : List ℕ) → Few (readGround r b l m)
+pub few-reading : (r : Reading) (b : List ℕ) (l : List ℤ) (m : List ℕ) → Known (readGround r b l m)
 unfolding readGround
-few-reading r b l m = few-unless _ (omega arith) (few-ground (r .run) b l m 0 zero-le)
+few-reading r b l m = few-unless _ (in-01 (omega arith)) (few-ground (r .run) b l m 0 (in-01 zero-le))
 
-pub few-opening : (o : Opening) (room : List ℕ) → Few (openGround o room)
+pub few-opening : (o : Opening) (room : List ℕ) → Known (openGround o room)
 unfolding openGround
-few-opening o room = few-unless _ (omega arith) (few-unless _ (omega arith) zero-le)
+few-opening o room = few-unless _ (in-01 (omega arith)) (few-unless _ (in-01 (omega arith)) (in-01 zero-le))
 
-pub few-desk : (x : Laid) → Few (deskGround x)
+pub few-desk : (x : Laid) → Known (deskGround x)
 unfolding deskGround
 few-desk x =
-    few-unless _ (omega arith)
-    (few-cond (x .desk .started) _ _ (few-unless _ (omega arith) (few-reading (x .desk .reading) _ (x .memory .ledger) (x .memory .map))) (few-opening (x .desk .opening) (x .room)))
+    few-unless _ (in-01 (omega arith))
+    (few-cond (x .desk .started) _ _ (few-unless _ (in-01 (omega arith)) (few-reading (x .desk .reading) _ (x .memory .ledger) (x .memory .map))) (few-opening (x .desk .opening) (x .room)))
 
-pub listed : (k : ℕ) → Few k → (k ≡ 0 → ⊥) → Listed k
-listed k h some = record { from-1 = go k some; to-15 = h }
+pub listed : (k : ℕ) → Known k → (k ≡ 0 → ⊥) → Listed k
+listed k h some = record { from-1 = go k some; known = h }
   where
     go : (k : ℕ) → (k ≡ 0 → ⊥) → 1 ≤ k
     go k n = omega arith
 
 -- what is said by the number of a refusal
-said-listed : {A : Type 0} (k : ℕ) (x : Said A) (n : ℕ) → Few k → (x ≡ refuses n → Listed n) → orRefused k x ≡ refuses n → Listed n
+said-listed : {A : Type 0} (k : ℕ) (x : Said A) (n : ℕ) → Known k → (x ≡ refuses n → Listed n) → orRefused k x ≡ refuses n → Listed n
 said-listed k x n few ok = go (eqb k 0) refl
   where
     go : (t : Bool) → eqb k 0 ≡ t → cond t x (refuses k) ≡ refuses n → Listed n
     go true z e = ok e
     go false z e = let d : k ≡ n = cc in subst Listed d (listed k few (eqb-false k 0 z))
 
-pub given-listed : {A : Type 0} (k : ℕ) (x : A) (n : ℕ) → Few k → orRefused k (gives x) ≡ refuses n → Listed n
+pub given-listed : {A : Type 0} (k : ℕ) (x : A) (n : ℕ) → Known k → orRefused k (gives x) ≡ refuses n → Listed n
 given-listed k x n few = said-listed k (gives x) n few (λ z. absurd (given-refused z))
 
 -- ---- what a field brings
@@ -96,32 +93,33 @@ asNumber (wrong n) = n
 abbrev pub Proper : Content → Type 0
 Proper c = Listed (asNumber c)
 
-pub at : (n : ℕ) → 1 ≤ n → n ≤ 15 → Listed n
-at n h g = record { from-1 = h; to-15 = g }
+pub at : (n : ℕ) → 1 ≤ n → Known n → Listed n
+at n h g = record { from-1 = h; known = g }
 
 one : Listed 1
-one = at 1 (omega arith) (omega arith)
+one = at 1 (omega arith) (in-01 (omega arith))
 
 -- "for field 5: 4, pass over, 6, 7, 5 (a block passed over can only meet 7)"
 block-proper : (over : ℕ) (me : List ℕ) (offered : ℕ) (v : List ℕ) → Proper (blockContent over me offered v)
 unfolding blockContent
 block-proper over me offered v =
-    along Listed asNumber _ (at 4 (omega arith) (omega arith))
+    along Listed asNumber _ (at 4 (omega arith) (in-01 (omega arith)))
     (either Listed asNumber (sameNumber me v) (blockOr wrong offered (firstIn v) (samplesOf v) (brought (ownSamples (momentsIn (samplesOf v))))) (unless (wrong 7) (leb (over + 1) mostPassed) foreign)
-    (along Listed asNumber _ (at 6 (omega arith) (omega arith))
-    (along Listed asNumber _ (at 7 (omega arith) (omega arith)) (along Listed asNumber _ (at 5 (omega arith) (omega arith)) one)))
-    (along Listed asNumber _ (at 7 (omega arith) (omega arith)) one))
+    (along Listed asNumber _ (at 6 (omega arith) (in-01 (omega arith)))
+    (along Listed asNumber _ (at 7 (omega arith) (in-01 (omega arith))) (along Listed asNumber _ (at 5 (omega arith) (in-01 (omega arith))) one)))
+    (along Listed asNumber _ (at 7 (omega arith) (in-01 (omega arith))) one))
 
 pub content-proper : (over : ℕ) (me course : List ℕ) (offered : ℕ) (m : Matter) (v : List ℕ) → Proper (contentOf over me course offered m v)
 content-proper over me course offered mark v = one
-content-proper over me course offered number v = along Listed asNumber _ (at 4 (omega arith) (omega arith)) one
-content-proper over me course offered cycle v = along Listed asNumber _ (at 2 (omega arith) (omega arith)) one
+content-proper over me course offered number v = along Listed asNumber _ (at 4 (omega arith) (in-01 (omega arith))) one
+content-proper over me course offered cycle v = along Listed asNumber _ (at 2 (omega arith) (in-01 (omega arith))) one
 content-proper over me course offered tolerances v =
-    along Listed asNumber _ (at 2 (omega arith) (omega arith)) (along Listed asNumber _ (at 3 (omega arith) (omega arith)) one)
+    along Listed asNumber _ (at 2 (omega arith) (in-01 (omega arith))) (along Listed asNumber _ (at 3 (omega arith) (in-01 (omega arith))) one)
+content-proper over me course offered stretches v = along Listed asNumber _ (at 19 (omega arith) (in-02 refl)) one
 content-proper over me course offered block v = block-proper over me offered v
-content-proper over me course offered energyBefore v = along Listed asNumber _ (at 14 (omega arith) (omega arith)) one
-content-proper over me course offered energyAfter v = along Listed asNumber _ (at 14 (omega arith) (omega arith)) one
-content-proper over me course offered recharge v = along Listed asNumber _ (at 14 (omega arith) (omega arith)) one
+content-proper over me course offered energyBefore v = along Listed asNumber _ (at 14 (omega arith) (in-01 (omega arith))) one
+content-proper over me course offered energyAfter v = along Listed asNumber _ (at 14 (omega arith) (in-01 (omega arith))) one
+content-proper over me course offered recharge v = along Listed asNumber _ (at 14 (omega arith) (in-01 (omega arith))) one
 
 -- ---- the machine's answers, for a state of any kind whose contents are proper
 
@@ -131,7 +129,7 @@ module _ {S : Type 0} (place : S → ℕ) (content : S → Matter → List ℕ �
   act s f = fieldAnswer (place s) (content s) (bring s) (pass s) f
 
   field-proper : (s : S) (f : Field) → Proper (fieldContent (place s) (content s) f)
-  field-proper s f = by-field Proper (place s) (content s) f (at 8 (omega arith) (omega arith)) (at 9 (omega arith) (omega arith)) (λ r _ _. proper s (r .holds) (f .value))
+  field-proper s f = by-field Proper (place s) (content s) f (at 8 (omega arith) (in-01 (omega arith))) (at 9 (omega arith) (in-01 (omega arith))) (λ r _ _. proper s (r .holds) (f .value))
 
   abbrev ProperReply : Reply S → Type 0
   ProperReply y = (n k : ℕ) → y ≡ toField (refused n) k → Listed n

@@ -13,11 +13,10 @@ use Rattle.rules.specs.Machine.{Reply, toField, notYet, noField, taken, passed,
 use Rattle.laws.specs.Answers.{gives, refuses, numberOf, endSaid}
 use Rattle.laws.proofs.Prefixes.{run-stops}
 use Rattle.state.specs.State.{Left, left}
-use Rattle.state.specs.Refusals.{started}
 use Rattle.records.specs.Stage.{Stage, takeOn, replyOn, runOn}
 use Rattle.records.proofs.After.{After, after-upto}
 use Rattle.opening.specs.declared.Opening.{Opening}
-use Rattle.opening.specs.Answers.{opens, starts, stageOf, openGround, notOpened, openedBy, frontOpened}
+use Rattle.opening.specs.Answers.{opens, starts, stageOf, runOf, openGround, notOpened, openedBy, frontOpened}
 use Rattle.reading.specs.declared.Reading.{Reading}
 use Rattle.reading.specs.Answers.{unfinished, replySaid, ReadSaid, AllSaid, stageAt, readingOf, readGround}
 use Rattle.reader.specs.Answers.{readBy, allBy, readLeft, allLeft}
@@ -32,7 +31,7 @@ module _ (o : Opening) (room : List ℕ) (l : List ℤ) (m i : List ℕ) where
   opened-number : (y : Reply Stage) → numberOf (openedBy o room begun y .answer .says) ≡ replyNumber y
   opened-number (toField (taken z) n) = go (eqb (z .place) behindTolerances)
     where
-      go : (t : Bool) → numberOf (gives (cond t (starts n (started (z .cycle) (z .tolerances))) (opens n))) ≡ 0
+      go : (t : Bool) → numberOf (gives (cond t (starts n (runOf z)) (opens n))) ≡ 0
       go true = refl
       go false = refl
   opened-number (toField (passed z) n) = refl
@@ -97,6 +96,7 @@ module _ (r : Reading) (b : List ℕ) (l : List ℤ) (m i : List ℕ) where
         vehicle = sym (a .vehicle late) j;
         cycle = sym (a .cycle (omega arith)) j;
         tolerances = sym (a .tolerances late) j;
+        method = z .method;
         amounts = z .amounts;
         run = z .run;
       }

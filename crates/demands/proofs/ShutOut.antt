@@ -15,6 +15,8 @@ use Rattle.rules.specs.Words.{be, fold, gather, first, table, allBelow, unless}
 use Rattle.numbers.proofs.Tests.{pass, settled-taken}
 use Rattle.rules.specs.declared.End.the-variants.{None as none, Stop as stop, Limit as limit}
 use Rattle.rules.specs.declared.Sample.{Sample}
+use Rattle.rules.specs.declared.Method.{Method}
+use Rattle.rules.specs.declared.Method.the-variants.{Regular as byCycles}
 use Rattle.rules.specs.declared.Moment.{Moment}
 use Rattle.rules.specs.declared.Tolerances.{Tolerances}
 use Rattle.rules.specs.Bench.{isSample, momentOf, noMoment, tolerable, mostSpeed, mostCycles, mostOffered}
@@ -24,14 +26,16 @@ use Rattle.rules.specs.Tally as tally
 use Rattle.rules.specs.Course.{outside, judged, closed}
 use Rattle.laws.specs.Answers.{gives, refuses}
 use Rattle.laws.specs.Beside.{stopped, isBlock}
-use Rattle.rules.specs.Regular.{Plan, plan, courseOf, momentIn}
+use Rattle.rules.specs.Regular.{momentIn}
+use Rattle.rules.specs.Plan.{Plan, plan, courseOf}
 use Rattle.rules.specs.Shown.{ledgerNumbers, mapWords, figure, shownRow, marked}
 use Rattle.ledger.specs.Row.{at, outsideIn}
 use Rattle.map.specs.Map.{isSet, onesOf}
+use Rattle.values.specs.Limits.{isMethod}
 use Rattle.state.specs.declared.Run.{Run}
 use Rattle.state.specs.State.{Memory, lent, ground}
-use Rattle.state.specs.Refusals.{startRefusal, sampleRefusal}
-use Rattle.step.specs.Step.{State, outNow, stateOf, withProgress}
+use Rattle.state.specs.Refusals.{startRefusal, sampleRefusal, notStretched}
+use Rattle.step.specs.Step.{State, outNow, stateOf, runTo}
 use Rattle.step.proofs.Steps.{taken-offered}
 use Rattle.step.proofs.Keeping.{all-offered}
 use Rattle.rules.specs.Values.{momentAt, countIn, areSamples}
@@ -60,13 +64,13 @@ not-refused : {n : ℕ} {r : Run} {a c : Memory} {l : List ℤ} {m : List ℕ} {
 not-refused {n} {r} p z k e =
     given-refused (sym (settled-taken (refuses n) z) ∙ sym (p .answer) ∙ ap answerSaid e)
 
--- a start on memory that is long enough, with a cycle and tolerances that break no rule
-pub start-not-refused : {b : List ℕ} {t : Tolerances} {l : List ℤ} {m : List ℕ} (c : StartCall) → StartOn b t l m c → ledgerNumbers ≤ length l → mapWords ≤ length m
-    → valid b ≡ true → tolerable t ≡ true → (k : ℕ) → c .answer ≡ Refused k → ⊥
+-- a start on memory that is long enough, with a cycle, tolerances and a method that break no rule
+pub start-not-refused : {b : List ℕ} {t : Tolerances} {y : Method} {l : List ℤ} {m : List ℕ} (c : StartCall) → StartOn b t y l m c → ledgerNumbers ≤ length l
+    → mapWords ≤ length m → valid b ≡ true → tolerable t ≡ true → isMethod y ≡ true → (k : ℕ) → c .answer ≡ Refused k → ⊥
 unfolding startRefusal
-start-not-refused {b} {t} {l} {m} c on long-ledger long-map good tolerated =
+start-not-refused {b} {t} {y} {l} {m} c on long-ledger long-map good tolerated fits =
     not-refused (start-kept c on)
-    (sym (pass 1 (le-leb ledgerNumbers (length l) long-ledger) (pass 1 (le-leb mapWords (length m) long-map) (pass 2 good (pass 3 tolerated refl)))))
+    (sym (pass 1 (le-leb ledgerNumbers (length l) long-ledger) (pass 1 (le-leb mapWords (length m) long-map) (pass 2 good (pass 3 tolerated (pass 19 fits refl))))))
 
 -- a sample within its limits, and a block of such, in a whole run that has room for them
 module _ {p : Plan} {l₀ : List ℤ} {m₀ : List ℕ} {xs : List Moment} {r : Run} {l : List ℤ} {m : List ℕ} (h : Driven p l₀ m₀ xs r l m) where
@@ -122,28 +126,28 @@ no-constant-verdict v h =
 -- nor is the judge's verdict constant: whether the next sample is outside, of cycles, tolerances and samples that break no rule
 pub no-constant-out : (y : Bool)
     → ((p : Plan) (a : State) (x : Sample) → valid (p .cycle) ≡ true → tolerable (p .tolerances) ≡ true → isSample x ≡ true
-    → outNow (courseOf p) a (momentOf x) ≡ y)
+    → outNow p a (momentOf x) ≡ y)
     → ⊥
 unfolding be fold allBelow unless valid tolerable isSample grid20 inside
 no-constant-out y h =
-    let a : State = record { progress = record { offered = 10; counted = 10; end = none; held = noMoment }; memory = lent [] [] } in
-    false≢true (h (plan risen noTime) a (ofSpeed 20) refl refl refl ∙ sym (h (plan risen noTime) a (ofSpeed 19) refl refl refl))
+    let a : State = record { progress = record { offered = 10; counted = 10; end = none; held = noMoment }; stretched = notStretched; memory = lent [] [] } in
+    false≢true (h (plan risen noTime byCycles) a (ofSpeed 20) refl refl refl ∙ sym (h (plan risen noTime byCycles) a (ofSpeed 19) refl refl refl))
 
 -- nor is the mark that it leaves: after eleven samples, the last of speed 20 or 19
-unmarked : {l₀ : List ℤ} {m₀ : List ℕ} {r : Run} {l : List ℤ} {m : List ℕ} → Driven (plan risen noTime) l₀ m₀ (momentsOf (eleven 20)) r l m → isSet m 10 ≡ false
+unmarked : {l₀ : List ℤ} {m₀ : List ℕ} {r : Run} {l : List ℤ} {m : List ℕ} → Driven (plan risen noTime byCycles) l₀ m₀ (momentsOf (eleven 20)) r l m → isSet m 10 ≡ false
 unfolding be fold gather first grid20 inside tally.over shownRow marked
 unmarked h = run-shows h .map-shows 10 (lit< tt)
 
-marked-outside : {l₀ : List ℤ} {m₀ : List ℕ} {r : Run} {l : List ℤ} {m : List ℕ} → Driven (plan risen noTime) l₀ m₀ (momentsOf (eleven 19)) r l m → isSet m 10 ≡ true
+marked-outside : {l₀ : List ℤ} {m₀ : List ℕ} {r : Run} {l : List ℤ} {m : List ℕ} → Driven (plan risen noTime byCycles) l₀ m₀ (momentsOf (eleven 19)) r l m → isSet m 10 ≡ true
 unfolding be fold gather first grid20 inside tally.over shownRow marked
 marked-outside h = run-shows h .map-shows 10 (lit< tt)
 
 pub no-constant-mark : (l₀ : List ℤ) (m₀ : List ℕ) → ledgerNumbers ≤ length l₀ → mapWords ≤ length m₀ → (y : Bool)
-    → ((v : ℕ) (r : Run) (l : List ℤ) (m : List ℕ) → Driven (plan risen noTime) l₀ m₀ (momentsOf (eleven v)) r l m → isSet m 10 ≡ y) → ⊥
+    → ((v : ℕ) (r : Run) (l : List ℤ) (m : List ℕ) → Driven (plan risen noTime byCycles) l₀ m₀ (momentsOf (eleven v)) r l m → isSet m 10 ≡ y) → ⊥
 unfolding be fold allBelow unless valid tolerable isSample
 no-constant-mark l₀ m₀ long-ledger long-map y h =
-    let in-speed = some-run (plan risen noTime) l₀ m₀ long-ledger long-map refl refl (eleven 20) refl (lit≤ tt) in
-    let out-speed = some-run (plan risen noTime) l₀ m₀ long-ledger long-map refl refl (eleven 19) refl (lit≤ tt) in
+    let in-speed = some-run (plan risen noTime byCycles) l₀ m₀ long-ledger long-map refl refl refl (eleven 20) refl (lit≤ tt) in
+    let out-speed = some-run (plan risen noTime byCycles) l₀ m₀ long-ledger long-map refl refl refl (eleven 19) refl (lit≤ tt) in
     false≢true (sym (unmarked (in-speed .driven)) ∙ h 20 _ _ _ (in-speed .driven) ∙ sym (h 19 _ _ _ (out-speed .driven)) ∙ marked-outside (out-speed .driven))
 
 -- ---- "one that does nothing"
@@ -154,8 +158,8 @@ module _ (c : SampleCall) {r′ : Run} (e : c .answer ≡ Taken r′) where
   sample-is-offered =
       let (r, (b, (l, (m, (x, _))))) = c .args in
       let a = afterSample r (now b) (now l) (now m) x in
-      let same = given-is (was-given (sampleRefusal r (now b) (now l) (now m) x) (gives (withProgress r (a .progress))) r′ (sym (sample-promised c .answer) ∙ ap answerSaid e) .1) in
-      ap (λ (y : Run). y .progress .offered) (sym same) ∙ taken-offered (courseOf (planOf r (now b))) (stateOf r (now l) (now m)) (momentOf x) ∙ add-one (r .progress .offered)
+      let same = given-is (was-given (sampleRefusal r (now b) (now l) (now m) x) (gives (runTo r (a .progress) (a .stretched))) r′ (sym (sample-promised c .answer) ∙ ap answerSaid e) .1) in
+      ap (λ (y : Run). y .progress .offered) (sym same) ∙ taken-offered (planOf r (now b)) (stateOf r (now l) (now m)) (momentOf x) ∙ add-one (r .progress .offered)
 
   pub sample-does-something : r′ ≡ c .args .0 → ⊥
   sample-does-something f = let g = ap (λ (y : Run). y .progress .offered) f in omega (arith, sample-is-offered)
@@ -168,13 +172,13 @@ every-block-is-worked-through {r} {b} {l} {m} c on {r′} e =
     let k = block-kept c on in
     let q = bytesIn c in
     let a = afterBlock r b l m q in
-    let (z, given) = was-given _ (gives (withProgress r (a .progress))) r′ (sym (k .answer) ∙ ap answerSaid e) in
+    let (z, given) = was-given _ (gives (runTo r (a .progress) (a .stretched))) r′ (sym (k .answer) ∙ ap answerSaid e) in
     let same = given-is given in
     let w = block-accepted r b l m (c .args .1 .1 .1 .1 .0) q z in
     let size = block-of (length q) (w .block) in
     record {
       some = omega (arith, size .some, size .whole);
-      offered = ap (λ (y : Run). y .progress .offered) (sym same) ∙ all-offered (courseOf (planOf r b)) (stateOf r l m) (momentAt q) (countIn q);
+      offered = ap (λ (y : Run). y .progress .offered) (sym same) ∙ all-offered (planOf r b) (stateOf r l m) (momentAt q) (countIn q);
       run = sym same;
       memory = k .in-memory ∙ settled-taken (lent l m) z;
     }
@@ -218,7 +222,7 @@ module _ {p : Plan} {l₀ : List ℤ} {m₀ : List ℕ} {xs : List Moment} {r : 
       ended false false q = absurd (false≢true cc)
 
 -- the row of the test card: a run of its four samples that goes on is no run of a judge that keeps its promises
-pub no-judge-that-never-stops : {l₀ : List ℤ} {m₀ : List ℕ} {r : Run} {l : List ℤ} {m : List ℕ} → Driven (plan level allowsThree) l₀ m₀ (momentsOf fourFast) r l m → (r .progress .end ≡ stop → ⊥) → ⊥
+pub no-judge-that-never-stops : {l₀ : List ℤ} {m₀ : List ℕ} {r : Run} {l : List ℤ} {m : List ℕ} → Driven (plan level allowsThree byCycles) l₀ m₀ (momentsOf fourFast) r l m → (r .progress .end ≡ stop → ⊥) → ⊥
 unfolding be fold gather first grid20 inside tally.over
 no-judge-that-never-stops h go-on = go-on (stops-by-the-rules h refl)
 

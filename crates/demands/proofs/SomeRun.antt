@@ -12,15 +12,17 @@ use denote.Ref.{RefT}
 use Rattle.rules.specs.Words.{every}
 use Rattle.numbers.proofs.Tests.{both, pass}
 use Rattle.rules.specs.declared.Sample.{Sample}
+use Rattle.rules.specs.declared.Method.{Method}
 use Rattle.rules.specs.declared.Moment.{Moment}
 use Rattle.rules.specs.declared.Tolerances.{Tolerances}
 use Rattle.rules.specs.Bench.{isSample, momentOf, tolerable, mostOffered}
 use Rattle.rules.specs.Cycle.{valid}
-use Rattle.rules.specs.Regular.{Plan}
+use Rattle.rules.specs.Plan.{Plan}
 use Rattle.rules.specs.Shown.{ledgerNumbers, mapWords}
+use Rattle.values.specs.Limits.{isMethod}
 use Rattle.state.specs.declared.Run.{Run}
 use Rattle.state.specs.Refusals.{startRefusal, started, sampleRefusal}
-use Rattle.step.specs.Step.{startOf, withProgress}
+use Rattle.step.specs.Step.{startOf, runTo}
 use Rattle.judge.specs.declared.Answer.the-variants.{Taken}
 use Rattle.judge.specs.Answers.{afterSample}
 use Rattle.judge.proofs.Calls.{taken}
@@ -36,15 +38,15 @@ abbrev pub to : {A : Type 0} → A → RefT A
 to x = record { ptr = (0, 0); name = 0; now = x }
 
 -- calls that are not refused, with the answers that the contracts ask for
-abbrev startCall : (b : List ℕ) (t : Tolerances) (l : List ℤ) (m : List ℕ) → startRefusal b t l m ≡ 0 → StartCall
-startCall b t l m z =
+abbrev startCall : (b : List ℕ) (t : Tolerances) (q : Method) (l : List ℤ) (m : List ℕ) → startRefusal b t q l m ≡ 0 → StartCall
+startCall b t q l m z =
     let y = startOf l m .memory in
     record {
       κs = ([], ([], ([], tt)));
-      args = (to b, (t, (to l, (to m, tt))));
-      answer = Taken (started b t);
-      lasts = (tt, (tt, (y .ledger, (y .map, tt))));
-      kept = taken (startRefusal b t l m) (started b t) y l m z refl refl;
+      args = (to b, (t, (q, (to l, (to m, tt)))));
+      answer = Taken (started b t q);
+      lasts = (tt, (tt, (tt, (y .ledger, (y .map, tt)))));
+      kept = taken (startRefusal b t q l m) (started b t q) y l m z refl refl;
     }
 
 abbrev sampleCall : (r : Run) (b : List ℕ) (l : List ℤ) (m : List ℕ) (x : Sample) → sampleRefusal r b l m x ≡ 0 → SampleCall
@@ -53,9 +55,9 @@ sampleCall r b l m x z =
     record {
       κs = ([], ([], ([], tt)));
       args = (r, (to b, (to l, (to m, (x, tt)))));
-      answer = Taken (withProgress r (y .progress));
+      answer = Taken (runTo r (y .progress) (y .stretched));
       lasts = (tt, (tt, (y .memory .ledger, (y .memory .map, (tt, tt)))));
-      kept = taken (sampleRefusal r b l m x) (withProgress r (y .progress)) (y .memory) l m z refl refl;
+      kept = taken (sampleRefusal r b l m x) (runTo r (y .progress) (y .stretched)) (y .memory) l m z refl refl;
     }
 
 module _ (p : Plan) (l₀ : List ℤ) (m₀ : List ℕ) where
@@ -79,16 +81,16 @@ module _ (p : Plan) (l₀ : List ℤ) (m₀ : List ℕ) where
       subst (SomeRun p l₀ m₀) (append-assoc ys (momentOf x ∷ []) (momentsOf xs))
       (all-more (one-more s x first (omega arith)) xs rest (omega (arith, length-append ys (momentOf x ∷ []))))
 
-  pub some-run : ledgerNumbers ≤ length l₀ → mapWords ≤ length m₀ → valid (p .cycle) ≡ true → tolerable (p .tolerances) ≡ true → (xs : List Sample) → every isSample xs ≡ true
-      → length xs ≤ mostOffered → SomeRun p l₀ m₀ (momentsOf xs)
+  pub some-run : ledgerNumbers ≤ length l₀ → mapWords ≤ length m₀ → valid (p .cycle) ≡ true → tolerable (p .tolerances) ≡ true → isMethod (p .method) ≡ true
+      → (xs : List Sample) → every isSample xs ≡ true → length xs ≤ mostOffered → SomeRun p l₀ m₀ (momentsOf xs)
   unfolding startRefusal
-  some-run long-ledger long-map good tolerated xs ok room =
-      let z : startRefusal (p .cycle) (p .tolerances) l₀ m₀ ≡ 0 =
-      sym (pass 1 (le-leb ledgerNumbers (length l₀) long-ledger) (pass 1 (le-leb mapWords (length m₀) long-map) (pass 2 good (pass 3 tolerated refl)))) in
+  some-run long-ledger long-map good tolerated fits xs ok room =
+      let z : startRefusal (p .cycle) (p .tolerances) (p .method) l₀ m₀ ≡ 0 =
+      sym (pass 1 (le-leb ledgerNumbers (length l₀) long-ledger) (pass 1 (le-leb mapWords (length m₀) long-map) (pass 2 good (pass 3 tolerated (pass 19 fits refl))))) in
       all-more
       (record {
         run = _;
         ledger = _;
         map = _;
-        driven = begins (startCall (p .cycle) (p .tolerances) l₀ m₀ z) (record { cycle = refl; tolerances = refl; ledger = refl; map = refl }) refl;
+        driven = begins (startCall (p .cycle) (p .tolerances) (p .method) l₀ m₀ z) (record { cycle = refl; tolerances = refl; method = refl; ledger = refl; map = refl }) refl;
       }) xs ok (omega arith)

@@ -14,11 +14,11 @@ use Rattle.rules.specs.Words.{be}
 use Rattle.rules.specs.Table.{lengthAllowed, behindCycle, behindTolerances, tags}
 use Rattle.rules.specs.Front.{Field, Front, incomplete, impossible, field, bytesOf, frontOf}
 use Rattle.rules.specs.Machine.{waiting, Ran, on, onwards, replyAt, moveAt, upto, run}
-use Rattle.rules.specs.Record.{Told, Bring, nothing, aNumber, aCycle, theTolerances, ownSamples, before, after, charged, told, takeField, untold, sheetOf}
+use Rattle.rules.specs.Record.{Told, Bring, nothing, aNumber, aCycle, theTolerances, theStretches, ownSamples, before, after, charged, told, takeField, untold, sheetOf}
 use Rattle.laws.proofs.Cuts.{first-longer}
 use Rattle.laws.proofs.Fronts.{Whole, front-whole, front-shorter}
 use Rattle.laws.proofs.Moves.{moveAs, uses, move-size, by-move}
-use Rattle.laws.proofs.Places.{place-is, block-places, recharge-places}
+use Rattle.laws.proofs.Places.{place-is, before-places, block-places, recharge-places}
 use Rattle.laws.proofs.Prefixes.{no-bytes}
 use Rattle.laws.proofs.Says.{movesTo}
 use Rattle.laws.proofs.Sheets.{told-leads}
@@ -119,8 +119,9 @@ module _ (s : Told) (i : List ℕ) (s′ : Told) (m : ℕ) (e : moveAt tags take
       by f d a (aNumber v) w r = absurd (omega arith)
       by f d a (aCycle v) w r = absurd (omega arith)
       by f d a (theTolerances t) w r = here f d (w .0) (sizes (f .tag) (length (f .value)) a .tolerances (w .0)) (place-is (s .place) behindCycle (w .1))
+      by f d a (theStretches x) w r = absurd (let k = place-is (s .place) behindTolerances (w .1) in omega arith)
       by f d a (ownSamples xs) w r = absurd (omega (arith, l, block-places (s .place) (w .1) .0))
-      by f d a (before z) w r = absurd (let k = place-is (s .place) behindTolerances (w .1) in omega arith)
+      by f d a (before z) w r = absurd (omega (arith, l, before-places (s .place) (w .1) .0))
       by f d a (after z) w r = absurd (omega (arith, l, block-places (s .place) (w .1) .0))
       by f d a (charged k) w r = absurd (omega (arith, l, recharge-places (s .place) (w .1) .0))
 

@@ -52,7 +52,7 @@ pub refused-changes-nothing : RefusedChangesNothing
 refused-changes-nothing = record {
   start-refused-changes-nothing = λ c n e.
       let s = judge.refused-changes-nothing _ _ _ _ _ n _ _ (start-promised c) e in
-      left-by c (λ i. (tt, (tt, (s .1 i .ledger, (s .1 i .map, tt)))));
+      left-by c (λ i. (tt, (tt, (tt, (s .1 i .ledger, (s .1 i .map, tt))))));
   sample-refused-changes-nothing = λ c n e.
       let s = judge.refused-changes-nothing _ _ _ _ _ n _ _ (sample-promised c) e in
       left-by c (λ i. (tt, (tt, (s .1 i .ledger, (s .1 i .map, (tt, tt))))));

@@ -120,10 +120,10 @@ VerdictCall = Call paperwhelk_verdict.ended paperwhelk_verdict.Reads.Learnt
 -- ---- the memory that it is lent and leaves: ledger and map together
 
 abbrev pub startLent : StartCall → Memory
-startLent c = lent (now (c .args .1 .1 .0)) (now (c .args .1 .1 .1 .0))
+startLent c = lent (now (c .args .1 .1 .1 .0)) (now (c .args .1 .1 .1 .1 .0))
 
 abbrev pub startLeaves : StartCall → Memory
-startLeaves c = lent (c .lasts .1 .1 .0) (c .lasts .1 .1 .1 .0)
+startLeaves c = lent (c .lasts .1 .1 .1 .0) (c .lasts .1 .1 .1 .1 .0)
 
 abbrev pub sampleLent : SampleCall → Memory
 sampleLent c = lent (now (c .args .1 .1 .0)) (now (c .args .1 .1 .1 .0))

@@ -21,10 +21,15 @@ use Rattle.reading.specs.Answers.{stageAt, readGround}
 abbrev pub Neither1Nor2 : {A : Type 0} → (ℕ → A) → A → Type 0
 Neither1Nor2 refused x = (x ≡ refused 1 → ⊥) × (x ≡ refused 2 → ⊥)
 
--- a number of document 01's list of refusals, 1 to 15
+-- no number above those of document 01's list of refusals, 1 to 15, but document 02's 19, of the stretches
+pub data Known (n : ℕ) : Type 0 where
+  in-01 : n ≤ 15 → Known n
+  in-02 : n ≡ 19 → Known n
+
+-- a number of the lists
 pub record Listed (n : ℕ) : Type 0 where
   pub from-1 : 1 ≤ n
-  pub to-15 : n ≤ 15
+  pub known : Known n
 
 -- ---- orders of refusals: read off the definitions of the crates below, so that each order is defined once
 

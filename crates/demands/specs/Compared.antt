@@ -8,7 +8,8 @@ use Rattle.rules.specs.declared.Figures.{Figures}
 use Rattle.rules.specs.declared.Moment.{Moment}
 use Rattle.rules.specs.declared.Tolerances.{Tolerances}
 use Rattle.rules.specs.Course.{outside, judged}
-use Rattle.rules.specs.Regular.{courseOf, momentIn}
+use Rattle.rules.specs.Regular.{momentIn}
+use Rattle.rules.specs.Plan.{courseOf}
 use Rattle.rules.specs.Table.{behindCycle, tags}
 use Rattle.rules.specs.Machine.{waiting, run}
 use Rattle.rules.specs.Record.{Told, holding, takeField, untold, Sheet, told, refusedAt}
@@ -46,7 +47,7 @@ abbrev pub withTolerances : Told → Tolerances → Told
 withTolerances x t = record {
   place = x .place;
   passed = x .passed;
-  holding = holding (x .holding .vehicle) (x .holding .cycle) t (x .holding .samples) (x .holding .amounts);
+  holding = holding (x .holding .vehicle) (x .holding .cycle) t (x .holding .method) (x .holding .samples) (x .holding .amounts);
 }
 
 abbrev pub retold : Tolerances → Sheet → Sheet
@@ -60,7 +61,7 @@ abbrev pub withSamples : Told → List Moment → Told
 withSamples x xs = record {
   place = x .place;
   passed = x .passed;
-  holding = holding (x .holding .vehicle) (x .holding .cycle) (x .holding .tolerances) xs (x .holding .amounts);
+  holding = holding (x .holding .vehicle) (x .holding .cycle) (x .holding .tolerances) (x .holding .method) xs (x .holding .amounts);
 }
 
 -- at the place p, where that of x is before it
@@ -72,10 +73,11 @@ pub record Appends (x y : List Moment) : Type 0 where
   pub added : List Moment
   pub joins : y ≡ x ++ added
 
--- x′ tells the cycle and the tolerances of x, and its samples with others behind them
+-- x′ tells the cycle, the tolerances and the method of x, and its samples with others behind them
 pub record Grown (x x′ : Told) : Type 0 where
   pub cycle : x′ .holding .cycle ≡ x .holding .cycle
   pub tolerances : x′ .holding .tolerances ≡ x .holding .tolerances
+  pub method : x′ .holding .method ≡ x .holding .method
   pub samples : Appends (x .holding .samples) (x′ .holding .samples)
 
 -- ---- what is printed

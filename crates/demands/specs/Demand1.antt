@@ -93,9 +93,9 @@ pub record TakesEveryInput (M : Type 1) : Type 2 where
 -- ---- "Each refusal has a number": that of document 01's order for the call, and one of its list
 
 pub record HasItsNumber : Type 0 where
-  -- "For starting a run, as field 4 does: 1, 2, 3."
-  pub start-number : (c : StartCall) → (let (b, (t, (l, (m, _)))) = c .args in
-      numberOf (answerSaid (c .answer)) ≡ startRefusal (now b) t (now l) (now m))
+  -- "For starting a run, as field 4 does: 1, 2, 3.", then 19, as field 8
+  pub start-number : (c : StartCall) → (let (b, (t, (y, (l, (m, _))))) = c .args in
+      numberOf (answerSaid (c .answer)) ≡ startRefusal (now b) t y (now l) (now m))
   -- "A single sample: 7, 5."
   pub sample-number : (c : SampleCall) → (let (r, (b, (l, (m, (x, _))))) = c .args in
       numberOf (answerSaid (c .answer)) ≡ sampleRefusal r (now b) (now l) (now m) x)

@@ -1,5 +1,6 @@
 -- Demand 2: "Every figure equals the rules of document 01. Blocks of another vehicle change nothing but the passed-over count (and the field number of a later
--- refusal). The ledger's energies add up to the energy of the samples counted." By document 02, L2 that is the energy of the intervals closed.
+-- refusal). The ledger's energies add up to the energy of the samples counted." By document 02, L2 that is the energy of the intervals closed; by L5 stretches
+-- M and E have their share of it.
 -- Stated here, over all that is known by the contracts, with the judges that it shuts out in ShutOut.antt; proved in proofs/ (`demand-2`).
 -- Assumes nothing.
 use mathlib.Core.Bool.{true, false, not}
@@ -7,7 +8,7 @@ use mathlib.Core.List.{List, _++_}
 use mathlib.Core.Path.{_≡_}
 use Prim.Native.Nat.{ℕ, suc, _+_, _*_, _≤_, _<_}
 use lib.Dec.{eqb}
-use lib.IntN.{ℤ, pos}
+use lib.IntN.{ℤ, pos, _+ℤ_}
 use lib.ListN.{length, take, drop}
 use Rattle.rules.specs.Words.{every, up}
 use Rattle.rules.specs.declared.End.the-variants.{None as none}
@@ -21,26 +22,29 @@ use Rattle.rules.specs.Cycle.{phases, valid}
 use Rattle.rules.specs.Band.{verdict}
 use Rattle.rules.specs.Course.{Course, outside, counted, judged, closed, ending}
 use Rattle.rules.specs.Parts.{phasePart, partEnergy, partDistance, energy}
-use Rattle.rules.specs.Regular.{positionOf, most, Plan, courseOf, momentIn}
+use Rattle.rules.specs.Regular.{momentIn}
+use Rattle.rules.specs.Shortened.{rowOf}
+use Rattle.rules.specs.Plan.{Plan, courseOf}
 use Rattle.rules.specs.Shown.{ledgerNumbers, mapWords, figure as figureAt, shownRow, marked}
-use Rattle.rules.specs.Closing.{weight, weighing, rateOf, wholeEnergy, closingRefusal, closingFigures}
+use Rattle.rules.specs.Closing.{weight, weighing, rateOf, wholeEnergy, leastFinished, closingRefusal, closingFigures}
 use Rattle.rules.specs.Table.{tags}
 use Rattle.rules.specs.Machine.{run}
 use Rattle.rules.specs.Record.{Told, morePassed, takeField, untold, told, refusedAt, sheetOf}
 use Rattle.rules.specs.Figures.{energies, distances, cyclesIn, outsideTotal, closingIn, figuresBy, figuresTold}
 use Rattle.rules.specs.Text.{refusalText, printed}
 use Rattle.laws.specs.Answers.{refuses, numberOf}
-use Rattle.laws.specs.Beside.{Unrounded}
+use Rattle.laws.specs.Beside.{Unrounded, standOf, placeOf}
 use Rattle.laws.specs.Claims.{ForeignBlock, oneMore}
-use Rattle.values.specs.Limits.{areAmounts}
+use Rattle.values.specs.Limits.{isMethod, areAmounts}
 use Rattle.ledger.specs.Row.{at, energyAll}
 use Rattle.map.specs.Map.{isSet, onesOf}
 use Rattle.state.specs.declared.Run.{Run}
 use Rattle.state.specs.State.{lent}
+use Rattle.state.specs.Refusals.{besideBy}
 use Rattle.judge.specs.declared.Answer.the-variants as answer
 use Rattle.judge.specs.declared.ShownAnswer.the-variants as counts
 use Rattle.judge.specs.declared.TotalsAnswer.the-variants as sums
-use Rattle.step.specs.Step.{heldOf}
+use Rattle.step.specs.Step.{heldOf, stretchedOf}
 use Rattle.reading.specs.declared.Step.the-variants as step
 use Rattle.reading.specs.Answers.{isReading}
 use Rattle.sheet.specs.Overlaid.{mostSheet}
@@ -75,6 +79,8 @@ module _ (p : Plan) (l₀ : List ℤ) (m₀ : List ℕ) (xs : List Moment) (r : 
     -- the state: how many samples were offered, how many of them count, how the run ended, and what is held of the open interval
     pub state-shows :
         (r .progress .offered ≡ n) × (r .progress .counted ≡ counted y s n) × (r .progress .end ≡ ending y s n) × (r .progress .held ≡ heldOf y s n)
+    -- and what stretches M and E have of the intervals closed, and the watch over E of the samples counted; of a regular run nothing (document 02, L5)
+    pub stretches-show : r .stretched ≡ stretchedOf p s (closed y s n) (counted y s n)
     -- "Cycle c owns the nine numbers that start at 9 × c (c from 0): four phase energies, four phase distances, the outside count."
     pub ledger-shows : (i : ℕ) → i < ledgerNumbers → at l i ≡ figureAt y s n i
     pub phase-energies : (c k : ℕ) → c < mostCycles → k < mostPhases
@@ -89,8 +95,8 @@ module _ (p : Plan) (l₀ : List ℤ) (m₀ : List ℕ) (xs : List Moment) (r : 
     pub map-shows : (q : ℕ) → q < mostPositions → isSet m q ≡ marked y s (judged y s n) q
     -- "The count of ones in the map equals the outside count of that cycle."
     pub ones-are-outside : onesOf m ≡ outside y s (shownRow (y .layout) (judged y s n)) (judged y s n)
-    -- the ledger's energies add up to the energy of the intervals closed
-    pub energies-add-up : energyAll l ≡ energy (y .share) s (closed y s n)
+    -- the ledger's energies, and those of stretches M and E, add up to the energy of the intervals closed
+    pub energies-add-up : energyAll l +ℤ besideBy r ≡ energy (y .share) s (closed y s n)
     -- "what lies beyond is never touched"
     pub beyond-untouched : (drop ledgerNumbers l ≡ drop ledgerNumbers l₀) × (drop mapWords m ≡ drop mapWords m₀)
 
@@ -124,7 +130,7 @@ module _ (p : Plan) (l₀ : List ℤ) (m₀ : List ℕ) (xs : List Moment) (r : 
     -- "a recharge refusal still shows weighted consumption and range" (document 02, L6): they are those of the samples, whatever the recharge
     pub recharge-aside : (c : ClosingCall) → ClosingOn r (p .cycle) l m c → areAmounts (closingAmounts c) ≡ true
         → (let a = closingAmounts c in
-        closingRefusal (E (a .before)) (cyclesIn p xs) (energies p xs) (distances p xs) ≡ 0
+        closingRefusal (E (a .before)) (cyclesIn p xs) (energies p xs) (distances p xs) (leastFinished (p .method)) ≡ 0
         → c .answer ≡ closings.Closed (closingFigures (E (a .before)) (cyclesIn p xs) (energies p xs) (distances p xs) (a .after) (a .charge)))
     -- W lies between the least and the greatest q_c, so it is never 0
     pub weighted-between : (c : ClosingCall) → ClosingOn r (p .cycle) l m c → areAmounts (closingAmounts c) ≡ true
@@ -154,13 +160,14 @@ module _ (p : Plan) (l₀ : List ℤ) (m₀ : List ℕ) (xs : List Moment) (r : 
     pub read-all : (c : AllCall) → AllOn r (p .cycle) l m c → isReading (c .args .0) ≡ true → Neither1Nor2 step.Refused (c .answer .last)
 
   -- "Its verdict is the judge's.": the bench controller is answered the verdict, and the judge, while the run goes on, marks the sample that it takes
-  -- exactly where that is not 0 ("after cycle 64 it is not judged": document 02, L2)
+  -- exactly where that is not 0, if it stands in a cycle ("after cycle 64 it is not judged": document 02, L2; "M is recorded and not judged": L5)
   abbrev pub VerdictIsTheJudges : Type 0
   VerdictIsTheJudges =
       (c : SampleCall) → SampleOn r (p .cycle) l m c → (r′ : Run) → c .answer ≡ answer.Taken r′ → r .progress .end ≡ none
-      → n < most (p .cycle) → (q : VerdictCall) → AskedOn (p .cycle) (p .tolerances) (positionOf (p .cycle) n) (sampleIn c .speed) q
-      → (let v = verdict (p .cycle) (p .tolerances) (positionOf (p .cycle) n) (sampleIn c .speed) in
-      (q .answer ≡ pos v) × (isSet (c .lasts .1 .1 .1 .0) (positionOf (p .cycle) n) ≡ not (eqb v 0)))
+      → rowOf (p .cycle) (standOf (p .cycle) (p .method) n) < mostCycles → (let position = placeOf (p .cycle) (standOf (p .cycle) (p .method) n) in
+      (q : VerdictCall) → AskedOn (p .cycle) (p .tolerances) position (sampleIn c .speed) q
+      → (let v = verdict (p .cycle) (p .tolerances) position (sampleIn c .speed) in
+      (q .answer ≡ pos v) × (isSet (c .lasts .1 .1 .1 .0) position ≡ not (eqb v 0))))
 
   -- what is promised of a whole run
   pub record RunHolds : Type 0 where
@@ -178,7 +185,7 @@ module _ (p : Plan) (l₀ : List ℤ) (m₀ : List ℕ) (xs : List Moment) (r : 
 pub record Speaks : Type 0 where
   -- there is a run of every list of samples within their limits, 4,000,000 at most
   pub some-run : (p : Plan) (l₀ : List ℤ) (m₀ : List ℕ) → ledgerNumbers ≤ length l₀ → mapWords ≤ length m₀
-      → valid (p .cycle) ≡ true → tolerable (p .tolerances) ≡ true
+      → valid (p .cycle) ≡ true → tolerable (p .tolerances) ≡ true → isMethod (p .method) ≡ true
       → (xs : List Sample) → every isSample xs ≡ true → length xs ≤ mostOffered → SomeRun p l₀ m₀ (momentsOf xs)
   -- every record of which no field is refused is fed, in any parts, and closed
   pub some-part : (lent : Lent) {w rest : List ℕ} {x : Laid} → FedIn lent w x rest → (new : List ℕ) → (let y = feedOf x (rest ++ new) in

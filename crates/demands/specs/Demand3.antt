@@ -3,7 +3,7 @@
 -- Stated here over runs of any samples, over whole runs of calls that keep the contracts, and over records; proved in proofs/ (`demand-3`).
 -- Assumes nothing.
 use mathlib.Core.Bool.{true, false}
-use mathlib.Core.List.{List, _++_}
+use mathlib.Core.List.{List, [], _++_}
 use mathlib.Core.Path.{_≡_}
 use Prim.Native.Nat.{ℕ, _+_, _*_, _≤_, _<_}
 use lib.Dec.{T}
@@ -11,14 +11,16 @@ use lib.IntN.{ℤ}
 use lib.ListN.{length}
 use lib.Signed.{leZ}
 use Rattle.rules.specs.declared.End.the-variants.{Stop as stop}
+use Rattle.rules.specs.declared.Method.{Method}
 use Rattle.rules.specs.declared.Moment.{Moment}
 use Rattle.rules.specs.declared.Tolerances.{Tolerances}
-use Rattle.rules.specs.Bench.{tolerable}
+use Rattle.rules.specs.Bench.{tolerable, mostCycles}
 use Rattle.rules.specs.Cycle.{valid}
-use Rattle.rules.specs.Course.{Course, outside, counted, judged, closed}
+use Rattle.rules.specs.Course.{Course, outside, counted, judged, closed, rowM}
 use Rattle.rules.specs.Parts.{Part, rowPart, phasePart, finished}
-use Rattle.rules.specs.Regular.{interval, regularLayout, regular, plan}
-use Rattle.rules.specs.Table.{behindBefore, behindBlock}
+use Rattle.rules.specs.Regular.{interval}
+use Rattle.rules.specs.Plan.{plan, layoutOf, courseOf}
+use Rattle.rules.specs.Table.{behindTolerances, behindBefore, behindBlock}
 use Rattle.rules.specs.Values.{tolerancesIn}
 use Rattle.rules.specs.Record.{Told, told, sheetOf}
 use Rattle.rules.specs.Records.{me, four, sample, block, charge}
@@ -28,7 +30,7 @@ use Rattle.laws.specs.Beside.{isOpen, stopped}
 use Rattle.laws.specs.Claims.{Widened, PartKept}
 use Rattle.ledger.specs.Row.{at, energyIn, distanceIn, outsideIn}
 use Rattle.state.specs.declared.Run.{Run}
-use Rattle.state.specs.Refusals.{closedBy}
+use Rattle.state.specs.State.{closedBy}
 use Rattle.values.specs.Limits.{areAmounts}
 use Rattle.figures.specs.Compared.{NoEarlier}
 use Rattle.demands.specs.Calls.{ClosingCall}
@@ -38,74 +40,83 @@ use Rattle.demands.specs.Compared.{outsideTold, NoMoreOutside}
 
 -- ---- over runs: of any samples s, n are offered
 
-module _ (b : List ℕ) (t t′ : Tolerances) (s : ℕ → Moment) (n : ℕ) where
-  abbrev y : Course
-  y = regular b t
+module _ (b : List ℕ) (y : Method) (t t′ : Tolerances) (s : ℕ → Moment) (n : ℕ) where
+  abbrev c : Course
+  c = courseOf (plan b t y)
 
-  abbrev y′ : Course
-  y′ = regular b t′
+  abbrev c′ : Course
+  c′ = courseOf (plan b t′ y)
 
   -- by tolerances of which each is kept or widened
   pub record WiderRun : Type 0 where
     -- "Wider tolerances never stop earlier."
-    pub wider-never-stops-earlier : (counted y s n ≤ counted y′ s n) × (T (stopped y′ s n) → T (stopped y s n))
+    pub wider-never-stops-earlier : (counted c s n ≤ counted c′ s n) × (T (stopped c′ s n) → T (stopped c s n))
     -- every interval that the narrower run closed: its stopping sample was offered to both
-    pub wider-closes-no-less : closed y s n ≤ closed y′ s n
+    pub wider-closes-no-less : closed c s n ≤ closed c′ s n
     -- "What the narrower run finished, the wider finished too, with equal energies and distances and no higher outside count."
-    pub wider-finishes-phases : (c k : ℕ) → T (finished (phasePart (regularLayout b) c k) (closed y s n))
-        → PartKept interval (phasePart (regularLayout b) c k) s s (closed y s n) (closed y′ s n)
-    pub wider-finishes-cycles : (c : ℕ) → T (finished (rowPart (regularLayout b) c) (closed y s n))
-        → PartKept interval (rowPart (regularLayout b) c) s s (closed y s n) (closed y′ s n)
-        × (outside y′ s c (judged y′ s n) ≤ outside y s c (judged y s n))
+    -- Row 64 is stretch M and row 65 stretch E, which is never finished (document 02, L5)
+    pub wider-finishes-phases : (i k : ℕ) → T (finished (phasePart (layoutOf b y) i k) (closed c s n))
+        → PartKept interval (phasePart (layoutOf b y) i k) s s (closed c s n) (closed c′ s n)
+    pub wider-finishes-cycles : (i : ℕ) → T (finished (rowPart (layoutOf b y) i) (closed c s n))
+        → PartKept interval (rowPart (layoutOf b y) i) s s (closed c s n) (closed c′ s n)
+        × (outside c′ s i (judged c′ s n) ≤ outside c s i (judged c s n))
 
 -- n samples of s, and n′ of s′ that begin with them
-module _ (b : List ℕ) (t : Tolerances) (s s′ : ℕ → Moment) (n n′ : ℕ) where
+module _ (b : List ℕ) (y : Method) (t : Tolerances) (s s′ : ℕ → Moment) (n n′ : ℕ) where
   abbrev course : Course
-  course = regular b t
+  course = courseOf (plan b t y)
 
   pub record LongerRun : Type 0 where
     -- "Samples added at the end move no stop given"
     pub longer-moves-no-stop : T (stopped course s n) → T (stopped course s′ n′) × (counted course s′ n′ ≡ counted course s n)
     pub longer-closes-no-less : closed course s n ≤ closed course s′ n′
     -- "and change no phase or cycle finished."
-    pub finished-phase-stays : (c k : ℕ) → T (finished (phasePart (regularLayout b) c k) (closed course s n))
-        → PartKept interval (phasePart (regularLayout b) c k) s s′ (closed course s n) (closed course s′ n′)
-    pub finished-stays : valid b ≡ true → (c : ℕ) → T (finished (rowPart (regularLayout b) c) (closed course s n))
-        → PartKept interval (rowPart (regularLayout b) c) s s′ (closed course s n) (closed course s′ n′)
+    pub finished-phase-stays : (c k : ℕ) → T (finished (phasePart (layoutOf b y) c k) (closed course s n))
+        → PartKept interval (phasePart (layoutOf b y) c k) s s′ (closed course s n) (closed course s′ n′)
+    pub finished-stays : valid b ≡ true → (c : ℕ) → T (finished (rowPart (layoutOf b y) c) (closed course s n))
+        → PartKept interval (rowPart (layoutOf b y) c) s s′ (closed course s n) (closed course s′ n′)
         × (outside course s′ c (judged course s′ n′) ≡ outside course s c (judged course s n))
 
 -- ---- over whole runs of calls that keep the contracts, in their state and ledger: the run r with the ledger l, and the run r′ with l′
 
-module _ (b : List ℕ) (r r′ : Run) (l l′ : List ℤ) where
+module _ (b : List ℕ) (y : Method) (r r′ : Run) (l l′ : List ℤ) where
   -- where the first finished a phase or a cycle, the second has it with the same energy and distance in its ledger
   pub record PhaseStays (c k : ℕ) : Type 0 where
-    pub finished-too : T (finished (phasePart (regularLayout b) c k) (closedBy r′))
+    pub finished-too : T (finished (phasePart (layoutOf b y) c k) (closedBy (r′ .progress)))
     pub energy : at l′ (9 * c + k) ≡ at l (9 * c + k)
     pub distance : at l′ (9 * c + (4 + k)) ≡ at l (9 * c + (4 + k))
 
   pub record CycleStays (c : ℕ) : Type 0 where
-    pub finished-too : T (finished (rowPart (regularLayout b) c) (closedBy r′))
+    pub finished-too : T (finished (rowPart (layoutOf b y) c) (closedBy (r′ .progress)))
     pub energy : energyIn l′ c ≡ energyIn l c
     pub distance : distanceIn l′ c ≡ distanceIn l c
+
+  -- and stretch M, in the state
+  pub record StretchStays : Type 0 where
+    pub finished-too : T (finished (rowPart (layoutOf b y) rowM) (closedBy (r′ .progress)))
+    pub stretch : r′ .stretched .in_m ≡ r .stretched .in_m
 
   -- the second by tolerances of which each is kept or widened
   pub record WiderCalls : Type 0 where
     -- "Wider tolerances never stop earlier."
     pub wider-run-never-stops-earlier : (r .progress .counted ≤ r′ .progress .counted) × (r′ .progress .end ≡ stop → r .progress .end ≡ stop)
-    pub wider-run-closes-no-less : closedBy r ≤ closedBy r′
+    pub wider-run-closes-no-less : closedBy (r .progress) ≤ closedBy (r′ .progress)
     -- "What the narrower run finished, the wider finished too, with equal energies and distances and no higher outside count."
-    pub wider-run-finishes-phases : (c k : ℕ) → T (finished (phasePart (regularLayout b) c k) (closedBy r)) → PhaseStays c k
-    pub wider-run-finishes-cycles : (c : ℕ) → T (finished (rowPart (regularLayout b) c) (closedBy r))
+    pub wider-run-finishes-phases : (c k : ℕ) → c < mostCycles → T (finished (phasePart (layoutOf b y) c k) (closedBy (r .progress))) → PhaseStays c k
+    pub wider-run-finishes-cycles : (c : ℕ) → c < mostCycles → T (finished (rowPart (layoutOf b y) c) (closedBy (r .progress)))
         → CycleStays c × (leZ (outsideIn l′ c) (outsideIn l c) ≡ true)
+    pub wider-run-finishes-M : T (finished (rowPart (layoutOf b y) rowM) (closedBy (r .progress))) → StretchStays
 
   -- the second with samples added at the end; m and m′ are the maps
   pub record LongerCalls (m m′ : List ℕ) : Type 0 where
     -- "Samples added at the end move no stop given"
     pub longer-run-moves-no-stop : r .progress .end ≡ stop → (r′ .progress .end ≡ stop) × (r′ .progress .counted ≡ r .progress .counted)
-    pub longer-run-closes-no-less : closedBy r ≤ closedBy r′
+    pub longer-run-closes-no-less : closedBy (r .progress) ≤ closedBy (r′ .progress)
     -- "and change no phase or cycle finished."
-    pub finished-phases-stay : (c k : ℕ) → T (finished (phasePart (regularLayout b) c k) (closedBy r)) → PhaseStays c k
-    pub finished-cycles-stay : (c : ℕ) → T (finished (rowPart (regularLayout b) c) (closedBy r)) → CycleStays c × (outsideIn l′ c ≡ outsideIn l c)
+    pub finished-phases-stay : (c k : ℕ) → c < mostCycles → T (finished (phasePart (layoutOf b y) c k) (closedBy (r .progress))) → PhaseStays c k
+    pub finished-cycles-stay : (c : ℕ) → c < mostCycles → T (finished (rowPart (layoutOf b y) c) (closedBy (r .progress)))
+        → CycleStays c × (outsideIn l′ c ≡ outsideIn l c)
+    pub finished-M-stays : T (finished (rowPart (layoutOf b y) rowM) (closedBy (r .progress))) → StretchStays
     -- "Later accepted samples raise only the number offered.": of a run that has ended, the closing stays
     pub closing-stays : isOpen (r .progress .end) ≡ false → (c c′ : ClosingCall) → ClosingOn r b l m c → ClosingOn r′ b l′ m′ c′
         → areAmounts (closingAmounts c) ≡ true → closingAmounts c′ ≡ closingAmounts c → c′ .answer ≡ c .answer
@@ -125,7 +136,8 @@ module _ (p q v v′ : List ℕ) where
     pub wider-told : sheetOf (withFour p q v′) ≡ told (withTolerances x (tolerancesIn v′))
     -- the figures printed: "Wider tolerances never stop earlier. .. What the narrower run finished, the wider finished too, with equal energies and distances
     -- and no higher outside count."
-    pub wider-sheet : (let h = x .holding in NoEarlier (h .vehicle) (x .passed) (h .amounts) (h .cycle) (h .tolerances) (tolerancesIn v′) (h .samples))
+    pub wider-sheet : (let h = x .holding in
+        NoEarlier (h .vehicle) (x .passed) (h .amounts) (h .cycle) (h .method) (h .tolerances) (tolerancesIn v′) (h .samples))
     -- and where the narrower run did not stop, the sheets are the same but for `outside`, which is no higher
     pub wider-prints : (figuresTold x .end ≡ stop → ⊥) → NoMoreOutside (printed (sheetOf (withFour p q v))) (printed (sheetOf (withFour p q v′)))
 
@@ -140,9 +152,10 @@ pub record Unmoved (x x′ : Told) : Type 0 where
   pub stop-stays : figuresTold x .end ≡ stop → (figuresTold x′ .end ≡ stop) × (figuresTold x′ .counted ≡ figuresTold x .counted)
   pub counted-no-less : figuresTold x .counted ≤ figuresTold x′ .counted
   pub cycles-no-less : figuresTold x .cycles ≤ figuresTold x′ .cycles
-  pub phases-stay : (c k : ℕ) → Stays x x′ (phasePart (regularLayout (x .holding .cycle)) c k)
-  pub cycles-stay : (c : ℕ) → Stays x x′ (rowPart (regularLayout (x .holding .cycle)) c)
-  pub outside-stays : (c : ℕ) → T (finished (rowPart (regularLayout (x .holding .cycle)) c) (closedTold x)) → outsideTold x′ c ≡ outsideTold x c
+  pub phases-stay : (c k : ℕ) → Stays x x′ (phasePart (layoutOf (x .holding .cycle) (x .holding .method)) c k)
+  pub cycles-stay : (c : ℕ) → Stays x x′ (rowPart (layoutOf (x .holding .cycle) (x .holding .method)) c)
+  pub outside-stays : (c : ℕ) → T (finished (rowPart (layoutOf (x .holding .cycle) (x .holding .method)) c) (closedTold x))
+      → outsideTold x′ c ≡ outsideTold x c
 
 -- "Later accepted samples raise only the number offered.": where the run of x has ended, no figure changes, nor a byte of what is printed
 pub record EndedStays (x x′ : Told) : Type 0 where
@@ -182,23 +195,27 @@ module _ (a more z : List ℕ) (y x : Told) where
 -- ---- together
 
 pub record Demand3 : Type 0 where
-  pub wider-runs : (b : List ℕ) (t t′ : Tolerances) (s : ℕ → Moment) (n : ℕ) → valid b ≡ true → Widened t t′ → WiderRun b t t′ s n
-  pub longer-runs : (b : List ℕ) (t : Tolerances) (s s′ : ℕ → Moment) (n n′ : ℕ) → n ≤ n′ → ((j : ℕ) → j < n → s′ j ≡ s j)
-      → LongerRun b t s s′ n n′
-  pub wider-calls : {b : List ℕ} {t t′ : Tolerances} {l₀ k₀ : List ℤ} {m₀ n₀ : List ℕ} {xs : List Moment}
+  pub wider-runs : (b : List ℕ) (y : Method) (t t′ : Tolerances) (s : ℕ → Moment) (n : ℕ) → valid b ≡ true → Widened t t′
+      → WiderRun b y t t′ s n
+  pub longer-runs : (b : List ℕ) (y : Method) (t : Tolerances) (s s′ : ℕ → Moment) (n n′ : ℕ) → n ≤ n′
+      → ((j : ℕ) → j < n → s′ j ≡ s j) → LongerRun b y t s s′ n n′
+  pub wider-calls : {b : List ℕ} {y : Method} {t t′ : Tolerances} {l₀ k₀ : List ℤ} {m₀ n₀ : List ℕ} {xs : List Moment}
       {r r′ : Run} {l l′ : List ℤ} {m m′ : List ℕ}
-      → Driven (plan b t) l₀ m₀ xs r l m → Driven (plan b t′) k₀ n₀ xs r′ l′ m′ → Widened t t′ → WiderCalls b r r′ l l′
-  pub longer-calls : {b : List ℕ} {t : Tolerances} {l₀ k₀ : List ℤ} {m₀ n₀ : List ℕ} {xs : List Moment} (ys : List Moment)
+      → Driven (plan b t y) l₀ m₀ xs r l m → Driven (plan b t′ y) k₀ n₀ xs r′ l′ m′ → Widened t t′ → WiderCalls b y r r′ l l′
+  pub longer-calls : {b : List ℕ} {y : Method} {t : Tolerances} {l₀ k₀ : List ℤ} {m₀ n₀ : List ℕ} {xs : List Moment} (ys : List Moment)
       {r r′ : Run} {l l′ : List ℤ} {m m′ : List ℕ}
-      → Driven (plan b t) l₀ m₀ xs r l m → Driven (plan b t) k₀ n₀ (xs ++ ys) r′ l′ m′ → LongerCalls b r r′ l l′ m m′
+      → Driven (plan b t y) l₀ m₀ xs r l m → Driven (plan b t y) k₀ n₀ (xs ++ ys) r′ l′ m′ → LongerCalls b y r r′ l l′ m m′
   -- every record that is told is one with a field 4
   pub told-has-four : (i : List ℕ) (x : Told) → sheetOf i ≡ told x → HasFour i
   pub field-four-alone : (p q v v′ : List ℕ) → FirstThree p → length v ≡ 6 → length v′ ≡ 6 → FieldFourAlone p q v v′
   pub wider-records : (p q v v′ : List ℕ) → FirstThree p → length v ≡ 6 → length v′ ≡ 6 → tolerable (tolerancesIn v′) ≡ true
       → Widened (tolerancesIn v) (tolerancesIn v′) → (x : Told) → sheetOf (withFour p q v) ≡ told x → WiderRecord p q v v′ x
-  -- a record that is read on tells the same vehicle, cycle and tolerances, and its samples with others behind them
+  -- a record that is read on tells the same vehicle, cycle and tolerances, the same method where a field stands behind field 4, and its samples with
+  -- others behind them; where none does, it has no sample yet
   pub longer-record : (p q : List ℕ) (x x′ : Told) → sheetOf p ≡ told x → sheetOf (p ++ q) ≡ told x′
-      → (x′ .holding .vehicle ≡ x .holding .vehicle) × Grown x x′
+      → (let h = x .holding in let h′ = x′ .holding in
+      (h′ .vehicle ≡ h .vehicle) × (h′ .cycle ≡ h .cycle) × (h′ .tolerances ≡ h .tolerances) × (behindTolerances < x .place → Grown x x′))
+  pub none-behind-four : (p : List ℕ) (x : Told) → sheetOf p ≡ told x → x .place ≤ behindTolerances → x .holding .samples ≡ []
   -- any two records, of which the second tells the samples of the first with others behind them
   pub longer-told : (x x′ : Told) → Grown x x′ → (i : List ℕ) → sheetOf i ≡ told x → Unmoved x x′
   pub ended-stays : (x x′ : Told) → Grown x x′ → isOpen (figuresTold x .end) ≡ false

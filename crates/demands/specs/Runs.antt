@@ -7,11 +7,12 @@ use lib.IntN.{ℤ}
 use lib.ListN.{length, take, drop}
 use denote.Ref.{RefT, now}
 use Rattle.rules.specs.declared.Amounts.{Amounts}
+use Rattle.rules.specs.declared.Method.{Method}
 use Rattle.rules.specs.declared.Moment.{Moment}
 use Rattle.rules.specs.declared.Sample.{Sample}
 use Rattle.rules.specs.declared.Tolerances.{Tolerances}
 use Rattle.rules.specs.Bench.{momentOf}
-use Rattle.rules.specs.Regular.{Plan}
+use Rattle.rules.specs.Plan.{Plan}
 use Rattle.rules.specs.Shown.{ledgerNumbers, mapWords}
 use Rattle.rules.specs.Values.{momentsIn}
 use Rattle.state.specs.declared.Run.{Run}
@@ -27,12 +28,13 @@ use Rattle.demands.specs.Calls.{blockLeaves}
 
 -- ---- what a call is lent
 
--- a start: this cycle and this memory, with these tolerances
-pub record StartOn (b : List ℕ) (t : Tolerances) (l : List ℤ) (m : List ℕ) (c : StartCall) : Type 0 where
+-- a start: this cycle and this memory, with these tolerances and this method
+pub record StartOn (b : List ℕ) (t : Tolerances) (y : Method) (l : List ℤ) (m : List ℕ) (c : StartCall) : Type 0 where
   pub cycle : now (c .args .0) ≡ b
   pub tolerances : c .args .1 .0 ≡ t
-  pub ledger : now (c .args .1 .1 .0) ≡ l
-  pub map : now (c .args .1 .1 .1 .0) ≡ m
+  pub method : c .args .1 .1 .0 ≡ y
+  pub ledger : now (c .args .1 .1 .1 .0) ≡ l
+  pub map : now (c .args .1 .1 .1 .1 .0) ≡ m
 
 -- a later call: this run, this cycle and this memory
 pub record On (r : Run) (b : List ℕ) (l : List ℤ) (m : List ℕ) (run : Run) (cycle : RefT (List ℕ)) (ledger : RefT (List ℤ)) (map : RefT (List ℕ))
@@ -92,7 +94,7 @@ pub record Beyond (a c : Memory) : Type 0 where
 
 -- a run, its ledger and its map, after a start and calls that took the samples of the list, one by one or in blocks, or refused
 pub data Driven (p : Plan) (l₀ : List ℤ) (m₀ : List ℕ) : List Moment → Run → List ℤ → List ℕ → Type 0 where
-  begins : (c : StartCall) → StartOn (p .cycle) (p .tolerances) l₀ m₀ c → {r : Run} → c .answer ≡ Taken r
+  begins : (c : StartCall) → StartOn (p .cycle) (p .tolerances) (p .method) l₀ m₀ c → {r : Run} → c .answer ≡ Taken r
       → Driven p l₀ m₀ [] r (startLeaves c .ledger) (startLeaves c .map)
   takes : {xs : List Moment} {r : Run} {l : List ℤ} {m : List ℕ} → Driven p l₀ m₀ xs r l m
       → (c : SampleCall) → SampleOn r (p .cycle) l m c → {r′ : Run} → c .answer ≡ Taken r′

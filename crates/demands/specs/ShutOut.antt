@@ -8,20 +8,24 @@ use lib.IntN.{ℤ, pos}
 use lib.ListN.{length}
 use denote.Ref.{now}
 use Rattle.rules.specs.declared.End.the-variants.{Stop as stop}
+use Rattle.rules.specs.declared.Method.{Method}
+use Rattle.rules.specs.declared.Method.the-variants.{Regular as byCycles}
 use Rattle.rules.specs.declared.Moment.{Moment}
 use Rattle.rules.specs.declared.Tolerances.{Tolerances}
 use Rattle.rules.specs.Bench.{isSample, tolerable, mostSpeed, mostCycles, mostOffered}
 use Rattle.rules.specs.Cycle.{valid, positions}
 use Rattle.rules.specs.Course.{Course, outside, judged}
-use Rattle.rules.specs.Regular.{Plan, plan, courseOf, momentIn}
+use Rattle.rules.specs.Regular.{momentIn}
+use Rattle.rules.specs.Plan.{Plan, plan, courseOf}
 use Rattle.rules.specs.Shown.{ledgerNumbers, mapWords, figure, shownRow}
 use Rattle.rules.specs.Values.{countIn, areSamples, momentsIn}
 use Rattle.laws.specs.Beside.{isBlock, stopped}
+use Rattle.values.specs.Limits.{isMethod}
 use Rattle.ledger.specs.Row.{at, outsideIn}
 use Rattle.map.specs.Map.{isSet, onesOf}
 use Rattle.state.specs.declared.Run.{Run}
 use Rattle.state.specs.State.{lent}
-use Rattle.step.specs.Step.{withProgress}
+use Rattle.step.specs.Step.{runTo}
 use Rattle.judge.specs.declared.Answer.the-variants.{Taken, Refused}
 use Rattle.judge.specs.Answers.{afterBlock}
 use Rattle.demands.specs.Calls.{StartCall, SampleCall, BlockCall, VerdictCall}
@@ -72,23 +76,24 @@ pub record Asks (c : VerdictCall) : Type 0 where
 pub record WorkedThrough (r : Run) (b : List ℕ) (l : List ℤ) (m q : List ℕ) (r′ : Run) (l′ : List ℤ) (m′ : List ℕ) : Type 0 where
   pub some : 1 ≤ countIn q
   pub offered : r′ .progress .offered ≡ r .progress .offered + countIn q
-  pub run : r′ ≡ withProgress r (afterBlock r b l m q .progress)
+  pub run : r′ ≡ runTo r (afterBlock r b l m q .progress) (afterBlock r b l m q .stretched)
   pub memory : lent l′ m′ ≡ afterBlock r b l m q .memory
 
 pub record ShutsOutAlways : Type 0 where
-  -- a start on memory that is long enough, with a cycle and tolerances that break no rule, is not refused
-  pub start-not-refused : {b : List ℕ} {t : Tolerances} {l : List ℤ} {m : List ℕ} (c : StartCall) → StartOn b t l m c
-      → ledgerNumbers ≤ length l → mapWords ≤ length m → valid b ≡ true → tolerable t ≡ true
+  -- a start on memory that is long enough, with a cycle, tolerances and a method that break no rule, is not refused
+  pub start-not-refused : {b : List ℕ} {t : Tolerances} {y : Method} {l : List ℤ} {m : List ℕ} (c : StartCall) → StartOn b t y l m c
+      → ledgerNumbers ≤ length l → mapWords ≤ length m → valid b ≡ true → tolerable t ≡ true → isMethod y ≡ true
       → (k : ℕ) → c .answer ≡ Refused k → ⊥
   -- "one with a constant verdict": no number is the answer to every question that breaks no rule; nor is the mark that the judge leaves constant, after
   -- eleven samples of which the last has the speed 20 or 19
   pub no-constant-verdict : (v : ℤ) → ((c : VerdictCall) → Asks c → c .answer ≡ v) → ⊥
   pub no-constant-mark : (l₀ : List ℤ) (m₀ : List ℕ) → ledgerNumbers ≤ length l₀ → mapWords ≤ length m₀ → (y : Bool)
-      → ((v : ℕ) (r : Run) (l : List ℤ) (m : List ℕ) → Driven (plan risen noTime) l₀ m₀ (momentsOf (eleven v)) r l m → isSet m 10 ≡ y) → ⊥
+      → ((v : ℕ) (r : Run) (l : List ℤ) (m : List ℕ) → Driven (plan risen noTime byCycles) l₀ m₀ (momentsOf (eleven v)) r l m
+      → isSet m 10 ≡ y) → ⊥
   -- "one that does nothing": a sample that is taken raises the number offered
   pub sample-is-offered : (c : SampleCall) {r′ : Run} → c .answer ≡ Taken r′ → r′ .progress .offered ≡ suc (c .args .0 .progress .offered)
   pub every-block-is-worked-through : {r : Run} {b : List ℕ} {l : List ℤ} {m : List ℕ} (c : BlockCall) → BlockOn r b l m c
       → {r′ : Run} → c .answer ≡ Taken r′ → WorkedThrough r b l m (bytesIn c) r′ (c .lasts .1 .1 .0) (c .lasts .1 .1 .1 .0)
   -- the row of the test card: a run of its four samples that goes on is no run of a judge that keeps its promises
   pub no-judge-that-never-stops : {l₀ : List ℤ} {m₀ : List ℕ} {r : Run} {l : List ℤ} {m : List ℕ}
-      → Driven (plan level allowsThree) l₀ m₀ (momentsOf fourFast) r l m → (r .progress .end ≡ stop → ⊥) → ⊥
+      → Driven (plan level allowsThree byCycles) l₀ m₀ (momentsOf fourFast) r l m → (r .progress .end ≡ stop → ⊥) → ⊥

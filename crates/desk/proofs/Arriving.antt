@@ -25,7 +25,7 @@ use Rattle.laws.proofs.Related.{AlikeRan}
 use Rattle.state.specs.State.{Memory}
 use Rattle.records.specs.Stage.{Stage, roomAfter, takeOn, runOn}
 use Rattle.records.proofs.After.{after-upto}
-use Rattle.records.proofs.Joined.{Long, Holds}
+use Rattle.records.proofs.Held.{Long, Holds}
 use Rattle.records.proofs.Joined as lists
 use Rattle.records.proofs.Weighs.{fields-weigh}
 use Rattle.opening.specs.Answers.{unopened, stageOf, openingOf, runOf, openGround}
@@ -110,7 +110,7 @@ module _ (room : List ℕ) (l : List ℤ) (m : List ℕ) (long : mostBytes ≤ l
         (λ e.
         let p : behindTolerances + (u .place - behindTolerances) ≡ u .place = omega arith in
         ap stageOn (after-late e)
-        ∙ (λ j. record { place = p j; passed = u .passed; vehicle = u .vehicle; cycle = good w .held j; tolerances = u .tolerances; amounts = u .amounts; run = u .run }))
+        ∙ (λ j. record { place = p j; passed = u .passed; vehicle = u .vehicle; cycle = good w .held j; tolerances = u .tolerances; method = u .method; amounts = u .amounts; run = u .run }))
 
     -- it has no 1 or 2
     pub after-ground : deskGround (after w) ≡ 0
@@ -184,9 +184,11 @@ module _ (room : List ℕ) (l : List ℤ) (m : List ℕ) (long : mostBytes ≤ l
       vehicle = refl;
       cycle = refl;
       tolerances = refl;
+      method = refl;
       amounts = refl;
       empty = λ _. refl;
-      waits = λ _. refl;
+      waits = λ _. (refl, refl);
+      begun = λ e _. absurd (omega arith);
       reached = λ e. absurd (omega arith);
     }
 

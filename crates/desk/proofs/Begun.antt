@@ -2,7 +2,7 @@
 -- Assumes nothing.
 use mathlib.Core.Bool.{Bool, true, false, cond, false≢true}
 use mathlib.Core.List.{List}
-use mathlib.Core.Logic.{_⊎_, ⊎-elim}
+use mathlib.Core.Logic.{⊎-elim}
 use mathlib.Core.Path.{_≡_, refl, sym, ap, _∙_}
 use Prim.Native.Nat.{ℕ, _+_, _-_, _≤_}
 use native.Mathlib.Nat.{add-zero}
@@ -118,7 +118,7 @@ module _ (o : Opening) (r : Reading) (n : ℕ) (room : List ℕ) (l : List ℤ) 
     stage-begun : stageOn begun ≡ u
     stage-begun =
         let p : behindTolerances + (u .place - behindTolerances) ≡ u .place = omega arith in
-        λ j. record { place = p j; passed = u .passed; vehicle = u .vehicle; cycle = good .held j; tolerances = u .tolerances; amounts = u .amounts; run = u .run }
+        λ j. record { place = p j; passed = u .passed; vehicle = u .vehicle; cycle = good .held j; tolerances = u .tolerances; method = u .method; amounts = u .amounts; run = u .run }
 
     pub read-begun : behind (U .used) (fedBy begun (runOn (stageOn begun) (drop (U .used) i))) ≡ fedBy X (runOn s i)
     unfolding W

@@ -3,7 +3,7 @@
 use mathlib.Core.Bool.{Bool, true, false, cond, _&&_, false≢true}
 use mathlib.Core.List.{List, []}
 use mathlib.Core.Path.{_≡_, refl, sym, ap, subst, _∙_}
-use Prim.Native.Nat.{ℕ, _-_, _≤_, zero-le}
+use Prim.Native.Nat.{ℕ, _≤_, zero-le}
 use native.Mathlib.Omega.{arith}
 use borrow.Author.Tests.{le-leb, lt-leb, leb-true}
 use lib.Dec.{leb}
@@ -11,28 +11,31 @@ use lib.IntN.{ℤ}
 use lib.ListN.{length, take}
 use lib.Seq.{length-take-le}
 use Rattle.numbers.proofs.Tests.{pass}
-use Rattle.rules.specs.Bench.{mostOffered, mostPassed}
+use Rattle.rules.specs.Bench.{mostOffered}
 use Rattle.values.specs.Limits.{areAmounts}
 use Rattle.rules.specs.Cycle.{mostBytes}
-use Rattle.rules.specs.Regular.{plan}
+use Rattle.rules.specs.declared.Method.the-variants.{Regular as byCycles}
 use Rattle.rules.specs.Shown.{ledgerNumbers, mapWords}
-use Rattle.rules.specs.Table.{behindTolerances, tags}
+use Rattle.rules.specs.Table.{behindTolerances, behindBefore, tags}
 use Rattle.rules.specs.Machine.{on, moveAt, upto}
 use Rattle.rules.specs.Record.{holding, noAmounts}
 use Rattle.laws.proofs.Places.{early-or-late}
 use Rattle.laws.proofs.Prefixes.{kept}
 use Rattle.state.proofs.Checked.{start-passed}
 use Rattle.judge.proofs.Runs.{in-order, never-refused}
-use Rattle.records.specs.Stage.{Stage, written, roomAfter, takeOn}
+use Rattle.records.specs.Stage.{Stage, planOn, written, roomAfter, takeOn}
 use Rattle.records.proofs.After.{After, after-none, after-both, after-move}
 use Rattle.records.proofs.Came.{Moved, moved}
-use Rattle.records.proofs.Joined.{Long, Tells, tells-move}
+use Rattle.records.proofs.Held.{Long}
+use Rattle.records.proofs.Joined.{Tells, tells-move}
 use Rattle.records.proofs.Limits.{InLimits, limits-move}
 use Rattle.opening.specs.declared.Opening.{Opening}
 use Rattle.opening.specs.Answers.{noTolerances, stageOf, openingOf, runOf, openGround}
 use Rattle.opening.proofs.Next.{Next, waits, begins, next-move}
 use Rattle.opening.proofs.Readied.{Ready, ready-ground}
 use Rattle.reading.specs.declared.Reading.{Reading}
+use Rattle.step.specs.Step.{State}
+use Rattle.reading.proofs.Tested.{own-by}
 use Rattle.reading.specs.Answers.{startedReading, readingOf, isReading, readGround}
 use Rattle.desk.specs.Feeding.{startedOpening, startedGround}
 use Rattle.desk.proofs.Staged.{rooms}
@@ -98,7 +101,7 @@ module _ (o : Opening) (room : List ℕ) (l : List ℤ) (m : List ℕ) where
               short = λ _. q;
             }
         go (begins p t granted d) =
-            let w = start-passed (take (length (u .cycle)) (roomAt u)) t l m granted in
+            let w = start-passed (take (length (u .cycle)) (roomAt u)) t byCycles l m granted in
             let four : v .place ≡ 4 = ap (λ (z : Stage). z .place) (sym d) in
             staying (omega arith) (λ q. absurd (omega arith)) (λ q. absurd (q (record { ledger = w .long-ledger; map = w .long-map })))
 
@@ -115,7 +118,7 @@ module _ (o : Opening) (room : List ℕ) (l : List ℤ) (m : List ℕ) where
   good-first h =
       let size-is : length (take (o .cycle) room) ≡ o .cycle = length-take-le (o .cycle) room (omega (arith, h .size, h .room)) in
       let same : roomAt s ≡ room = same-room (leb (o .fields) 2) (leb 3 (o .fields)) refl refl in
-      let again : stageOf (openingOf s) room l m ≡ s = λ j. record { place = o .fields; passed = 0; vehicle = o .vehicle; cycle = take (size-is j) room; tolerances = noTolerances; amounts = noAmounts; run = s .run } in
+      let again : stageOf (openingOf s) room l m ≡ s = λ j. record { place = o .fields; passed = 0; vehicle = o .vehicle; cycle = take (size-is j) room; tolerances = noTolerances; method = byCycles; amounts = noAmounts; run = s .run } in
       record {
         limits = record { place = omega (arith, h .few); passed = zero-le; amounts = refl; number = h .number; size = omega (arith, size-is, h .size) };
         after = after-none s;
@@ -123,16 +126,18 @@ module _ (o : Opening) (room : List ℕ) (l : List ℤ) (m : List ℕ) where
         held = (λ j. take (length (take (o .cycle) room)) (same j)) ∙ ap (λ (z : Stage). z .cycle) again;
         early = λ _. subst (λ (r : List ℕ). stageOf (openingOf s) r l m ≡ s) (sym same) again;
         told = λ k. record {
-          told = record { place = o .fields; passed = 0; holding = holding (o .vehicle) (take (o .cycle) room) noTolerances [] noAmounts };
+          told = record { place = o .fields; passed = 0; holding = holding (o .vehicle) (take (o .cycle) room) noTolerances byCycles [] noAmounts };
           holds = record {
             place = refl;
             passed = refl;
             vehicle = refl;
             cycle = refl;
             tolerances = refl;
+            method = refl;
             amounts = refl;
             empty = λ _. refl;
-            waits = λ _. refl;
+            waits = λ _. (refl, refl);
+            begun = λ e _. absurd (omega (arith, h .few));
             reached = λ e. absurd (omega (arith, h .few));
           };
         };
@@ -157,10 +162,6 @@ module _ (o : Opening) (room : List ℕ) (l : List ℤ) (m : List ℕ) where
     abbrev reading : Reading
     reading = readingOf (startedReading (u .vehicle) (runOf u)) u
 
-    is-reading : isReading reading ≡ true
-    unfolding isReading
-    is-reading = rw (le-leb (u .place - 4) 4 (omega (arith, g .limits .place)), le-leb (u .passed) mostPassed (g .limits .passed), g .limits .amounts, g .limits .number)
-
     -- a run that has started has memory that is long enough
     pub enough : behindTolerances ≤ u .place → Long l m
     enough e = go (leb ledgerNumbers (length l)) (leb mapWords (length m)) refl refl
@@ -170,11 +171,26 @@ module _ (o : Opening) (room : List ℕ) (l : List ℤ) (m : List ℕ) where
         go true false a b = absurd (let r = g .short (λ h. false≢true (sym b ∙ le-leb _ _ (h .map))) in omega arith)
         go false q a b = absurd (let r = g .short (λ h. false≢true (sym a ∙ le-leb _ _ (h .ledger))) in omega arith)
 
+    -- until an own block no sample is offered
+    none-offered : u .place ≤ behindBefore → u .run .progress .offered ≡ 0
+    none-offered low =
+        early-or-late (u .place) (λ e. sym (ap (λ (x : Stage). x .run .progress .offered) (g .early e)))
+        (λ e. ap (λ (a : State). a .progress .offered) (g .told (enough e) .holds .begun e low))
+
+    is-reading : isReading reading ≡ true
+    is-reading = own-by reading (record {
+      place = omega (arith, g .limits .place);
+      fresh = λ e. none-offered (omega arith);
+      passed = g .limits .passed;
+      amounts = g .limits .amounts;
+      number = g .limits .number;
+    })
+
     pub reads-on : behindTolerances ≤ u .place → readGround reading (take (length (u .cycle)) (roomAt u)) (u .run .memory .ledger) (u .run .memory .map) ≡ 0
     unfolding readGround
     reads-on e =
         ap (λ (b : List ℕ). readGround reading b (u .run .memory .ledger) (u .run .memory .map)) (g .held)
-        ∙ sym (pass 1 is-reading (sym (never-refused (plan (u .cycle) (u .tolerances)) l m (g .told (enough e) .holds .reached e) 0)))
+        ∙ sym (pass 1 is-reading (sym (never-refused (planOn u) l m (g .told (enough e) .holds .reached e) 0)))
 
     -- so has the desk that has started
     pub begun-ground : behindTolerances ≤ u .place → (n : ℕ) → startedGround (record {
@@ -190,4 +206,4 @@ module _ (o : Opening) (room : List ℕ) (l : List ℤ) (m : List ℕ) where
     pub few-offered : u .run .progress .offered ≤ mostOffered
     few-offered =
         early-or-late (u .place) (λ e. let z = ap (λ (x : Stage). x .run .progress .offered) (g .early e) in omega arith)
-        (λ e. in-order (plan (u .cycle) (u .tolerances)) l m (g .told (enough e) .holds .reached e) .few)
+        (λ e. in-order (planOn u) l m (g .told (enough e) .holds .reached e) .few)

@@ -3,13 +3,14 @@
 use mathlib.Core.Bool.{Bool, true, false, cond, _&&_}
 use mathlib.Core.List.{List}
 use mathlib.Core.Path.{_≡_, refl, sym, ap, _∙_}
-use Prim.Native.Nat.{ℕ, _+_, _-_}
+use Prim.Native.Nat.{ℕ, _+_}
 use native.Mathlib.Nat.{add-zero, add-assoc}
 use native.Mathlib.Omega.{arith}
 use borrow.Author.Tests.{le-leb, lt-leb, leb-true, leb-false}
 use lib.Dec.{leb}
 use lib.ListN.{length, take}
 use lib.Seq.{length-take-le}
+use Rattle.rules.specs.declared.Method.the-variants.{Regular as byCycles}
 use Rattle.rules.specs.Table.{behindTolerances}
 use Rattle.rules.specs.Machine.{End, Ran, ends}
 use Rattle.laws.specs.Answers.{endSaid}
@@ -116,7 +117,7 @@ module _ (o : Opening) (r : Reading) (n : ℕ) (room : List ℕ) (c : Memory) (u
             (record {
               started = true;
               opening = record { fields = 4; vehicle = sym (b .vehicle late) i; cycle = length (sym (b .cycle (omega arith)) i) };
-              reading = readingOf (startedReading (sym (b .vehicle late) i) (started (sym (b .cycle (omega arith)) i) (sym (b .tolerances late) i))) z;
+              reading = readingOf (startedReading (sym (b .vehicle late) i) (started (sym (b .cycle (omega arith)) i) (sym (b .tolerances late) i) byCycles)) z;
               fields = more i;
             })
             (record { started = false; opening = openingOf z; reading = r; fields = n + (u .fields + w .fields) });

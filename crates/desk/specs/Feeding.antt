@@ -16,7 +16,8 @@ use Rattle.rules.specs.Machine.{Ran, upto}
 use Rattle.laws.specs.Answers.{Said, gives, refuses, endSaid}
 use Rattle.state.specs.declared.Run.{Run}
 use Rattle.state.specs.State.{Memory, lent}
-use Rattle.state.specs.Refusals.{notBegun}
+use Rattle.rules.specs.declared.Method.the-variants.{Regular as byCycles}
+use Rattle.state.specs.Refusals.{notBegun, notStretched}
 use Rattle.records.specs.Stage.{Stage, takeOn, runOn, roomAfter}
 use Rattle.opening.specs.declared.Opening.{Opening}
 use Rattle.opening.specs.Answers.{Opened, opens, starts, unfinished, unopened, noTolerances, stageOf, openingOf, runOf, OpenLeft, openGround, frontOpened}
@@ -84,8 +85,9 @@ pub record Lent : Type 0 where
 -- no run: until the start the reading holds it
 abbrev pub noRun : Run
 noRun = record {
-  track = record { seconds = 0; ends = record { first = 0; second = 0; third = 0; fourth = 0 }; tolerances = noTolerances };
+  track = record { seconds = 0; ends = record { first = 0; second = 0; third = 0; fourth = 0 }; tolerances = noTolerances; method = byCycles };
   progress = notBegun;
+  stretched = notStretched;
 }
 
 abbrev pub emptyDesk : Desk

@@ -12,6 +12,7 @@ use reading::Reading;
 use reading::Step;
 use reading::read_refusal;
 use rules::End;
+use rules::Method;
 use rules::Moment;
 use rules::Tolerances;
 use rules::limits::MOST_OFFERED;
@@ -19,6 +20,8 @@ use rules::limits::MOST_PASSED;
 use state::Ends;
 use state::Progress;
 use state::Run;
+use state::Stretch;
+use state::Stretched;
 use state::Track;
 ghost use mathlib.Core.Path.{_≡_};
 ghost use Prim.Native.Nat.{_+_, _≤_};
@@ -49,8 +52,8 @@ pub struct Fed {
     pub desk: Desk,
 }
 
-// No record has more fields: each moves the place in the order on, of which there are eight, offers a sample or is passed over.
-const MOST_FIELDS: u64 = MOST_OFFERED as u64 + MOST_PASSED as u64 + 8;
+// No record has more fields: each moves the place in the order on, of which there are nine, offers a sample or is passed over.
+const MOST_FIELDS: u64 = MOST_OFFERED as u64 + MOST_PASSED as u64 + 9;
 
 // Before the first byte. The reading is none until the start: it has a run of no cycle.
 pub fn empty() -> Desk
@@ -71,6 +74,7 @@ pub fn empty() -> Desk
                 time: 0,
                 allowance: 0,
             },
+            method: Method::Regular,
         },
         progress: Progress {
             offered: 0,
@@ -80,6 +84,17 @@ pub fn empty() -> Desk
                 speed: 0,
                 energy: 0,
             },
+        },
+        stretched: Stretched {
+            in_m: Stretch {
+                energy: 0,
+                distance: 0,
+            },
+            in_e: Stretch {
+                energy: 0,
+                distance: 0,
+            },
+            watch: 0,
         },
     };
     Desk {

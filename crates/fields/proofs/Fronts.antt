@@ -116,6 +116,6 @@ row-of-energy v = go (eqb (getD v 0 0) 0) (eqb (getD v 0 0) 1) refl refl
 
 -- every other tag has one row
 module _ (v : List ℕ) where
-  pub rows-of-others : (hasRow 2 v ≡ true) × (hasRow 3 v ≡ true) × (hasRow 4 v ≡ true) × (hasRow 5 v ≡ true) × (hasRow 7 v ≡ true)
+  pub rows-of-others : (hasRow 2 v ≡ true) × (hasRow 3 v ≡ true) × (hasRow 4 v ≡ true) × (hasRow 5 v ≡ true) × (hasRow 7 v ≡ true) × (hasRow 8 v ≡ true)
   unfolding byRow begins allBelow
-  rows-of-others = (refl, refl, refl, refl, refl)
+  rows-of-others = (refl, refl, refl, refl, refl, refl)

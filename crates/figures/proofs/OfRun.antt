@@ -1,22 +1,21 @@
 -- The figures of a whole run are those of the rules over its samples.
 -- Assumes nothing.
-use mathlib.Core.Bool.{false, _&&_}
+use mathlib.Core.Bool.{false}
 use mathlib.Core.List.{List, _++_}
 use mathlib.Core.Path.{_≡_, sym, _∙_}
 use Prim.Native.Nat.{ℕ, _+_, _*_}
 use native.Mathlib.Omega.{arith}
-use lib.Dec.{leb}
 use lib.IntN.{ℤ, pos, _+ℤ_}
 use lib.ListN.{length}
 use Rattle.numbers.proofs.Range.{fold-same}
 use Rattle.numbers.proofs.Sums.{sum-pos}
-use Rattle.numbers.proofs.Tests.{both, not-refused}
+use Rattle.numbers.proofs.Tests.{not-refused}
 use Rattle.rules.specs.declared.Moment.{Moment}
-use Rattle.rules.specs.Bench.{mostPassed, mostCycles}
+use Rattle.rules.specs.Bench.{mostCycles}
 use Rattle.rules.specs.Course.{outside, judged, ending}
-use Rattle.rules.specs.Regular.{Plan, courseOf, momentIn}
+use Rattle.rules.specs.Regular.{momentIn}
+use Rattle.rules.specs.Plan.{Plan, courseOf}
 use Rattle.rules.specs.Figures.{outsideTotal, figuresBy}
-use Rattle.values.specs.Limits.{areAmounts}
 use Rattle.laws.specs.Beside.{isOpen}
 use Rattle.laws.proofs.Ended.{figures-ended}
 use Rattle.laws.proofs.NineNumbers.{outside-figure}
@@ -26,17 +25,17 @@ use Rattle.state.proofs.Checked.{ground-passed}
 use Rattle.judge.proofs.Runs.{Reached, run-shows}
 use Rattle.closing.proofs.Joined.{closing-on-run}
 use Rattle.reading.specs.declared.Reading.{Reading}
-use Rattle.reading.specs.Answers.{isReading, readGround}
+use Rattle.reading.specs.Answers.{readGround}
+use Rattle.reading.proofs.Tested.{own-limits}
 use Rattle.figures.specs.Figured.{Figurable, figuresOf}
 
 -- the tests before all else leave what the figures ask for
 pub figurable : (r : Reading) (b : List ℕ) (l : List ℤ) (m : List ℕ) → readGround r b l m ≡ 0 → Figurable r l
-unfolding readGround isReading
+unfolding readGround
 figurable r b l m e =
     let (own, rest) = not-refused 0 _ _ e in
-    let counts = leb (r .place) 4 && leb (r .passed) mostPassed in
     let g = ground-passed rest in
-    record { amounts = both counts (areAmounts (r .amounts)) (both (counts && areAmounts (r .amounts)) _ own .0) .1; is-run = g .is-run; bounded = g .bounded }
+    record { amounts = own-limits r own .amounts; is-run = g .is-run; bounded = g .bounded }
 
 module _ (p : Plan) (l₀ : List ℤ) (m₀ : List ℕ) {xs : List Moment} {r : Run} {l : List ℤ} {m : List ℕ}
     (h : Reached p l₀ m₀ xs r l m) where

@@ -11,9 +11,11 @@ use Rattle.rules.specs.declared.End.the-variants.{Stop as stop}
 use Rattle.rules.specs.declared.Figures.{Figures}
 use Rattle.rules.specs.declared.Moment.{Moment}
 use Rattle.rules.specs.declared.Tolerances.{Tolerances}
+use Rattle.rules.specs.declared.Method.{Method}
 use Rattle.rules.specs.Course.{outside, judged}
 use Rattle.rules.specs.Parts.{Part, rowPart, phasePart, finished}
-use Rattle.rules.specs.Regular.{interval, regularLayout, Plan, plan, courseOf, momentIn}
+use Rattle.rules.specs.Regular.{interval, momentIn}
+use Rattle.rules.specs.Plan.{Plan, plan, layoutOf, courseOf}
 use Rattle.rules.specs.Figures.{closedIn, figuresBy}
 use Rattle.laws.specs.Claims.{PartKept}
 
@@ -34,13 +36,13 @@ withCounts f outside passed = record {
 abbrev pub withOutside : Figures → ℤ → Figures
 withOutside f o = withCounts f o (f .passed)
 
-module _ (vehicle : List ℕ) (passed : ℕ) (a : Amounts) (b : List ℕ) (t t′ : Tolerances) (xs : List Moment) where
-  -- by the narrower tolerances, and by the wider
+module _ (vehicle : List ℕ) (passed : ℕ) (a : Amounts) (b : List ℕ) (y : Method) (t t′ : Tolerances) (xs : List Moment) where
+  -- by the narrower tolerances, and by the wider, by the same method
   abbrev p : Plan
-  p = plan b t
+  p = plan b t y
 
   abbrev p′ : Plan
-  p′ = plan b t′
+  p′ = plan b t′ y
 
   abbrev f : Figures
   f = figuresBy vehicle passed a p xs
@@ -61,7 +63,7 @@ module _ (vehicle : List ℕ) (passed : ℕ) (a : Amounts) (b : List ℕ) (t t�
     pub counted-no-less : f .counted ≤ f′ .counted
     pub cycles-no-less : f .cycles ≤ f′ .cycles
     pub stopped-too : f′ .end ≡ stop → f .end ≡ stop
-    pub phases-kept : (c k : ℕ) → Stays (phasePart (regularLayout b) c k)
-    pub cycles-kept : (c : ℕ) → Stays (rowPart (regularLayout b) c)
-    pub outside-no-higher : (c : ℕ) → T (finished (rowPart (regularLayout b) c) (closedIn p xs))
+    pub phases-kept : (c k : ℕ) → Stays (phasePart (layoutOf b y) c k)
+    pub cycles-kept : (c : ℕ) → Stays (rowPart (layoutOf b y) c)
+    pub outside-no-higher : (c : ℕ) → T (finished (rowPart (layoutOf b y) c) (closedIn p xs))
         → outside (courseOf p′) s c (judged (courseOf p′) s (length xs)) ≤ outside (courseOf p) s c (judged (courseOf p) s (length xs))

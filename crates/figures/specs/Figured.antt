@@ -4,16 +4,17 @@ use mathlib.Core.Bool.{true}
 use mathlib.Core.List.{List}
 use mathlib.Core.Path.{_≡_}
 use Prim.Native.Nat.{ℕ}
-use lib.IntN.{ℤ, pos}
+use lib.IntN.{ℤ, pos, _+ℤ_}
 use lib.ListN.{replicate}
 use Rattle.rules.specs.Words.{settled}
 use Rattle.rules.specs.declared.ClosingAnswer.the-variants.{Refused}
 use Rattle.rules.specs.declared.End.the-variants.{None as none}
 use Rattle.rules.specs.declared.Figures.{Figures}
+use Rattle.rules.specs.Closing.{leastFinished}
 use Rattle.values.specs.Limits.{areAmounts}
 use Rattle.ledger.specs.Row.{bounded, outsideAll, energyAll}
 use Rattle.state.specs.State.{isRun}
-use Rattle.state.specs.Refusals.{cyclesBy}
+use Rattle.state.specs.Refusals.{besideBy, cyclesBy}
 use Rattle.consumption.specs.Figures.{closingOn}
 use Rattle.reading.specs.declared.Reading.{Reading}
 use Rattle.reading.specs.Answers.{readGround}
@@ -34,8 +35,8 @@ figuresOf r l = record {
   cycles = cyclesBy (r .run);
   outside = outsideAll l;
   passed = r .passed;
-  drawn = energyAll l;
-  closing = closingOn l (cyclesBy (r .run)) (r .amounts);
+  drawn = energyAll l +ℤ besideBy (r .run);
+  closing = closingOn l (besideBy (r .run)) (leastFinished (r .run .track .method)) (cyclesBy (r .run)) (r .amounts);
 }
 
 -- where a run is refused n: seventeen times the character 0, and no figure

@@ -5,13 +5,13 @@ use mathlib.Core.Logic.{⊎-elim}
 use mathlib.Core.Path.{_≡_, sym, ap, subst, _∙_}
 use Prim.Native.Nat.{ℕ, suc, _+_, _-_, _*_, _/_, _%_, _<_}
 use native.Mathlib.Omega.{arith}
-use lib.IntN.{ℤ, pos, _+ℤ_}
+use lib.IntN.{ℤ, pos, _+ℤ_, +ℤ-assoc}
 use Rattle.numbers.proofs.Order.{side}
 use Rattle.numbers.proofs.Range.{fold-same}
 use Rattle.numbers.proofs.Sums.{sum-pos}
 use Rattle.rules.specs.declared.Moment.{Moment}
 use Rattle.rules.specs.Bench.{mostCycles, mostPhases}
-use Rattle.rules.specs.Course.{Course, judged, closed}
+use Rattle.rules.specs.Course.{rowM, rowE, Course, judged, closed}
 use Rattle.rules.specs.Parts.{rowPart, phasePart, partEnergy, partDistance, energy}
 use Rattle.rules.specs.Shown.{ledgerNumbers, figure}
 use Rattle.laws.proofs.Facts.{Orderly}
@@ -55,8 +55,12 @@ module _ (y : Course) (s : ℕ → Moment) (l₀ : List ℤ) (n : ℕ) (l : List
         ∙ sum-pos (λ k. partDistance (y .share) s (phasePart (y .layout) c k) (closed y s n)) mostPhases
         ∙ ap pos (distance-phases o (y .share) s (closed y s n) c)
 
-    -- the ledger's energies add up to the energy of the shares closed, where its rows are all that there are
-    pub energies-are : y .layout .rows ≡ mostCycles → energyAll l ≡ energy (y .share) s (closed y s n)
-    energies-are e =
-        fold-same _+ℤ_ (pos 0) _ _ mostCycles (λ c g. cycle-energy-is c g)
-        ∙ rw e at (energies-add-up o (y .share) s (closed y s n) (closed-most y s n))
+    -- the ledger's energies, M's and E's add up to the energy of the shares closed
+    pub energies-are : energyAll l +ℤ (partEnergy (y .share) s (rowPart (y .layout) rowM) (closed y s n) +ℤ partEnergy (y .share) s (rowPart (y .layout) rowE) (closed y s n))
+        ≡ energy (y .share) s (closed y s n)
+    energies-are =
+        let m = partEnergy (y .share) s (rowPart (y .layout) rowM) (closed y s n) in
+        let e = partEnergy (y .share) s (rowPart (y .layout) rowE) (closed y s n) in
+        sym (+ℤ-assoc (energyAll l) m e)
+        ∙ ap (λ (z : ℤ). z +ℤ m +ℤ e) (fold-same _+ℤ_ (pos 0) _ _ mostCycles (λ c g. cycle-energy-is c g))
+        ∙ energies-add-up o (y .share) s (closed y s n) (closed-most y s n)

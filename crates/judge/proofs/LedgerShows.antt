@@ -4,11 +4,11 @@ use mathlib.Core.Bool.{Bool, true, false, _&&_}
 use mathlib.Core.List.{List}
 use mathlib.Core.Path.{_≡_, refl, sym, ap, _∙_}
 use Prim.Native.Nat.{ℕ, suc, _+_, _*_, _≤_, _<_}
-use native.Mathlib.Nat.{le-trans}
+use native.Mathlib.Nat.{add-zero, le-trans}
 use native.Mathlib.Omega.{arith}
 use lib.Dec.{ltb, eqb}
-use borrow.Author.Tests.{le-ltb, eq-eqb}
-use lib.IntN.{ℤ, pos, _+ℤ_}
+use borrow.Author.Tests.{le-ltb, eq-eqb, ne-eqb}
+use lib.IntN.{ℤ, pos, _+ℤ_, +ℤ-idr}
 use lib.ListN.{length, drop}
 use lib.Signed.{ltZ}
 use Rattle.numbers.specs.Lists.{plus}
@@ -21,6 +21,7 @@ use Rattle.rules.specs.Parts.{phasePart, partEnergy, partDistance}
 use Rattle.rules.specs.Regular.{interval}
 use Rattle.rules.specs.Tally as tally
 use Rattle.rules.specs.Shown.{ledgerNumbers}
+use Rattle.laws.proofs.Maps.{outside-beside}
 use Rattle.ledger.specs.Row.{at, intervalAdded, outsideAdded, isOver}
 use Rattle.ledger.proofs.Rows.{length-plus, length-outside, outside-beyond, interval-beyond}
 use Rattle.judge.proofs.Entries.{entry-off, entry-add, outside-off, outside-add, pos-cond}
@@ -72,6 +73,27 @@ module _ (y : Layout) (d : Rule) (s : ℕ → Moment) (l₀ : List ℤ) where
               ∙ h .outsides r g;
           beyond = interval-beyond q l q<64 p (s n) (s (suc n)) p<4 ∙ h .beyond;
         }
+
+  -- or it is of a stretch, and the ledger has nothing of it
+  pub ledger-beside : (n j : ℕ) (l : List ℤ) → mostCycles ≤ y .row n → LedgerShows c s l₀ n j l → LedgerShows c s l₀ (suc n) j l
+  unfolding fold gather
+  ledger-beside n j l row h = record {
+    long = h .long;
+    energies = λ r k g f. h .energies r k g f ∙ rw (ne-eqb (y .row n) r (λ (e : y .row n ≡ r). omega arith)) (sym (+ℤ-idr _));
+    distances = λ r k g f. h .distances r k g f ∙ rw (ne-eqb (y .row n) r (λ (e : y .row n ≡ r). omega arith)) (ap pos (sym (add-zero _)));
+    outsides = h .outsides;
+    beyond = h .beyond;
+  }
+
+  -- sample n stands in no cycle
+  pub ledger-unjudged : (m n : ℕ) (l : List ℤ) → mostCycles ≤ y .row n → LedgerShows c s l₀ m n l → LedgerShows c s l₀ m (suc n) l
+  ledger-unjudged m n l row h = record {
+    long = h .long;
+    energies = h .energies;
+    distances = h .distances;
+    outsides = λ r g. h .outsides r g ∙ ap pos (sym (outside-beside c s n r row g));
+    beyond = h .beyond;
+  }
 
   -- sample n is judged
   module _ (m n : ℕ) (l : List ℤ) (row : y .row n < mostCycles) (h : LedgerShows c s l₀ m n l) where

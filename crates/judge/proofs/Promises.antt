@@ -9,11 +9,12 @@ use lib.Dec.{eqb}
 use lib.IntN.{ℤ}
 use Rattle.rules.specs.declared.Sample.{Sample}
 use Rattle.rules.specs.declared.Tolerances.{Tolerances}
+use Rattle.rules.specs.declared.Method.{Method}
 use Rattle.laws.specs.Answers.{Said, gives, refuses, orRefused}
 use Rattle.laws.proofs.Answers.{known-by}
 use Rattle.state.specs.declared.Run.{Run}
 use Rattle.state.specs.State.{Memory, lent, Left}
-use Rattle.step.specs.Step.{startOf, withProgress}
+use Rattle.step.specs.Step.{startOf, runTo}
 use Rattle.rules.specs.Words.{settled}
 use Rattle.state.specs.Refusals.{startRefusal, started, sampleRefusal}
 use Rattle.judge.specs.Answers.{answerSaid, shownSaid, totalsSaid, callLeft, afterSample, afterBlock}
@@ -83,15 +84,15 @@ module _ (n : ℕ) (r : Run) (a : Memory) (l : List ℤ) (m : List ℕ) where
       go false f g = (cc, g)
 
 -- the three operations
-abbrev pub StartPromise : List ℕ → Tolerances → List ℤ → List ℕ → Answer → Memory → Type 0
-StartPromise b t l m = Promised (startRefusal b t l m) (started b t) (startOf l m .memory) l m
+abbrev pub StartPromise : List ℕ → Tolerances → Method → List ℤ → List ℕ → Answer → Memory → Type 0
+StartPromise b t y l m = Promised (startRefusal b t y l m) (started b t y) (startOf l m .memory) l m
 
 abbrev pub SamplePromise : Run → List ℕ → List ℤ → List ℕ → Sample → Answer → Memory → Type 0
 SamplePromise r b l m x =
     let a = afterSample r b l m x in
-    Promised (sampleRefusal r b l m x) (withProgress r (a .progress)) (a .memory) l m
+    Promised (sampleRefusal r b l m x) (runTo r (a .progress) (a .stretched)) (a .memory) l m
 
 abbrev pub BlockPromise : Run → List ℕ → List ℤ → List ℕ → ℕ → List ℕ → Answer → Memory → Type 0
 BlockPromise r b l m first q =
     let a = afterBlock r b l m q in
-    Promised (blockRefusal r b l m first q) (withProgress r (a .progress)) (a .memory) l m
+    Promised (blockRefusal r b l m first q) (runTo r (a .progress) (a .stretched)) (a .memory) l m

@@ -128,7 +128,7 @@ module _ (v v₁ v₂ : List ℕ) (w : Parts v v₁ v₂) where
   behind-both s =
       let h = s .holding in
       let e = append-assoc (h .samples) (momentsOf v₁) (momentsOf v₂) ∙ ap (λ (xs : List Moment). h .samples ++ xs) (sym samples-both) in
-      λ k. record { place = behindBlock; passed = s .passed; holding = record { vehicle = h .vehicle; cycle = h .cycle; tolerances = h .tolerances; samples = e k; amounts = h .amounts } }
+      λ k. record { place = behindBlock; passed = s .passed; holding = record { vehicle = h .vehicle; cycle = h .cycle; tolerances = h .tolerances; method = h .method; samples = e k; amounts = h .amounts } }
 
   -- a block that is taken may be cut
   pub block-cut : (s s′ : Told) → takeField s (blockOf v) ≡ taken s′

@@ -11,7 +11,9 @@ use lib.Signed.{leZ, ltZ}
 use borrow.Author.Tests.{leb-true, ltb-true}
 use Rattle.rules.specs.Words.{allBelow, up}
 use Rattle.numbers.proofs.Tests.{both, all-at, not-refused}
-use Rattle.rules.specs.Closing.{weight, weighing, isRate, rateOf, weightedFigure, rangeFigure, closingRefusal, mostRate}
+use Rattle.rules.specs.declared.Method.{Method}
+use Rattle.rules.specs.declared.Method.the-variants.{Regular as byCycles, Shortened as withStretches}
+use Rattle.rules.specs.Closing.{weight, weighing, isRate, rateOf, leastFinished, weightedFigure, rangeFigure, closingRefusal, mostRate}
 use Rattle.laws.specs.Beside.{Unrounded}
 use Rattle.laws.proofs.Closeness.{never-above, two-below}
 use Rattle.laws.proofs.Weighing.{least-rate, greatest-rate}
@@ -25,6 +27,11 @@ above-zero : (z : ℤ) → ltZ (pos 0) z ≡ true → 0 < up z
 above-zero (pos m) e = ltb-true 0 m e
 above-zero (negsuc m) e = absurd (false≢true e)
 
+-- either method asks for three finished cycles at least
+pub three-at-least : (y : Method) → 3 ≤ leastFinished y
+three-at-least byCycles = omega arith
+three-at-least (withStretches x) = omega arith
+
 module _ (E : ℤ) (n : ℕ) (e d : ℕ → ℤ) where
   pub record Closes : Type 0 where
     pub three : 3 ≤ n
@@ -35,16 +42,17 @@ module _ (E : ℤ) (n : ℕ) (e d : ℕ → ℤ) where
     pub rated : (c : ℕ) → c < n → (1 ≤ rateOf e d c) × (rateOf e d c ≤ mostRate)
     pub somewhere : 1 ≤ rangeFigure E n e d
 
-  pub closes : closingRefusal E n e d ≡ 0 → Closes
+  -- of a method that asks for so many finished cycles
+  pub closes : (asked : ℕ) → 3 ≤ asked → closingRefusal E n e d asked ≡ 0 → Closes
   unfolding closingRefusal
-  closes h =
-      let (t₁, h₁) = not-refused 9 (leb 3 n) _ h in
+  closes asked l h =
+      let (t₁, h₁) = not-refused 9 (leb asked n) _ h in
       let (t₂, h₂) = not-refused 10 (allBelow n (λ c. leZ (pos 1) (e c))) _ h₁ in
       let (t₃, h₃) = not-refused 10 (leZ (e 0 +ℤ e 1) E) _ h₂ in
       let (t₄, h₄) = not-refused 11 (allBelow n (λ c. ltZ (pos 0) (d c))) _ h₃ in
       let (t₅, h₅) = not-refused 11 (allBelow n (λ c. isRate (rateOf e d c))) _ h₄ in
       let (t₆, h₆) = not-refused 12 (leb 1 (rangeFigure E n e d)) _ h₅ in
-      let three = leb-true 3 n t₁ in
+      let three : 3 ≤ n = omega (arith, leb-true asked n t₁) in
       let one : (c : ℕ) → c < n → (pos (up (e c)) ≡ e c) × (1 ≤ up (e c)) = λ c l. at-least 1 (e c) (all-at n _ t₂ c l) in
       let sum : pos (up (e 0) + up (e 1)) ≡ e 0 +ℤ e 1 = λ i. one 0 (omega arith) .0 i +ℤ one 1 (omega arith) .0 i in
       record {

@@ -11,7 +11,7 @@ use Rattle.rules.specs.Words.{unless, settled}
 use Rattle.rules.specs.declared.Tolerances.{Tolerances}
 use Rattle.rules.specs.Bench.{tolerable, mostOffered}
 use Rattle.rules.specs.Cycle.{valid, startOr}
-use Rattle.rules.specs.Table.{Row, Matter, lookup, isOf, among, byRow, behindTolerances, behindAfter, blockPlaces, tags}
+use Rattle.rules.specs.Table.{Row, Matter, lookup, isOf, among, byRow, behindTolerances, behindStretches, behindAfter, blockPlaces, tags}
 use Rattle.laws.specs.Beside.{mayStand}
 use Rattle.rules.specs.Front.{Field}
 use Rattle.rules.specs.Values.{countIn, areSamples, blockOr}
@@ -76,15 +76,33 @@ module _ (p : ℕ) where
   pub first-place : among (behindTolerances + p) (behindTolerances ∷ []) ≡ eqb p 0
   first-place = pick p 0 (λ e. rw e) (λ n. rw (ne-eqb p 0 n, ne-eqb (4 + p) 4 (λ e. n (omega arith))))
 
-  pub block-place : among (behindTolerances + p) blockPlaces ≡ leb p 2
-  block-place =
-      pick p 0 (λ e. rw e) (λ n₀. pick p 1 (λ e. rw e) (λ n₁. pick p 2 (λ e. rw e) (λ n₂.
-      rw (lt-leb p 2 (omega arith), ne-eqb (4 + p) 4 (λ e. n₀ (omega arith)), ne-eqb (4 + p) 5 (λ e. n₁ (omega arith)), ne-eqb (4 + p) 6 (λ e. n₂ (omega arith))))))
+  pub before-place : among (behindTolerances + p) (behindTolerances ∷ behindStretches ∷ []) ≡ leb p 1
+  before-place =
+      pick p 0 (λ e. rw e) (λ n₀. pick p 1 (λ e. rw e) (λ n₁.
+      rw (lt-leb p 1 (omega arith), ne-eqb (4 + p) 4 (λ e. n₀ (omega arith)), ne-eqb (4 + p) 5 (λ e. n₁ (omega arith)))))
 
-  pub recharge-place : among (behindTolerances + p) (behindAfter ∷ blockPlaces) ≡ leb p 3
-  recharge-place =
+  pub block-place : among (behindTolerances + p) blockPlaces ≡ leb p 3
+  block-place =
       pick p 0 (λ e. rw e) (λ n₀. pick p 1 (λ e. rw e) (λ n₁. pick p 2 (λ e. rw e) (λ n₂. pick p 3 (λ e. rw e) (λ n₃.
-      rw (lt-leb p 3 (omega arith), ne-eqb (4 + p) 7 (λ e. n₃ (omega arith)), ne-eqb (4 + p) 4 (λ e. n₀ (omega arith)), ne-eqb (4 + p) 5 (λ e. n₁ (omega arith)), ne-eqb (4 + p) 6 (λ e. n₂ (omega arith)))))))
+      rw (
+        lt-leb p 3 (omega arith),
+        ne-eqb (4 + p) 4 (λ e. n₀ (omega arith)),
+        ne-eqb (4 + p) 5 (λ e. n₁ (omega arith)),
+        ne-eqb (4 + p) 6 (λ e. n₂ (omega arith)),
+        ne-eqb (4 + p) 7 (λ e. n₃ (omega arith)),
+      )))))
+
+  pub recharge-place : among (behindTolerances + p) (behindAfter ∷ blockPlaces) ≡ leb p 4
+  recharge-place =
+      pick p 0 (λ e. rw e) (λ n₀. pick p 1 (λ e. rw e) (λ n₁. pick p 2 (λ e. rw e) (λ n₂. pick p 3 (λ e. rw e) (λ n₃. pick p 4 (λ e. rw e) (λ n₄.
+      rw (
+        lt-leb p 4 (omega arith),
+        ne-eqb (4 + p) 8 (λ e. n₄ (omega arith)),
+        ne-eqb (4 + p) 4 (λ e. n₀ (omega arith)),
+        ne-eqb (4 + p) 5 (λ e. n₁ (omega arith)),
+        ne-eqb (4 + p) 6 (λ e. n₂ (omega arith)),
+        ne-eqb (4 + p) 7 (λ e. n₃ (omega arith)),
+      ))))))
 
   -- none of the first four fields may stand there
   pub not-first : (k : ℕ) → k ≤ 3 → among (behindTolerances + p) (k ∷ []) ≡ false

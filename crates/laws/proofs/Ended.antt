@@ -12,13 +12,14 @@ use Rattle.rules.specs.declared.Moment.{Moment}
 use Rattle.rules.specs.Bench.{mostCycles}
 use Rattle.rules.specs.Course.{Course, outside, judged, ending}
 use Rattle.rules.specs.Parts.{rowPart, cycles, energy}
-use Rattle.rules.specs.Regular.{Plan, courseOf, momentIn}
-use Rattle.rules.specs.Closing.{closingBy}
+use Rattle.rules.specs.Regular.{momentIn}
+use Rattle.rules.specs.Plan.{Plan, courseOf}
+use Rattle.rules.specs.Closing.{leastFinished, closingBy}
 use Rattle.rules.specs.Figures.{closedIn, energies, distances, outsideTotal, closingIn, figuresBy}
 use Rattle.laws.specs.Beside.{isOpen}
 use Rattle.laws.proofs.Facts.{Lawful}
 use Rattle.laws.proofs.Longer.{more-samples, same-samples, Over, over, energy-over, distance-over, whole-over, outside-over}
-use Rattle.laws.proofs.Regular.{regular-lawful}
+use Rattle.laws.proofs.Plans.{planned-lawful}
 
 -- the samples xs, after which the run has ended, and more behind them
 module _ (p : Plan) (xs ys : List Moment) where
@@ -32,7 +33,7 @@ module _ (p : Plan) (xs ys : List Moment) where
   c = courseOf p
 
   lawful : Lawful c
-  lawful = regular-lawful (p .cycle) (p .tolerances)
+  lawful = planned-lawful p
 
   module _ (ended : isOpen (ending c s (length xs)) ≡ false) where
     abbrev stays : Over c lawful s s′ (length xs) (length (xs ++ ys)) (more-samples xs ys) (same-samples xs ys)
@@ -55,7 +56,8 @@ module _ (p : Plan) (xs ys : List Moment) where
     -- the closing, with the same amounts
     pub closing-ended : (a : Amounts) → closingIn p (xs ++ ys) a ≡ closingIn p xs a
     closing-ended a = λ i.
-        closingBy (a .before +ℤ whole-same i) (cycles (c .layout) (stays .closed-same i)) (energies-same i) (distances-same i) (a .after) (a .charge)
+        closingBy (a .before +ℤ whole-same i) (cycles (c .layout) (stays .closed-same i)) (energies-same i) (distances-same i) (a .after)
+        (leastFinished (p .method)) (a .charge)
 
     -- and every figure
     pub figures-ended : (vehicle : List ℕ) (passed : ℕ) (a : Amounts) → figuresBy vehicle passed a p (xs ++ ys) ≡ figuresBy vehicle passed a p xs

@@ -7,14 +7,15 @@ use Rattle.numbers.specs.Whole.{Sized}
 use Rattle.rules.specs.declared.Moment.{Moment}
 use Rattle.rules.specs.Bench.{mostPhases}
 use Rattle.rules.specs.Course.{reached, Layout, Rule, Share, Course}
+use Rattle.laws.specs.Beside.{mostRows}
 
 pub record Orderly (l : Layout) : Type 0 where
   -- a row has begun where a sample stands in it, and neither the row nor its phase is at its end
   pub begun : (j : ℕ) → l .begin (l .row j) ≤ j
   pub row-open : (j : ℕ) → T (reached (l .rowEnd (l .row j)) j) → ⊥
   pub phase-open : (j : ℕ) → T (reached (l .phaseEnd (l .row j) (l .phase j)) j) → ⊥
-  -- the rows hold every sample that can count, each in one of four phases
-  pub few-rows : (j : ℕ) → j < l .most → l .row j < l .rows
+  -- the ledger's rows and the stretches hold every sample that can count, each in one of four phases
+  pub few-rows : (j : ℕ) → j < l .most → l .row j < mostRows
   pub few-phases : (j : ℕ) → l .phase j < mostPhases
   -- the sample before one that is not its row's first stands in the same row
   pub joined : (j : ℕ) → l .begin (l .row (suc j)) ≤ j → l .row j ≡ l .row (suc j)

@@ -3,7 +3,7 @@
 use mathlib.Core.Bool.{Bool, true, false, cond}
 use mathlib.Core.List.{List, [], _∷_}
 use mathlib.Core.Path.{_≡_, refl, sym, ap, subst, _∙_}
-use Prim.Native.Nat.{ℕ, zero, suc, _+_, _-_, _≤_}
+use Prim.Native.Nat.{ℕ, zero, suc, _+_, _≤_}
 use native.Mathlib.Nat.{le-refl, le-trans}
 use native.Mathlib.Omega.{arith}
 use lib.Dec.{leb}
@@ -11,7 +11,7 @@ use lib.ListN.{length, drop}
 use borrow.Author.Tests.{le-leb, leb-false, lt-leb}
 use Rattle.rules.specs.Words.{unless}
 use Rattle.rules.specs.Bench.{mostPassed}
-use Rattle.rules.specs.Table.{Row, Matter, mark, number, cycle, tolerances, block, energyBefore, energyAfter, recharge, lookup, isOf, among, byRow, placeAfter, tags}
+use Rattle.rules.specs.Table.{Row, Matter, mark, number, cycle, tolerances, stretches, block, energyBefore, energyAfter, recharge, lookup, isOf, among, byRow, placeAfter, tags}
 use Rattle.rules.specs.Front.{Field, Front, incomplete, impossible, field, bytesOf, frontOf}
 use Rattle.rules.specs.Machine.{Answer, passed, Ran, Move, on, off, moveBy, onwards, goOn, replyAt, moveAt, upto, run}
 use Rattle.rules.specs.Values.{isNumber, sameNumber}
@@ -85,6 +85,7 @@ module _ (s : Told) (n : ℕ) where
   content-shifted moves number v r = content-same moves (contentAt s number v) r
   content-shifted moves cycle v r = content-same moves (contentAt s cycle v) r
   content-shifted moves tolerances v r = content-same moves (contentAt s tolerances v) r
+  content-shifted moves stretches v r = content-same moves (contentAt s stretches v) r
   content-shifted moves block v r = block-shifted moves v r
   content-shifted moves energyBefore v r = content-same moves (contentAt s energyBefore v) r
   content-shifted moves energyAfter v r = content-same moves (contentAt s energyAfter v) r

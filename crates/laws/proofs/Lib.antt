@@ -11,7 +11,12 @@ pub mod Total
 pub mod Bounds
 pub mod Maps
 pub mod Next
+pub mod Riding
 pub mod Regular
+pub mod Shortened
+pub mod Watch
+pub mod ShortenedRun
+pub mod Plans
 pub mod Limit
 pub mod Weighing
 pub mod Closeness

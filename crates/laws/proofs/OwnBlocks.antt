@@ -1,9 +1,9 @@
 -- "The same accepted samples cut into other blocks give the same run.": own blocks one after another, however they are cut.
 -- Assumes nothing.
-use mathlib.Core.Bool.{Bool, true, false, false≢true}
+use mathlib.Core.Bool.{Bool, true, false≢true}
 use mathlib.Core.List.{List, [], _++_, append-nil, append-assoc}
 use mathlib.Core.Path.{_≡_, refl, sym, ap, _∙_}
-use Prim.Native.Nat.{ℕ, suc, _+_, _-_}
+use Prim.Native.Nat.{ℕ, suc, _+_}
 use native.Mathlib.Nat.{zero-add}
 use native.Mathlib.Omega.{arith}
 use lib.ListN.{length, drop, length-append, drop-of-length-le}
@@ -111,12 +111,12 @@ blocks-run s p xs n s′ (more {s₁ = s₁} {f = f} {v = v} {q = r} {n = m} b e
 
 -- they bring their samples and nothing else
 blocks-hold : (s : Told) (p : List ℕ) (xs : List Moment) (n : ℕ) (s′ : Told) → Blocks s p xs n s′ → (withSamples (s .holding) xs ≡ s′ .holding) × (s .passed ≡ s′ .passed)
-blocks-hold s p xs n s′ none = (λ k. record { vehicle = s .holding .vehicle; cycle = s .holding .cycle; tolerances = s .holding .tolerances; samples = append-nil (s .holding .samples) k; amounts = s .holding .amounts }, refl)
+blocks-hold s p xs n s′ none = (λ k. record { vehicle = s .holding .vehicle; cycle = s .holding .cycle; tolerances = s .holding .tolerances; method = s .holding .method; samples = append-nil (s .holding .samples) k; amounts = s .holding .amounts }, refl)
 blocks-hold s p xs n s′ (more {s₁ = s₁} {v = v} {q = r} {xs = ys} {n = m} b e bs) =
     let (g, o) = blocks-hold s₁ r ys m s′ bs in
     let d = taken-block s v s₁ e .is in
     let h = s .holding in (
-      (λ k. record { vehicle = h .vehicle; cycle = h .cycle; tolerances = h .tolerances; samples = sym (append-assoc (h .samples) (momentsOf v) ys) k; amounts = h .amounts })
+      (λ k. record { vehicle = h .vehicle; cycle = h .cycle; tolerances = h .tolerances; method = h .method; samples = sym (append-assoc (h .samples) (momentsOf v) ys) k; amounts = h .amounts })
           ∙ ap (λ (t : Told). withSamples (t .holding) ys) d ∙ g,
       ap (λ (t : Told). t .passed) d ∙ o,
     )

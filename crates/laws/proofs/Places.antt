@@ -9,7 +9,7 @@ use borrow.Author.Tests.{leb-true, leb-false, eqb-true}
 use lib.Dec.{leb, eqb}
 use Rattle.rules.specs.Words.{every}
 use Rattle.numbers.proofs.Tests.{both}
-use Rattle.rules.specs.Table.{among, behindTolerances, behindBlock, behindAfter, blockPlaces}
+use Rattle.rules.specs.Table.{among, behindTolerances, behindStretches, behindBlock, behindAfter, blockPlaces}
 
 -- until the start, or after it
 pub early-or-late : {A : Type 0} (n : ℕ) → (n ≤ 3 → A) → (behindTolerances ≤ n → A) → A
@@ -42,7 +42,10 @@ between low high p ps e a =
     let z = both (leb low p) (leb p high) (every-among (λ k. leb low k && leb k high) p ps e a) in
     (leb-true low p (z .0), leb-true p high (z .1))
 
--- blocks and a recharge stand only after the start
+-- a transfer energy before, blocks and a recharge stand only after the start
+pub before-places : (p : ℕ) → among p (behindTolerances ∷ behindStretches ∷ []) ≡ true → (behindTolerances ≤ p) × (p ≤ behindStretches)
+before-places p = between behindTolerances behindStretches p (behindTolerances ∷ behindStretches ∷ []) refl
+
 pub block-places : (p : ℕ) → among p blockPlaces ≡ true → (behindTolerances ≤ p) × (p ≤ behindBlock)
 block-places p = between behindTolerances behindBlock p blockPlaces refl
 

@@ -31,14 +31,14 @@ module _ (E : ℤ) (n : ℕ) (few : n ≤ mostCycles) (e d e′ d′ : ℕ → �
   range-same : rangeFigure E n e d ≡ rangeFigure E n e′ d′
   range-same = ap (range (up E)) weighted-same
 
-  refusal-same : closingRefusal E n e d ≡ closingRefusal E n e′ d′
+  refusal-same : (asked : ℕ) → closingRefusal E n e d asked ≡ closingRefusal E n e′ d′ asked
   unfolding closingRefusal
-  refusal-same =
+  refusal-same asked =
       let a = all-same n _ _ (λ c h. ap (leZ (pos 1)) (he c (omega arith))) in
       let m = all-same n _ _ (λ c h. ap (ltZ (pos 0)) (hd c (omega arith))) in
       let q = all-same n _ _ (λ c h. ap isRate (rate-same c (omega arith))) in
       λ i.
-      unless 10 (leb 3 n)
+      unless 10 (leb asked n)
       (unless 11 (a i)
       (unless 11 (leZ (he 0 (omega arith) i +ℤ he 1 (omega arith) i) E)
       (unless 12 (m i)
@@ -46,7 +46,7 @@ module _ (E : ℤ) (n : ℕ) (few : n ≤ mostCycles) (e d e′ d′ : ℕ → �
       (unless 13 (leb 1 (range-same i)) 0)))))
 
   -- the whole closing, with F and the recharge
-  pub closing-same : (F : ℤ) (charge : Charge) → closingBy E n e d F charge ≡ closingBy E n e′ d′ F charge
-  closing-same F charge = λ i.
+  pub closing-same : (F : ℤ) (asked : ℕ) (charge : Charge) → closingBy E n e d F asked charge ≡ closingBy E n e′ d′ F asked charge
+  closing-same F asked charge = λ i.
       let figures = together (weighted-same i) (range-same i) (rechargeBy E (range-same i) F charge) in
-      settled (refusal-same i) (Closed figures) (Refused (refusal-same i))
+      settled (refusal-same asked i) (Closed figures) (Refused (refusal-same asked i))

@@ -12,13 +12,13 @@ use Rattle.rules.specs.Words.{unless}
 use Rattle.numbers.proofs.Tests.{both, passed as passes}
 use Rattle.numbers.proofs.Whole.{weaken, sized-add, sized-between, between-sized}
 use Rattle.rules.specs.declared.Charge.the-variants.{Wh as wh}
-use Rattle.rules.specs.Bench.{tolerable, mostOffered, mostPassed}
+use Rattle.rules.specs.Bench.{tolerable, areStretches, mostOffered, mostPassed}
 use Rattle.rules.specs.Closing.{mostTransferIn, isTransferIn, doubled, isCharge}
 use Rattle.laws.specs.Beside.{mostTransfer, isTransfer}
 use Rattle.rules.specs.Cycle.{valid}
-use Rattle.rules.specs.Table.{Row, Matter, number, among, isOf, tags, behindMark, behindNumber, behindCycle, behindTolerances, behindBefore, behindBlock, behindAfter, behindRecharge, blockPlaces}
-use Rattle.rules.specs.Values.{isNumber, sameNumber, firstIn, samplesOf, countIn, momentsIn, areSamples, blockOr, tolerancesIn, transferIn, rechargeIn}
-use Rattle.rules.specs.Record.{Bring, nothing, aNumber, aCycle, theTolerances, ownSamples, before, after, charged, brought, foreign, wrong, blockContent, contentOf}
+use Rattle.rules.specs.Table.{Row, Matter, number, among, isOf, tags, behindMark, behindNumber, behindCycle, behindTolerances, behindStretches, behindBefore, behindBlock, behindAfter, behindRecharge, blockPlaces}
+use Rattle.rules.specs.Values.{isNumber, sameNumber, firstIn, samplesOf, countIn, momentsIn, areSamples, blockOr, tolerancesIn, stretchesIn, transferIn, rechargeIn}
+use Rattle.rules.specs.Record.{Bring, nothing, aNumber, aCycle, theTolerances, theStretches, ownSamples, before, after, charged, brought, foreign, wrong, blockContent, contentOf}
 use Rattle.laws.proofs.Carried.{In, here, there}
 
 -- a block of the vehicle me that follows the samples offered
@@ -35,6 +35,7 @@ movesTo nothing = behindMark
 movesTo (aNumber v) = behindNumber
 movesTo (aCycle v) = behindCycle
 movesTo (theTolerances t) = behindTolerances
+movesTo (theStretches x) = behindStretches
 movesTo (ownSamples xs) = behindBlock
 movesTo (before e) = behindBefore
 movesTo (after e) = behindAfter
@@ -51,8 +52,9 @@ module _ (over : ℕ) (me course : List ℕ) (offered tag : ℕ) (v : List ℕ) 
   Says p (aNumber w) = (tag ≡ 2) × (among p (1 ∷ []) ≡ true) × (w ≡ v) × (isNumber v ≡ true)
   Says p (aCycle w) = (tag ≡ 3) × (among p (2 ∷ []) ≡ true) × (w ≡ v) × (valid v ≡ true)
   Says p (theTolerances t) = (tag ≡ 4) × (among p (3 ∷ []) ≡ true) × (t ≡ tolerancesIn v) × (valid course ≡ true) × (tolerable t ≡ true)
+  Says p (theStretches x) = (tag ≡ 8) × (among p (behindTolerances ∷ []) ≡ true) × (x ≡ stretchesIn v) × (areStretches x ≡ true)
   Says p (ownSamples xs) = (tag ≡ 5) × (among p blockPlaces ≡ true) × (xs ≡ momentsIn (samplesOf v)) × Own me offered v
-  Says p (before e) = (tag ≡ 6) × (among p (behindTolerances ∷ []) ≡ true) × (isTransfer e ≡ true)
+  Says p (before e) = (tag ≡ 6) × (among p (behindTolerances ∷ behindStretches ∷ []) ≡ true) × (isTransfer e ≡ true)
   Says p (after e) = (tag ≡ 6) × (among p blockPlaces ≡ true) × (isTransfer e ≡ true)
   Says p (charged w) = (tag ≡ 7) × (among p (behindAfter ∷ blockPlaces) ≡ true) × (isCharge (wh w) ≡ true)
 
@@ -108,13 +110,15 @@ module _ (over : ℕ) (me course : List ℕ) (offered tag : ℕ) (v : List ℕ) 
         known (theTolerances (tolerancesIn v)) b 4 refl (y .1) (tag-is 4 _ t, a, refl, z .0, y .0)
     says q (there (there (there (there here)))) t a b e =
         let z = own b e in
-        known (ownSamples (momentsIn (samplesOf v))) b 6 refl (ap brought (z .0)) (tag-is 5 _ t, a, refl, z .1)
+        known (ownSamples (momentsIn (samplesOf v))) b behindBlock refl (ap brought (z .0)) (tag-is 5 _ t, a, refl, z .1)
     says q (there (there (there (there (there here))))) t a b e =
-        let z = passes (wrong 14) (brought b) _ _ (λ r. false≢true cc) e in known (before (doubled (transferIn v))) b 5 refl (z .1) (tag-is 6 _ t, a, doubled-in (transferIn v) (z .0))
+        let z = passes (wrong 14) (brought b) _ _ (λ r. false≢true cc) e in known (before (doubled (transferIn v))) b behindBefore refl (z .1) (tag-is 6 _ t, a, doubled-in (transferIn v) (z .0))
     says q (there (there (there (there (there (there here)))))) t a b e =
-        let z = passes (wrong 14) (brought b) _ _ (λ r. false≢true cc) e in known (after (doubled (transferIn v))) b 7 refl (z .1) (tag-is 6 _ t, a, doubled-in (transferIn v) (z .0))
+        let z = passes (wrong 14) (brought b) _ _ (λ r. false≢true cc) e in known (after (doubled (transferIn v))) b behindAfter refl (z .1) (tag-is 6 _ t, a, doubled-in (transferIn v) (z .0))
     says q (there (there (there (there (there (there (there here))))))) t a b e =
-        let z = passes (wrong 14) (brought b) _ _ (λ r. false≢true cc) e in known (charged (rechargeIn v)) b 8 refl (z .1) (tag-is 7 _ t, a, z .0)
+        let z = passes (wrong 14) (brought b) _ _ (λ r. false≢true cc) e in known (charged (rechargeIn v)) b behindRecharge refl (z .1) (tag-is 7 _ t, a, z .0)
+    says q (there (there (there (there (there (there (there (there here)))))))) t a b e =
+        let z = passes (wrong 19) (brought b) _ _ (λ r. false≢true cc) e in known (theStretches (stretchesIn v)) b behindStretches refl (z .1) (tag-is 8 _ t, a, refl, z .0)
 
     -- only a block is another's
     pub says-foreign : (q : Row Matter) → In q tags → among p (q .stands) ≡ true → contentOf over me course offered (q .holds) v ≡ foreign
@@ -128,3 +132,4 @@ module _ (over : ℕ) (me course : List ℕ) (offered tag : ℕ) (v : List ℕ) 
     says-foreign q (there (there (there (there (there here))))) a e = absurd (let z = passes (wrong 14) foreign _ _ (λ r. false≢true cc) e .1 in false≢true cc)
     says-foreign q (there (there (there (there (there (there here)))))) a e = absurd (let z = passes (wrong 14) foreign _ _ (λ r. false≢true cc) e .1 in false≢true cc)
     says-foreign q (there (there (there (there (there (there (there here))))))) a e = absurd (let z = passes (wrong 14) foreign _ _ (λ r. false≢true cc) e .1 in false≢true cc)
+    says-foreign q (there (there (there (there (there (there (there (there here)))))))) a e = absurd (let z = passes (wrong 19) foreign _ _ (λ r. false≢true cc) e .1 in false≢true cc)

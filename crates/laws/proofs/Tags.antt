@@ -61,40 +61,47 @@ module _ (n : ℕ) where
   unfolding lengthAllowed
   of-recharge = once (eqb n 4)
 
+  pub of-stretches : lengthAllowed tags 8 n ≡ eqb n 6
+  unfolding lengthAllowed
+  of-stretches = once (eqb n 6)
+
 -- the number is no tag
 abbrev pub NoTag : ℕ → Type 0
-NoTag tag = (tag ≡ 1 → ⊥) × (tag ≡ 2 → ⊥) × (tag ≡ 3 → ⊥) × (tag ≡ 4 → ⊥) × (tag ≡ 5 → ⊥) × (tag ≡ 6 → ⊥) × (tag ≡ 7 → ⊥)
+NoTag tag = (tag ≡ 1 → ⊥) × (tag ≡ 2 → ⊥) × (tag ≡ 3 → ⊥) × (tag ≡ 4 → ⊥) × (tag ≡ 5 → ⊥) × (tag ≡ 6 → ⊥) × (tag ≡ 7 → ⊥) × (tag ≡ 8 → ⊥)
 
 pub no-length : (tag n : ℕ) → NoTag tag → lengthAllowed tags tag n ≡ false
 unfolding lengthAllowed
-no-length tag n (a, b, c, d, e, f, g) = simp (ne-eqb tag 1 a, ne-eqb tag 2 b, ne-eqb tag 3 c, ne-eqb tag 4 d, ne-eqb tag 5 e, ne-eqb tag 6 f, ne-eqb tag 7 g)
+no-length tag n (a, b, c, d, e, f, g, h) =
+    simp (ne-eqb tag 1 a, ne-eqb tag 2 b, ne-eqb tag 3 c, ne-eqb tag 4 d, ne-eqb tag 5 e, ne-eqb tag 6 f, ne-eqb tag 7 g, ne-eqb tag 8 h)
 
 pub no-tag : (tag : ℕ) → NoTag tag → isTag tags tag ≡ false
 unfolding isTag
-no-tag tag (a, b, c, d, e, f, g) = simp (ne-eqb tag 1 a, ne-eqb tag 2 b, ne-eqb tag 3 c, ne-eqb tag 4 d, ne-eqb tag 5 e, ne-eqb tag 6 f, ne-eqb tag 7 g)
+no-tag tag (a, b, c, d, e, f, g, h) =
+    simp (ne-eqb tag 1 a, ne-eqb tag 2 b, ne-eqb tag 3 c, ne-eqb tag 4 d, ne-eqb tag 5 e, ne-eqb tag 6 f, ne-eqb tag 7 g, ne-eqb tag 8 h)
 
 -- ---- by the tag
 
-pub by-tag : (P : ℕ → Type 0) (tag : ℕ) → P 1 → P 2 → P 3 → P 4 → P 5 → P 6 → P 7 → (NoTag tag → P tag) → P tag
-by-tag P tag a b c d e f g none =
+pub by-tag : (P : ℕ → Type 0) (tag : ℕ) → P 1 → P 2 → P 3 → P 4 → P 5 → P 6 → P 7 → P 8 → (NoTag tag → P tag) → P tag
+by-tag P tag a b c d e f g h none =
     pick tag 1 (λ q. rw q a) (λ n₁. pick tag 2 (λ q. rw q b) (λ n₂. pick tag 3 (λ q. rw q c) (λ n₃. pick tag 4 (λ q. rw q d) (λ n₄.
-    pick tag 5 (λ q. rw q e) (λ n₅. pick tag 6 (λ q. rw q f) (λ n₆. pick tag 7 (λ q. rw q g) (λ n₇. none (n₁, n₂, n₃, n₄, n₅, n₆, n₇))))))))
+    pick tag 5 (λ q. rw q e) (λ n₅. pick tag 6 (λ q. rw q f) (λ n₆. pick tag 7 (λ q. rw q g) (λ n₇.
+    pick tag 8 (λ q. rw q h) (λ n₈. none (n₁, n₂, n₃, n₄, n₅, n₆, n₇, n₈)))))))))
 
-pub known-tag : (tag : ℕ) → 1 ≤ tag → tag ≤ 7 → isTag tags tag ≡ true
+pub known-tag : (tag : ℕ) → 1 ≤ tag → tag ≤ 8 → isTag tags tag ≡ true
 unfolding isTag
 known-tag tag =
-    by-tag (λ t. 1 ≤ t → t ≤ 7 → isTag tags t ≡ true) tag (λ _ _. refl) (λ _ _. refl) (λ _ _. refl) (λ _ _. refl) (λ _ _. refl) (λ _ _. refl) (λ _ _. refl)
-    (λ w l h. absurd (none w l h))
+    by-tag (λ t. 1 ≤ t → t ≤ 8 → isTag tags t ≡ true) tag (λ _ _. refl) (λ _ _. refl) (λ _ _. refl) (λ _ _. refl) (λ _ _. refl) (λ _ _. refl) (λ _ _. refl)
+    (λ _ _. refl) (λ w l h. absurd (none w l h))
   where
     less : (k : ℕ) → tag ≤ suc k → (tag ≡ suc k → ⊥) → tag ≤ k
     less k h n = omega arith
 
-    none : NoTag tag → 1 ≤ tag → tag ≤ 7 → ⊥
-    none (a, b, c, d, e, f, g) l h = let t = less 0 (less 1 (less 2 (less 3 (less 4 (less 5 (less 6 h g) f) e) d) c) b) a in omega arith
+    none : NoTag tag → 1 ≤ tag → tag ≤ 8 → ⊥
+    none (a, b, c, d, e, f, g, i) l h = let t = less 0 (less 1 (less 2 (less 3 (less 4 (less 5 (less 6 (less 7 h i) g) f) e) d) c) b) a in omega arith
 
 -- what a length says that its tag allows
 pub record Sizes (tag n : ℕ) : Type 0 where
-  pub tags-are : (1 ≤ tag) × (tag ≤ 7)
+  pub tags-are : (1 ≤ tag) × (tag ≤ 8)
   pub least : 4 ≤ n
   pub most : n ≤ mostBytes
   pub mark : tag ≡ 1 → n ≡ 4
@@ -104,6 +111,7 @@ pub record Sizes (tag n : ℕ) : Type 0 where
   pub block : tag ≡ 5 → (21 ≤ n) × (isBlock (n - 21) ≡ true)
   pub energy : tag ≡ 6 → n ≡ 9
   pub recharge : tag ≡ 7 → n ≡ 4
+  pub stretches : tag ≡ 8 → n ≡ 6
 
 pub sizes : (tag n : ℕ) → lengthAllowed tags tag n ≡ true → Sizes tag n
 sizes tag n h = record {
@@ -117,6 +125,7 @@ sizes tag n h = record {
   block = block;
   energy = energy;
   recharge = recharge;
+  stretches = stretches;
 }
   where
     row : (k : ℕ) → tag ≡ k → lengthAllowed tags k n ≡ true
@@ -143,7 +152,10 @@ sizes tag n h = record {
     recharge : tag ≡ 7 → n ≡ 4
     recharge e = eqb-true n 4 (sym (of-recharge n) ∙ row 7 e)
 
-    bounds : (1 ≤ tag) × (tag ≤ 7) × (4 ≤ n) × (n ≤ mostBytes)
+    stretches : tag ≡ 8 → n ≡ 6
+    stretches e = eqb-true n 6 (sym (of-stretches n) ∙ row 8 e)
+
+    bounds : (1 ≤ tag) × (tag ≤ 8) × (4 ≤ n) × (n ≤ mostBytes)
     bounds =
         pick tag 1 (λ e. let s = mark e in (omega arith, omega arith, omega arith, omega arith)) (λ a.
         pick tag 2 (λ e. let s = number e in (omega arith, omega arith, omega arith, omega arith)) (λ b.
@@ -152,4 +164,5 @@ sizes tag n h = record {
         pick tag 5 (λ e. let s = block e in let r = block-of _ (s .1) in (omega arith, omega arith, omega arith, omega arith)) (λ f.
         pick tag 6 (λ e. let s = energy e in (omega arith, omega arith, omega arith, omega arith)) (λ g.
         pick tag 7 (λ e. let s = recharge e in (omega arith, omega arith, omega arith, omega arith)) (λ i.
-        absurd (false≢true (sym (no-length tag n (a, b, c, d, f, g, i)) ∙ h)))))))))
+        pick tag 8 (λ e. let s = stretches e in (omega arith, omega arith, omega arith, omega arith)) (λ j.
+        absurd (false≢true (sym (no-length tag n (a, b, c, d, f, g, i, j)) ∙ h))))))))))

@@ -3,19 +3,23 @@
 use mathlib.Core.Bool.{Bool, true, false, not, cond, _&&_}
 use mathlib.Core.List.{List}
 use mathlib.Core.Path.{_≡_}
-use Prim.Native.Nat.{ℕ, _+_, _-_, _*_, _<_}
-use lib.Dec.{leb, ltb}
+use Prim.Native.Nat.{ℕ, zero, suc, _+_, _-_, _*_, _<_}
+use lib.Dec.{leb, ltb, eqb}
 use lib.IntN.{ℤ, pos, negℤ}
 use Rattle.rules.specs.Words.{between}
 use Rattle.rules.specs.declared.End.{End}
 use Rattle.rules.specs.declared.End.the-variants.{None as none, Stop as stop, Limit as limit}
 use Rattle.rules.specs.declared.Moment.{Moment}
 use Rattle.rules.specs.declared.Tolerances.{Tolerances}
+use Rattle.rules.specs.declared.Method.{Method}
+use Rattle.rules.specs.declared.Method.the-variants.{Regular as byCycles, Shortened as withStretches}
 use Rattle.rules.specs.Bench.{mostSpeed, mostDrawn, mostCycles, mostPhases}
 use Rattle.rules.specs.Band.{lo, hi, belowOf}
 use Rattle.rules.specs.Tally as tally
-use Rattle.rules.specs.Course.{Course, stopsAt}
-use Rattle.rules.specs.Shown.{mostEnergy}
+use Rattle.rules.specs.Course.{Course, rowE, stopsAt}
+use Rattle.rules.specs.Regular.{positionOf}
+use Rattle.rules.specs.Shortened.{Stand, ride, beside, stand, isBelow}
+use Rattle.rules.specs.Shown.{mostEnergy, mostStretchEnergy}
 use Rattle.rules.specs.Closing.{mostTransferIn, rate}
 use Rattle.rules.specs.Table.{Row, among, areWhole, byRow}
 
@@ -38,6 +42,20 @@ module _ (b : List ℕ) (t : Tolerances) (p v : ℕ) where
 
 -- ---- a run
 
+-- the ledger's rows and the stretches' two
+abbrev pub mostRows : ℕ
+mostRows = rowE + 1
+
+-- where sample j stands, by the method
+abbrev pub standOf : List ℕ → Method → ℕ → Stand
+standOf b byCycles j = ride j
+standOf b (withStretches x) j = stand b (x .length) j
+
+-- its position there; M and E have none
+abbrev pub placeOf : List ℕ → Stand → ℕ
+placeOf b (ride i) = positionOf b i
+placeOf b (beside c) = 0
+
 -- it has not ended
 abbrev pub isOpen : End → Bool
 isOpen none = true
@@ -48,6 +66,17 @@ isOpen limit = false
 abbrev pub stopped : Course → (ℕ → Moment) → ℕ → Bool
 stopped c s = tally.stopped (stopsAt c s) (c .layout .most)
 
+-- ---- the stop in E, sample by sample: one number, 0 until the set speed is reached there, then one more than the samples below in a row
+
+-- what one more sample does to it: whether it has reached the set speed in E, whether it is below
+abbrev pub watchNext : Bool → Bool → ℕ → ℕ
+watchNext reached below z = cond reached 1 (cond (eqb z 0) 0 (cond below (suc z) 1))
+
+-- after n samples of the speeds v, where E begins with sample e; by its set speed u and the speed tolerance s
+unfoldable pub watch : ℕ → ℕ → ℕ → (ℕ → ℕ) → ℕ → ℕ
+watch e u s v zero = 0
+watch e u s v (suc n) = watchNext (leb e n && leb u (v n)) (isBelow u s (v n)) (watch e u s v n)
+
 -- ---- the closing
 
 -- a transfer energy in the run's unit: field 6's, doubled
@@ -57,9 +86,9 @@ mostTransfer = 2 * mostTransferIn
 abbrev pub isTransfer : ℤ → Bool
 isTransfer = between (negℤ (pos mostTransfer)) (pos mostTransfer)
 
--- the most that the whole energy can be, either way, of a ledger that is in bounds
+-- the most that the whole energy can be, either way, of a ledger and stretches that are in bounds
 abbrev pub mostWhole : ℕ
-mostWhole = mostTransfer + mostCycles * (mostPhases * mostEnergy)
+mostWhole = mostTransfer + (mostCycles * (mostPhases * mostEnergy) + 2 * mostStretchEnergy)
 
 abbrev pub rates : (ℕ → ℕ) → (ℕ → ℕ) → ℕ → ℕ
 rates e d c = rate (e c) (d c)

@@ -1,5 +1,6 @@
 // The closing figures at their limits, worked out in `stdout` from the formulas of documents 01 and 02.
 mod runs;
+mod stretched;
 
 use rules::Amounts;
 use rules::Charge;
@@ -203,4 +204,5 @@ fn small() {
 fn main() {
     large();
     small();
+    stretched::closings();
 }

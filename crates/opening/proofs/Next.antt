@@ -12,11 +12,13 @@ use lib.ListN.{length, take, drop, length-append, length-drop}
 use lib.Seq.{length-take-le, take-append-le, take-all}
 use Rattle.numbers.proofs.Tests.{both, pass}
 use Rattle.rules.specs.declared.Tolerances.{Tolerances}
+use Rattle.rules.specs.declared.Method.the-variants.{Regular as byCycles}
 use Rattle.rules.specs.Bench.{tolerable}
 use Rattle.rules.specs.Cycle.{valid, mostBytes}
+use Rattle.rules.specs.Table.{behindTolerances}
 use Rattle.rules.specs.Values.{isNumber}
-use Rattle.rules.specs.Record.{Bring, nothing, aNumber, aCycle, theTolerances, ownSamples, before, after, charged}
-use Rattle.laws.proofs.Places.{place-is, block-places, recharge-places}
+use Rattle.rules.specs.Record.{Bring, nothing, aNumber, aCycle, theTolerances, theStretches, ownSamples, before, after, charged}
+use Rattle.laws.proofs.Places.{place-is, before-places, block-places, recharge-places}
 use Rattle.laws.proofs.Says.{movesTo, Says}
 use Rattle.laws.proofs.Sound.{sound}
 use Rattle.state.specs.State.{lent}
@@ -39,7 +41,7 @@ take-written room v = take-append-le (length v) v (drop (length v) room) (omega 
 -- what became of an opening o on its room, with ledger and map, by a field that led to y
 pub data Next (o : Opening) (room : List ℕ) (l : List ℤ) (m : List ℕ) (y : Stage) : Type 0 where
   waits : y .place ≡ o .fields + 1 → y .place ≤ 3 → (let r = roomAfter (stageOf o room l m) y room in (stageOf (openingOf y) r l m ≡ y) × Ready (openingOf y) r) → Next o room l m y
-  begins : o .fields ≡ 3 → (t : Tolerances) → startRefusal (take (o .cycle) room) t l m ≡ 0 → bringOn (stageOf o room l m) 4 (theTolerances t) ≡ y → Next o room l m y
+  begins : o .fields ≡ 3 → (t : Tolerances) → startRefusal (take (o .cycle) room) t byCycles l m ≡ 0 → bringOn (stageOf o room l m) 4 (theTolerances t) ≡ y → Next o room l m y
 
 module _ (o : Opening) (room : List ℕ) (l : List ℤ) (m : List ℕ) (h : Ready o room) where
   abbrev x : Stage
@@ -64,8 +66,8 @@ module _ (o : Opening) (room : List ℕ) (l : List ℤ) (m : List ℕ) (h : Read
 
   -- the opening with the number v, on the same room
   with-number : (n : ℕ) (v : List ℕ) → stageOf (record { fields = n; vehicle = v; cycle = length (take (o .cycle) room) }) room l m
-      ≡ record { place = n; passed = 0; vehicle = v; cycle = take (o .cycle) room; tolerances = x .tolerances; amounts = x .amounts; run = x .run }
-  with-number n v = λ i. record { place = n; passed = 0; vehicle = v; cycle = take (size-is i) room; tolerances = x .tolerances; amounts = x .amounts; run = x .run }
+      ≡ record { place = n; passed = 0; vehicle = v; cycle = take (o .cycle) room; tolerances = x .tolerances; method = x .method; amounts = x .amounts; run = x .run }
+  with-number n v = λ i. record { place = n; passed = 0; vehicle = v; cycle = take (size-is i) room; tolerances = x .tolerances; method = x .method; amounts = x .amounts; run = x .run }
 
   ready-number : (n : ℕ) (v : List ℕ) → n ≤ 3 → isNumber v ≡ true → Ready (record { fields = n; vehicle = v; cycle = length (take (o .cycle) room) }) room
   ready-number n v g e = record { few = g; size = omega (arith, size-is, h .size); number = e; room = h .room }
@@ -74,9 +76,9 @@ module _ (o : Opening) (room : List ℕ) (l : List ℤ) (m : List ℕ) (h : Read
       → (let r = roomAfter x y room in (stageOf (openingOf y) r l m ≡ y) × Ready (openingOf y) r)
   on-same y e = subst (λ (r : List ℕ). (stageOf (openingOf y) r l m ≡ y) × Ready (openingOf y) r) (sym (same-room y e))
 
-  granted : (t : Tolerances) → valid (take (o .cycle) room) ≡ true → tolerable t ≡ true → isLong (lent l m) ≡ true → startRefusal (take (o .cycle) room) t l m ≡ 0
+  granted : (t : Tolerances) → valid (take (o .cycle) room) ≡ true → tolerable t ≡ true → isLong (lent l m) ≡ true → startRefusal (take (o .cycle) room) t byCycles l m ≡ 0
   unfolding startRefusal
-  granted t c g e = let (a, b) = both _ _ e in sym (pass 1 a (pass 1 b (pass 2 c (pass 3 g refl))))
+  granted t c g e = let (a, b) = both _ _ e in sym (pass 1 a (pass 1 b (pass 2 c (pass 3 g (pass 19 refl refl)))))
 
   next-brought : (b : Bring) (tag : ℕ) (v : List ℕ) → Says 0 (o .vehicle) (take (o .cycle) room) 0 tag v (o .fields) b → Enough x b → Next o room l m (bringOn x (movesTo b) b)
   next-brought nothing tag v s q =
@@ -92,12 +94,13 @@ module _ (o : Opening) (room : List ℕ) (l : List ℤ) (m : List ℕ) (h : Read
       let y = bringOn x 3 (aCycle w) in
       waits (omega arith) (omega arith)
       (subst (λ (r : List ℕ). (stageOf (openingOf y) r l m ≡ y) × Ready (openingOf y) r) (sym (new-room y (omega arith) (omega arith))) (
-        (λ i. record { place = 3; passed = 0; vehicle = o .vehicle; cycle = take-written room w i; tolerances = x .tolerances; amounts = x .amounts; run = x .run }),
+        (λ i. record { place = 3; passed = 0; vehicle = o .vehicle; cycle = take-written room w i; tolerances = x .tolerances; method = x .method; amounts = x .amounts; run = x .run }),
         record { few = omega arith; size = small; number = h .number; room = omega (arith, length-written room w (omega (arith, h .room)), h .room) },
       ))
   next-brought (theTolerances t) tag v s q = begins (place-is (o .fields) 3 (s .1)) t (granted t (s .3) (s .4) q) refl
+  next-brought (theStretches z) tag v s q = absurd (let p = place-is (o .fields) behindTolerances (s .1) in omega (arith, h .few))
   next-brought (ownSamples xs) tag v s q = absurd (omega (arith, h .few, block-places (o .fields) (s .1) .0))
-  next-brought (before e) tag v s q = absurd (let p = place-is (o .fields) 4 (s .1) in omega (arith, h .few))
+  next-brought (before e) tag v s q = absurd (omega (arith, h .few, before-places (o .fields) (s .1) .0))
   next-brought (after e) tag v s q = absurd (omega (arith, h .few, block-places (o .fields) (s .1) .0))
   next-brought (charged w) tag v s q = absurd (omega (arith, h .few, recharge-places (o .fields) (s .1) .0))
 

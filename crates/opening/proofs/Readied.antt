@@ -3,18 +3,20 @@
 use mathlib.Core.Bool.{Bool, true, false, cond, false≢true}
 use mathlib.Core.List.{List, [], _∷_}
 use mathlib.Core.Path.{_≡_, refl, sym, ap, _∙_}
-use Prim.Native.Nat.{ℕ, _+_, _-_, _≤_}
+use Prim.Native.Nat.{ℕ, _+_, _≤_}
 use native.Mathlib.Omega.{arith}
 use borrow.Author.Tests.{leb-true, le-leb, ne-eqb}
+use lib.Dec.{leb}
 use lib.ListN.{length}
-use Rattle.rules.specs.Words.{allBelow}
+use Rattle.rules.specs.Words.{allBelow, every}
 use Rattle.numbers.proofs.Tests.{pass, both, not-refused}
 use Rattle.rules.specs.Cycle.{mostBytes}
-use Rattle.rules.specs.Table.{number, cycle, begins, byRow, lengthAllowed, among, blockPlaces, tags, RUN1}
+use Rattle.rules.specs.Table.{number, cycle, begins, byRow, lengthAllowed, among, behindTolerances, behindStretches, behindAfter, blockPlaces, tags, RUN1}
 use Rattle.laws.specs.Beside.{mayStand}
 use Rattle.rules.specs.Values.{isNumber}
 use Rattle.laws.specs.Answers.{Said, gives, refuses}
 use Rattle.laws.proofs.Answers.{known-by}
+use Rattle.laws.proofs.Places.{every-among}
 use Rattle.laws.proofs.Tags.{by-tag, no-length}
 use Rattle.state.specs.State.{lent}
 use Rattle.opening.specs.declared.Opening.{Opening}
@@ -81,8 +83,13 @@ module _ (p : ℕ) (few : p ≤ 3) (v : List ℕ) where
   not-at : (k : ℕ) → (p ≡ k → ⊥) → among p (k ∷ []) ≡ false
   not-at k h = rw (ne-eqb p k h)
 
-  no-block : among p blockPlaces ≡ false
-  no-block = rw (ne-eqb p 4 (λ e. omega arith), ne-eqb p 5 (λ e. omega arith), ne-eqb p 6 (λ e. omega arith))
+  -- what stands only after the start does not stand yet
+  not-yet : (ps : List ℕ) → every (leb behindTolerances) ps ≡ true → among p ps ≡ false
+  not-yet ps e = go (among p ps) refl
+    where
+      go : (b : Bool) → among p ps ≡ b → b ≡ false
+      go true q = absurd (let z = leb-true behindTolerances p (every-among (leb behindTolerances) p ps e q) in omega arith)
+      go false q = refl
 
   no-mark : (p ≡ 0 → ⊥) → mayStand tags p 1 v ≡ false
   unfolding byRow
@@ -91,16 +98,13 @@ module _ (p : ℕ) (few : p ≤ 3) (v : List ℕ) where
   no-energy : mayStand tags p 6 v ≡ false
   unfolding byRow
   no-energy =
-      (λ k. cond (begins (0 ∷ []) v) (not-at 4 (λ e. omega arith) k) (cond (begins (1 ∷ []) v) (no-block k) false))
+      (λ k. cond (begins (0 ∷ []) v) (not-yet (behindTolerances ∷ behindStretches ∷ []) refl k) (cond (begins (1 ∷ []) v) (not-yet blockPlaces refl k) false))
       ∙ ap (λ (x : Bool). cond (begins (0 ∷ []) v) false x) (never (begins (1 ∷ []) v)) ∙ never (begins (0 ∷ []) v)
-
-  no-recharge : mayStand tags p 7 v ≡ false
-  unfolding byRow begins allBelow
-  no-recharge = ap (λ (x : Bool). cond x true (among p blockPlaces)) (ne-eqb p 7 (λ e. omega arith)) ∙ no-block
 
   pub out-of-turn : (tag n : ℕ) → lengthAllowed tags tag n ≡ true → (tag ≡ p + 1 → ⊥) → mayStand tags p tag v ≡ false
   unfolding byRow begins allBelow
   out-of-turn tag n =
       by-tag (λ t. lengthAllowed tags t n ≡ true → (t ≡ p + 1 → ⊥) → mayStand tags p t v ≡ false) tag
       (λ _ h. no-mark (λ e. h (omega arith))) (λ _ h. not-at 1 (λ e. h (omega arith))) (λ _ h. not-at 2 (λ e. h (omega arith))) (λ _ h. not-at 3 (λ e. h (omega arith)))
-      (λ _ _. no-block) (λ _ _. no-energy) (λ _ _. no-recharge) (λ w l _. absurd (false≢true (sym (no-length tag n w) ∙ l)))
+      (λ _ _. not-yet blockPlaces refl) (λ _ _. no-energy) (λ _ _. not-yet (behindAfter ∷ blockPlaces) refl) (λ _ _. not-yet (behindTolerances ∷ []) refl)
+      (λ w l _. absurd (false≢true (sym (no-length tag n w) ∙ l)))

@@ -3,7 +3,7 @@
 use mathlib.Core.Bool.{Bool, true, false, cond, _&&_}
 use mathlib.Core.List.{List}
 use mathlib.Core.Path.{_≡_, refl, sym, ap, subst, _∙_}
-use Prim.Native.Nat.{ℕ, _+_, _-_, _≤_}
+use Prim.Native.Nat.{ℕ, _+_, _≤_}
 use native.Mathlib.Omega.{arith}
 use borrow.Author.Tests.{le-leb, lt-leb}
 use lib.Dec.{leb, eqb}
@@ -13,6 +13,7 @@ use lib.Seq.{length-take-le}
 use Rattle.rules.specs.Words.{allBelow, unless, settled}
 use Rattle.numbers.proofs.Tests.{pass, stop, settled-taken, settled-refused, settled-answer}
 use Rattle.rules.specs.declared.Tolerances.{Tolerances}
+use Rattle.rules.specs.declared.Method.the-variants.{Regular as byCycles}
 use Rattle.rules.specs.Bench.{tolerable}
 use Rattle.rules.specs.Cycle.{valid}
 use Rattle.rules.specs.Shown.{ledgerNumbers, mapWords}
@@ -67,11 +68,11 @@ module _ (o : Opening) (room : List ℕ) (l : List ℤ) (m : List ℕ) where
     number-is = startNumber o room l m v
 
     abbrev run : Run
-    run = started (take (o .cycle) room) (tolerancesIn v)
+    run = started (take (o .cycle) room) (tolerancesIn v) byCycles
 
-    module _ (n : ℕ) {t : Tolerances} (e : t ≡ tolerancesIn v) (a : Answer) {c : Memory} (h : record { answer = answerSaid a; memory = c } ≡ startLeft (take (o .cycle) room) t l m) where
-      promise : StartPromise (take (o .cycle) room) (tolerancesIn v) l m a c
-      promise = promised (h ∙ ap (λ (z : Tolerances). startLeft (take (o .cycle) room) z l m) e)
+    module _ (n : ℕ) {t : Tolerances} (e : t ≡ tolerancesIn v) (a : Answer) {c : Memory} (h : record { answer = answerSaid a; memory = c } ≡ startLeft (take (o .cycle) room) t byCycles l m) where
+      promise : StartPromise (take (o .cycle) room) (tolerancesIn v) byCycles l m a c
+      promise = promised (h ∙ ap (λ (z : Tolerances). startLeft (take (o .cycle) room) z byCycles l m) e)
 
       answers : {r : OpenSaid} → r ≡ startOpened o room l m v n .answer → record { answer = r; memory = c } ≡ startOpened o room l m v n
       answers p = λ i. record { answer = p i; memory = promise .in-memory i }

@@ -17,7 +17,8 @@ use Rattle.rules.specs.Record.{noAmounts}
 use Rattle.laws.specs.Answers.{Said, gives, refuses}
 use Rattle.state.specs.declared.Run.{Run}
 use Rattle.state.specs.State.{Memory, lent}
-use Rattle.state.specs.Refusals.{notBegun, started}
+use Rattle.rules.specs.declared.Method.the-variants.{Regular as byCycles}
+use Rattle.state.specs.Refusals.{notBegun, notStretched, started}
 use Rattle.records.specs.Stage.{Stage, takeOn, replyOn, roomAfter}
 use Rattle.opening.specs.declared.OpenStep.{OpenStep}
 use Rattle.opening.specs.declared.OpenStep.the-variants.{Taken, Started, Incomplete, Refused}
@@ -41,8 +42,9 @@ stageOf o room l m = record {
   vehicle = o .vehicle;
   cycle = take (o .cycle) room;
   tolerances = noTolerances;
+  method = byCycles;
   amounts = noAmounts;
-  run = record { progress = notBegun; memory = lent l m };
+  run = record { progress = notBegun; stretched = notStretched; memory = lent l m };
 }
 
 abbrev pub openingOf : Stage → Opening
@@ -75,7 +77,7 @@ openSaid a = record { says = openStepSaid (a .step); opening = a .opening }
 
 -- the run that has started
 abbrev pub runOf : Stage → Run
-runOf x = started (x .cycle) (x .tolerances)
+runOf x = started (x .cycle) (x .tolerances) byCycles
 
 -- a field was taken, of n bytes: the fourth starts the run
 abbrev pub openTaken : Stage → ℕ → Opened

@@ -8,6 +8,7 @@ use Rattle.rules.specs.Words.{unless, settled}
 use Rattle.rules.specs.Cycle.{valid}
 use Rattle.laws.specs.Answers.{gives, refuses}
 use Rattle.state.specs.State.{lent, Left}
+use Rattle.rules.specs.declared.Method.the-variants.{Regular as byCycles}
 use Rattle.state.specs.Refusals.{startRefusal, started}
 use Rattle.step.specs.Step.{startOf}
 use Rattle.rules.specs.Values.{isNumber, tolerancesIn}
@@ -29,7 +30,7 @@ cycleAnswer o v n =
 
 -- the number of the refusal of a start by field 4, 0 where there is none
 abbrev pub startNumber : Opening → List ℕ → List ℤ → List ℕ → List ℕ → ℕ
-startNumber o room l m v = startRefusal (take (o .cycle) room) (tolerancesIn v) l m
+startNumber o room l m v = startRefusal (take (o .cycle) room) (tolerancesIn v) byCycles l m
 
 -- what it leaves, with ledger and map
 abbrev pub startOpened : Opening → List ℕ → List ℤ → List ℕ → List ℕ → ℕ → Left OpenSaid
@@ -39,7 +40,7 @@ startOpened o room l m v n =
       answer =
           settled k
           (record {
-            says = gives (starts n (started (take (o .cycle) room) (tolerancesIn v)));
+            says = gives (starts n (started (take (o .cycle) room) (tolerancesIn v) byCycles));
             opening = record { fields = o .fields + 1; vehicle = o .vehicle; cycle = o .cycle };
           })
           (refusedAt o k);

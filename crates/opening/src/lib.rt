@@ -5,6 +5,7 @@ use fields::is_value;
 use judge::Answer;
 use judge::start;
 use numbers::read16;
+use rules::Method;
 use rules::Tolerances;
 use rules::limits::MOST_BYTES;
 use state::Run;
@@ -179,7 +180,13 @@ fn open_start(
         ⌝ }
 {
     let size = o.cycle;
-    let answer = start(&room[..size], tolerances_of(v), &mut *ledger, &mut *map);
+    let answer = start(
+        &room[..size],
+        tolerances_of(v),
+        Method::Regular,
+        &mut *ledger,
+        &mut *map,
+    );
     match answer {
         Answer::Refused(number) => refused_at(o, number),
         Answer::Taken(run) => OpenAnswer {

@@ -1,18 +1,25 @@
 // The runs that are played, in the order of `played.py`: samples (100, 6000, -120), and fast ones (131, 6000, -240).
+use crate::shortened::shortened_case;
+use rules::Method;
 use rules::Sample;
+use rules::Stretches;
 
 // The bytes of a sample, and of a fast one.
 const GOOD: [u8; 6] = [0, 100, 23, 112, 255, 136];
 
 const FAST: [u8; 6] = [0, 131, 23, 112, 255, 16];
 
-// A run to play: speed tolerance and allowance, the samples offered, those of them that are fast, and two positions to ask for.
+// A run to play: speed tolerance and allowance, the samples offered, those of them that are fast, with one more but for 0, M's length and E's set speed, both 0
+// by the regular method, and two positions to ask for.
 pub struct Case {
     pub speed: u32,
     pub allowance: u32,
     pub offered: u32,
     pub from: u32,
     pub upto: u32,
+    pub again: u32,
+    pub length: u32,
+    pub set: u32,
     pub first: usize,
     pub second: usize,
 }
@@ -25,6 +32,9 @@ fn all_fast(speed: u32, allowance: u32, offered: u32, first: usize, second: usiz
         offered,
         from: 0,
         upto: offered,
+        again: 0,
+        length: 0,
+        set: 0,
         first,
         second,
     }
@@ -32,19 +42,14 @@ fn all_fast(speed: u32, allowance: u32, offered: u32, first: usize, second: usiz
 
 // The same with other fast samples.
 fn fast_in(c: Case, from: u32, upto: u32) -> Case {
-    Case {
-        speed: c.speed,
-        allowance: c.allowance,
-        offered: c.offered,
-        from,
-        upto,
-        first: c.first,
-        second: c.second,
-    }
+    let mut d = c;
+    d.from = from;
+    d.upto = upto;
+    d
 }
 
 // Samples 19 and 20 are on either side of the joint of two phases, samples 39 and 40 of two cycles; sample 2560 is the one after cycle 64.
-pub fn case_of(k: u32) -> Case {
+fn regular_case(k: u32) -> Case {
     match k {
         0 => all_fast(30, 3, 10, 3, 4),
         1 => all_fast(30, 5, 10, 5, 6),
@@ -67,7 +72,36 @@ pub fn case_of(k: u32) -> Case {
     }
 }
 
+pub fn case_of(k: u32) -> Case {
+    if k < 18 {
+        return regular_case(k);
+    }
+    shortened_case(k - 18)
+}
+
+// The method of a run.
+pub fn method_of(c: Case) -> Method {
+    if c.length == 0 {
+        return Method::Regular;
+    }
+    Method::Shortened(Stretches {
+        length: c.length,
+        speed: c.set,
+    })
+}
+
+// One sample more is fast.
+fn is_again(c: Case, i: u64) -> bool {
+    if c.again == 0 {
+        return false;
+    }
+    i == c.again as u64
+}
+
 fn is_fast(c: Case, i: u64) -> bool {
+    if is_again(c, i) {
+        return true;
+    }
     if i < c.from as u64 {
         return false;
     }

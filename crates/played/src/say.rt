@@ -2,6 +2,8 @@
 use judge::ShownAnswer;
 use judge::TotalsAnswer;
 use rules::End;
+use state::Stretch;
+use state::Stretched;
 
 fn lost() {
     edges::tell(b"played: the output was lost\n");
@@ -95,4 +97,17 @@ pub fn row(ledger: &[i64], at: usize) {
     signed(b" ", number_of(ledger, at, 6));
     signed(b" ", number_of(ledger, at, 7));
     signed(b" outside ", number_of(ledger, at, 8));
+}
+
+fn stretch(name: &[u8], x: Stretch) {
+    text(name);
+    signed(b" energy ", x.energy);
+    named(b" distance ", x.distance);
+}
+
+// What a run has of M and E, and how many samples are below in a row.
+pub fn stretched(z: Stretched) {
+    stretch(b", M", z.in_m);
+    stretch(b", E", z.in_e);
+    named(b", watch ", z.watch);
 }

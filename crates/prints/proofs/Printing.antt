@@ -13,7 +13,7 @@ use lib.ListN.{length, length-drop}
 use Rattle.rules.specs.Words.{unless}
 use Rattle.rules.specs.Cycle.{mostBytes}
 use Rattle.rules.specs.Figures.{figuresBy, figuresTold}
-use Rattle.rules.specs.Regular.{plan}
+use Rattle.rules.specs.Plan.{plan}
 use Rattle.rules.specs.Table.{behindTolerances, tags}
 use Rattle.rules.specs.Machine.{End, waiting, broken, stopped, Ran, run}
 use Rattle.rules.specs.Record.{Told, takeField, untold, told, refusedAt, sheetBy, sheetOf}
@@ -21,8 +21,8 @@ use Rattle.rules.specs.Text.{sheetText, refusalText, printed}
 use Rattle.laws.specs.Answers.{refuses, endSaid}
 use Rattle.laws.proofs.Places.{early-or-late}
 use Rattle.laws.proofs.Sheets.{refusal-stays-refused}
-use Rattle.records.specs.Stage.{Stage}
-use Rattle.records.proofs.Joined.{Long, Holds}
+use Rattle.records.specs.Stage.{Stage, planOn}
+use Rattle.records.proofs.Held.{Long, Holds}
 use Rattle.reader.specs.Answers.{mayEnd, endingOf}
 use Rattle.reading.specs.declared.Reading.{Reading}
 use Rattle.reading.specs.Answers.{startedReading, readingOf}
@@ -93,8 +93,8 @@ module _ (lent : Lent) where
     figures-are e =
         let t = lists w .state in
         ap (λ (x : Laid). figuresOf (x .desk .reading) (x .memory .ledger)) (after-late room l m long w e)
-        ∙ figures-of-run (plan (u .cycle) (u .tolerances)) l m reading (holds .reached e)
-        ∙ (λ j. figuresBy (sym (holds .vehicle) j) (sym (holds .passed) j) (sym (holds .amounts) j) (plan (sym (holds .cycle) j) (sym (holds .tolerances) j)) (t .holding .samples))
+        ∙ figures-of-run (planOn u) l m reading (holds .reached e)
+        ∙ (λ j. figuresBy (sym (holds .vehicle) j) (sym (holds .passed) j) (sym (holds .amounts) j) (plan (sym (holds .cycle) j) (sym (holds .tolerances) j) (sym (holds .method) j)) (t .holding .samples))
 
     -- by whether the run has started, and whether bytes are left
     abbrev left : ℕ

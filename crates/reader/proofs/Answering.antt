@@ -1,26 +1,26 @@
 -- `read` and `read_all` on a reading with its lent memory: what the tests before a field say, and what is answered after them.
 -- Assumes nothing.
-use mathlib.Core.Bool.{true, _&&_}
+use mathlib.Core.Bool.{true}
 use mathlib.Core.List.{List}
 use mathlib.Core.Path.{_≡_, sym, ap, subst⁻¹, _∙_}
 use Prim.Native.Nat.{ℕ, _≤_}
 use native.Mathlib.Omega.{arith}
-use lib.Dec.{leb}
 use lib.IntN.{ℤ}
 use lib.ListN.{length}
-use Rattle.numbers.proofs.Tests.{both, not-refused, settled-taken, settled-answer}
-use Rattle.rules.specs.Bench.{mostPassed, mostTimeTolerance}
-use Rattle.values.specs.Limits.{areAmounts}
-use Rattle.rules.specs.Cycle.{valid, seconds}
+use Rattle.numbers.proofs.Tests.{not-refused, settled-taken, settled-answer}
+use Rattle.rules.specs.Bench.{mostTimeTolerance}
+use Rattle.rules.specs.Cycle.{valid}
 use Rattle.rules.specs.declared.Tolerances.{Tolerances}
 use Rattle.laws.specs.Answers.{refuses}
 use Rattle.state.specs.State.{Left, left}
 use Rattle.state.proofs.Checked.{Ground, ground-passed}
 use Rattle.judge.proofs.Calls.{kept-ground}
-use Rattle.rules.specs.Values.{isNumber}
 use Rattle.reading.specs.declared.Along.{Along}
 use Rattle.reading.specs.declared.Reading.{Reading}
-use Rattle.reading.specs.Answers.{ReadSaid, AllSaid, readingPlan, isReading, readGround}
+use Rattle.reading.specs.Answers.{ReadSaid, AllSaid, isReading, readGround}
+use Rattle.reading.proofs.Tested.{OwnLimits, own-limits}
+use Rattle.rules.specs.Plan.{plan}
+use Rattle.values.specs.Limits.{isMethod}
 use Rattle.reading.specs.Along.{alongAt, withAlong, frontTaken, allTaken, Ready}
 use Rattle.reader.specs.Answers.{readLeft, allLeft}
 
@@ -41,18 +41,18 @@ module _ (r : Reading) (b : List ℕ) (l : List ℤ) (m : List ℕ) where
     unfolding readGround
     grounded = ground-passed (not-refused 0 _ _ e .1)
 
-    valid-number : isNumber (r .vehicle) ≡ true
-    unfolding readGround isReading
-    valid-number = both (leb (r .place) 4 && leb (r .passed) mostPassed && areAmounts (r .amounts)) _ (not-refused 0 (isReading r) _ e .0) .1
+    own : OwnLimits r
+    unfolding readGround
+    own = own-limits r (not-refused 0 (isReading r) _ e .0)
 
-    pub along-asked : (valid b ≡ true) × (seconds b ≡ r .run .track .seconds) × (t .time ≤ mostTimeTolerance)
-    along-asked = (grounded .sound, grounded .same-seconds, grounded .limits .tolerated .time)
+    pub along-asked : (valid b ≡ true) × (t .time ≤ mostTimeTolerance) × (isMethod (r .run .track .method) ≡ true)
+    along-asked = (grounded .sound, grounded .limits .tolerated .time, grounded .limits .method)
 
     module _ {k : Along} (p : k ≡ alongAt r b) where
-      pub ready-at : length (r .vehicle) ≡ 17 → Ready (r .vehicle) (readingPlan r b) (left k l m)
+      pub ready-at : length (r .vehicle) ≡ 17 → Ready (r .vehicle) (plan b t (k .method)) (left k l m)
       ready-at h =
-          subst⁻¹ (λ (y : Along). Ready (r .vehicle) (readingPlan r b) (left y l m)) p
-          (record { number = omega arith; valid = valid-number; kept = kept-ground (r .run) b l m grounded; few = grounded .limits .offered })
+          subst⁻¹ (λ (y : Along). Ready (r .vehicle) (plan b t (y .method)) (left y l m)) p
+          (record { number = omega arith; valid = own .number; kept = kept-ground (r .run) b l m grounded; few = grounded .limits .offered; fresh = own .fresh })
 
       -- what is read from k on is what the call reads
       module _ (i : List ℕ) {y : Reading} where

@@ -10,7 +10,7 @@ use Rattle.laws.specs.Answers.{Said, gives, refuses}
 use Rattle.laws.proofs.Answers.{known-by}
 use Rattle.reading.specs.declared.Reading.{Reading}
 use Rattle.reading.specs.Answers.{ReadSaid, AllSaid}
-use Rattle.reading.proofs.Taking.{same-step}
+use Rattle.reading.proofs.Answered.{same-step}
 use Rattle.reader.specs.declared.AllAnswer.{AllAnswer}
 use Rattle.reader.specs.declared.Ending.{Ending}
 use Rattle.reader.specs.declared.Ending.the-variants.{Whole, Refused}

@@ -9,7 +9,7 @@ use lib.ListN.{length, take, drop, length-drop}
 use lib.Seq.{drop-drop, drop-length}
 use Rattle.numbers.proofs.Lists.{part-rest}
 use Rattle.rules.specs.declared.Tolerances.{Tolerances}
-use Rattle.rules.specs.Regular.{Plan, plan}
+use Rattle.rules.specs.Plan.{plan}
 use Rattle.rules.specs.Table.{behindTolerances, tags}
 use Rattle.rules.specs.Machine.{taken, passed, refused, Reply, toField, notYet, noField, End, waiting, broken, stopped, Ran, on, off, moveOf, moveAt, ends, onwards}
 use Rattle.laws.proofs.Cuts.{first-then, first-ends}
@@ -17,7 +17,7 @@ use Rattle.laws.proofs.Moves.{move-size}
 use Rattle.laws.proofs.Prefixes.{no-bytes}
 use Rattle.state.specs.State.{Left, left}
 use Rattle.step.specs.declared.Going.{Going}
-use Rattle.step.specs.Step.{Kept, standing}
+use Rattle.step.specs.Where.{Kept, standing, taking}
 use Rattle.records.specs.Stage.{Stage, takeOn, replyOn, runOn, stageAfter}
 use Rattle.records.proofs.Later.{Later, later-move}
 use Rattle.laws.specs.Answers.{Said, gives, endSaid}
@@ -63,20 +63,24 @@ abbrev passage : Left Along → ℕ → ℕ → Said FieldRead → Left (AllSaid
 passage y f u s = record { answer = record { state = y .answer; fields = f; used = u; last = s }; memory = y .memory }
 
 module _ (me b : List ℕ) (t : Tolerances) where
-  abbrev p : Plan
-  p = plan b t
+  -- what holds while fields are taken, by the method that the run has then
+  abbrev ReadyAt : Left Along → Type 0
+  ReadyAt y = Ready me (plan b t (y .answer .method)) y
 
   abbrev stage : Left Along → Stage
   stage y = stageAlong me b t (y .answer) (y .memory .ledger) (y .memory .map)
 
-  later : (y : Left Along) → Ready me p y → Later me b t (stage y)
+  later : (y : Left Along) → ReadyAt y → Later me b t (stage y)
   later y h = record {
     late = omega arith;
     vehicle = refl;
     cycle = refl;
     tolerances = refl;
-    kept = subst (λ (g : Going). Kept p (left g (y .memory .ledger) (y .memory .map))) (h .kept .stands) (h .kept);
+    kept =
+        subst (λ (g : Going). Kept (plan b t (y .answer .method)) (left (taking g (y .answer .taken .stretched)) (y .memory .ledger) (y .memory .map))) (h .kept .stands)
+        (h .kept);
     few = h .few;
+    fresh = λ e. h .fresh (omega arith);
   }
 
   -- a state after the start is what the code keeps of it
@@ -84,32 +88,33 @@ module _ (me b : List ℕ) (t : Tolerances) where
     stage-again : stage (alongLeft z) ≡ z
     stage-again =
         let place-is : behindTolerances + (z .place - behindTolerances) ≡ z .place = omega (arith, h .late) in
-        λ i. record { place = place-is i; passed = z .passed; vehicle = sym (h .vehicle) i; cycle = sym (h .cycle) i; tolerances = sym (h .tolerances) i; amounts = z .amounts; run = z .run }
+        λ i. record { place = place-is i; passed = z .passed; vehicle = sym (h .vehicle) i; cycle = sym (h .cycle) i; tolerances = sym (h .tolerances) i; method = z .method; amounts = z .amounts; run = z .run }
 
-    ready-again : {y : Left Along} → Ready me p y → Ready me p (alongLeft z)
+    ready-again : {y : Left Along} → ReadyAt y → ReadyAt (alongLeft z)
     ready-again r = record {
       number = r .number;
       valid = r .valid;
-      kept = subst (λ (g : Going). Kept p (left g (z .run .memory .ledger) (z .run .memory .map)))
-          (λ i. standing (sym (h .cycle) i) (sym (h .tolerances) i .time) (z .run .progress)) (h .kept);
+      kept = subst (λ (g : Going). Kept (plan b t (z .method)) (left (taking g (z .run .stretched)) (z .run .memory .ledger) (z .run .memory .map)))
+          (λ i. standing (sym (h .cycle) i) (sym (h .tolerances) i .time) (z .method) (z .run .progress)) (h .kept);
       few = h .few;
+      fresh = λ e. h .fresh (omega (arith, h .late));
     }
 
   -- ---- from y₀ on, f fields of the first u bytes are taken: what y has to read of the rest is what is left to read
   pub record Past (y₀ : Left Along) (input : List ℕ) (f u : ℕ) (y : Left Along) : Type 0 where
     pub within : u ≤ length input
     pub fewer : f ≤ u
-    pub ready : Ready me p y
+    pub ready : ReadyAt y
     pub rest : runOn (stage y₀) input ≡ behind f u (runOn (stage y) (drop u input))
 
-  pub past-none : (y : Left Along) (input : List ℕ) → Ready me p y → Past y input 0 0 y
+  pub past-none : (y : Left Along) (input : List ℕ) → ReadyAt y → Past y input 0 0 y
   past-none y input h = record { within = zero-le; fewer = zero-le; ready = h; rest = λ i. let z = runOn (stage y) input in record { state = z .state; fields = none (z .fields) i; used = none (z .used) i; end = z .end } }
     where
       none : (n : ℕ) → n ≡ 0 + n
       none n = omega arith
 
   -- all is read
-  ended : (y : Left Along) (f u : ℕ) (e : End) {w : Ran Stage} → Ready me p y → w ≡ behind f u (ends (stage y) e) → passage y f u (endSaid unfinished e) ≡ passageLeft w
+  ended : (y : Left Along) (f u : ℕ) (e : End) {w : Ran Stage} → ReadyAt y → w ≡ behind f u (ends (stage y) e) → passage y f u (endSaid unfinished e) ≡ passageLeft w
   ended y f u e h d =
       (λ j. passage (record { answer = along-is me b t (y .answer) (y .memory .ledger) (y .memory .map) (h .kept) j; memory = y .memory }) (sym (add-zero f) j) (sym (add-zero u) j) (endSaid unfinished e))
       ∙ ap passageLeft (sym d)
@@ -156,7 +161,7 @@ module _ (me b : List ℕ) (t : Tolerances) where
             record {
               within = high;
               fewer = omega (arith, h .fewer);
-              ready = subst (λ (v : Left (ReadSaid Along)). Ready me p (next v)) here (ready-again z next-later (h .ready));
+              ready = subst (λ (v : Left (ReadSaid Along)). ReadyAt (next v)) here (ready-again z next-later (h .ready));
               rest =
                   h .rest
                   ∙ ap (behind f u) (first-then tags takeOn (stage y) i z n goes)

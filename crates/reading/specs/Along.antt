@@ -8,8 +8,10 @@ use lib.IntN.{ℤ}
 use lib.ListN.{length}
 use Rattle.rules.specs.declared.Amounts.{Amounts}
 use Rattle.rules.specs.declared.Tolerances.{Tolerances}
-use Rattle.rules.specs.Bench.{mostOffered, mostPassed}
-use Rattle.rules.specs.Regular.{Plan}
+use Rattle.rules.specs.declared.Stretches.{Stretches}
+use Rattle.rules.specs.declared.Method.the-variants.{Shortened}
+use Rattle.rules.specs.Bench.{mostOffered, mostPassed, areStretches}
+use Rattle.rules.specs.Plan.{Plan}
 use Rattle.rules.specs.Table.{behindTolerances}
 use Rattle.rules.specs.Front.{Field}
 use Rattle.rules.specs.Front as front
@@ -17,12 +19,14 @@ use Rattle.rules.specs.Machine.{Reply, toField, Ran}
 use Rattle.rules.specs.Values.{isNumber, samplesOf, countIn, areSamples}
 use Rattle.rules.specs.Record.{answerBy}
 use Rattle.state.specs.State.{Left, left}
-use Rattle.step.specs.Step.{Kept, withMemory, standing, withProgress}
-use Rattle.records.specs.Stage.{Stage, bringOn, passOn, takeOn, replyOn, runOn, stageAfter}
+use Rattle.state.specs.Refusals.{withMethod}
+use Rattle.step.specs.Step.{runTo}
+use Rattle.step.specs.Where.{Kept, withMemory, standing, taking, takenAt}
+use Rattle.records.specs.Stage.{Stage, planOn, bringOn, passOn, takeOn, replyOn, runOn, stageAfter}
 use Rattle.contents.specs.declared.Content.{Content}
 use Rattle.contents.specs.declared.Content.the-variants.{Brought, Foreign, Refused}
 use Rattle.contents.specs.declared.Bring.{Bring}
-use Rattle.contents.specs.declared.Bring.the-variants.{Samples, Before, After, Recharge}
+use Rattle.contents.specs.declared.Bring.the-variants.{Stretch, Samples, Before, After, Recharge}
 use Rattle.contents.specs.Content.{bringSaid, contentSaid}
 use Rattle.reading.specs.declared.Reading.{Reading}
 use Rattle.laws.specs.Answers.{endSaid}
@@ -33,10 +37,22 @@ pub use Rattle.reading.specs.declared.Passage.{Passage}
 
 -- where a reading of the cycle b stands, and the reading taken on to where it stands now
 abbrev pub alongAt : Reading → List ℕ → Along
-alongAt r b = record { place = r .place; passed = r .passed; amounts = r .amounts; going = standing b (r .run .track .tolerances .time) (r .run .progress) }
+alongAt r b = record {
+  place = r .place;
+  passed = r .passed;
+  amounts = r .amounts;
+  method = r .run .track .method;
+  taken = taking (standing b (r .run .track .tolerances .time) (r .run .track .method) (r .run .progress)) (r .run .stretched);
+}
 
 abbrev pub withAlong : Reading → Along → Reading
-withAlong r k = record { vehicle = r .vehicle; place = k .place; passed = k .passed; amounts = k .amounts; run = withProgress (r .run) (k .going .progress) }
+withAlong r k = record {
+  vehicle = r .vehicle;
+  place = k .place;
+  passed = k .passed;
+  amounts = k .amounts;
+  run = runTo (withMethod (r .run) (k .method)) (k .taken .going .progress) (k .taken .stretched);
+}
 
 -- as what has been read of the vehicle me, on the cycle b and the memory l and m; and back
 abbrev pub stageAlong : List ℕ → List ℕ → Tolerances → Along → List ℤ → List ℕ → Stage
@@ -46,8 +62,9 @@ stageAlong me b t k l m = record {
   vehicle = me;
   cycle = b;
   tolerances = t;
+  method = k .method;
   amounts = k .amounts;
-  run = withMemory (k .going) l m;
+  run = withMemory (k .taken) l m;
 }
 
 abbrev pub alongOf : Stage → Along
@@ -55,7 +72,8 @@ alongOf x = record {
   place = x .place - behindTolerances;
   passed = x .passed;
   amounts = x .amounts;
-  going = standing (x .cycle) (x .tolerances .time) (x .run .progress);
+  method = x .method;
+  taken = takenAt (planOn x) (x .run);
 }
 
 -- what the answers say
@@ -80,17 +98,22 @@ passageLeft y = record {
 
 -- a block is passed over; an amount is brought, and moves the place in the order
 abbrev pub withPassed : Along → Along
-withPassed k = record { place = k .place; passed = k .passed + 1; amounts = k .amounts; going = k .going }
+withPassed k = record { place = k .place; passed = k .passed + 1; amounts = k .amounts; method = k .method; taken = k .taken }
 
 abbrev pub withAmounts : Along → ℕ → Amounts → Along
-withAmounts k place a = record { place = place; passed = k .passed; amounts = a; going = k .going }
+withAmounts k place a = record { place = place; passed = k .passed; amounts = a; method = k .method; taken = k .taken }
+
+-- stretches are brought, behind the tolerances
+abbrev pub withStretches : Along → Stretches → Along
+withStretches k x = record { place = 1; passed = k .passed; amounts = k .amounts; method = Shortened x; taken = k .taken }
 
 -- the place to which each moves, counted from the start
 abbrev pub placeOf : Bring → ℕ
-placeOf Samples = 2
-placeOf (Before e) = 1
-placeOf (After e) = 3
-placeOf (Recharge w) = 4
+placeOf (Stretch x) = 1
+placeOf Samples = 3
+placeOf (Before e) = 2
+placeOf (After e) = 4
+placeOf (Recharge w) = 5
 
 abbrev pub placeBy : Content → ℕ
 placeBy (Brought b) = placeOf b
@@ -122,14 +145,16 @@ module _ (b : List ℕ) (t : Tolerances) (k : Along) (l : List ℤ) (m : List �
 
 -- what a value v brings may be taken
 pub record Brings (p : Plan) (y : Left Along) (v : List ℕ) (b : Bring) : Type 0 where
-  pub kept : Kept p (left (y .answer .going) (y .memory .ledger) (y .memory .map))
+  pub kept : Kept p (left (y .answer .taken) (y .memory .ledger) (y .memory .map))
+  pub fresh : (x : Stretches) → b ≡ Stretch x → y .answer .taken .going .progress .counted ≡ 0
+  pub fits : (x : Stretches) → b ≡ Stretch x → areStretches x ≡ true
   pub long : b ≡ Samples → 21 ≤ length v
-  pub room : b ≡ Samples → y .answer .going .progress .offered + countIn (samplesOf v) ≤ mostOffered
+  pub room : b ≡ Samples → y .answer .taken .going .progress .offered + countIn (samplesOf v) ≤ mostOffered
   pub samples : b ≡ Samples → areSamples (samplesOf v) (countIn (samplesOf v)) ≡ true
 
 -- and the content of a field with it
 pub record Takes (p : Plan) (y : Left Along) (v : List ℕ) (c : Content) : Type 0 where
-  pub kept : Kept p (left (y .answer .going) (y .memory .ledger) (y .memory .map))
+  pub kept : Kept p (left (y .answer .taken) (y .memory .ledger) (y .memory .map))
   pub brings : (b : Bring) → c ≡ Brought b → Brings p y v b
   pub count : c ≡ Foreign → y .answer .passed + 1 ≤ mostPassed
 
@@ -137,5 +162,6 @@ pub record Takes (p : Plan) (y : Left Along) (v : List ℕ) (c : Content) : Type
 pub record Ready (me : List ℕ) (p : Plan) (y : Left Along) : Type 0 where
   pub number : 17 ≤ length me
   pub valid : isNumber me ≡ true
-  pub kept : Kept p (left (y .answer .going) (y .memory .ledger) (y .memory .map))
-  pub few : y .answer .going .progress .offered ≤ mostOffered
+  pub kept : Kept p (left (y .answer .taken) (y .memory .ledger) (y .memory .map))
+  pub few : y .answer .taken .going .progress .offered ≤ mostOffered
+  pub fresh : y .answer .place ≤ 2 → y .answer .taken .going .progress .offered ≡ 0

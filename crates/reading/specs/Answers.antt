@@ -1,14 +1,13 @@
 -- A reading on its lent memory: what is tested before all else, and its answers by the machine over the record's state.
 -- Assumes nothing.
-use mathlib.Core.Bool.{Bool, _&&_}
+use mathlib.Core.Bool.{Bool, true, cond, _&&_}
 use mathlib.Core.List.{List}
 use Prim.Native.Nat.{ℕ, _+_, _-_}
-use lib.Dec.{leb}
+use lib.Dec.{leb, eqb}
 use lib.IntN.{ℤ}
 use Rattle.rules.specs.Words.{unless}
 use Rattle.rules.specs.Bench.{mostPassed}
 use Rattle.values.specs.Limits.{areAmounts}
-use Rattle.rules.specs.Regular.{Plan, plan}
 use Rattle.rules.specs.Table.{behindTolerances}
 use Rattle.rules.specs.Machine.{Reply, toField, notYet, noField, taken, passed, refused}
 use Rattle.rules.specs.Values.{isNumber}
@@ -16,7 +15,8 @@ use Rattle.rules.specs.Record.{noAmounts}
 use Rattle.laws.specs.Answers.{Said, gives, refuses}
 use Rattle.state.specs.declared.Run.{Run}
 use Rattle.state.specs.State.{ground}
-use Rattle.step.specs.Step.{stateOf, withProgress}
+use Rattle.state.specs.Refusals.{withMethod}
+use Rattle.step.specs.Step.{stateOf, runTo}
 use Rattle.records.specs.Stage.{Stage}
 pub use Rattle.reading.specs.declared.Step.{Step}
 use Rattle.reading.specs.declared.Step.the-variants.{Taken, Passed, Incomplete, Refused}
@@ -36,6 +36,7 @@ stageAt r b l m = record {
   vehicle = r .vehicle;
   cycle = b;
   tolerances = r .run .track .tolerances;
+  method = r .run .track .method;
   amounts = r .amounts;
   run = stateOf (r .run) l m;
 }
@@ -46,12 +47,8 @@ readingOf r x = record {
   place = x .place - behindTolerances;
   passed = x .passed;
   amounts = x .amounts;
-  run = withProgress (r .run) (x .run .progress);
+  run = runTo (withMethod (r .run) (x .method)) (x .run .progress) (x .run .stretched);
 }
-
--- the plan of its run, on the cycle b
-abbrev pub readingPlan : Reading → List ℕ → Plan
-readingPlan r b = plan b (r .run .track .tolerances)
 
 -- ---- what the answers say
 
@@ -96,9 +93,18 @@ pub record AllSaid (S : Type 0) : Type 0 where
 
 -- ---- before all else
 
+-- before an own block no sample is offered
+abbrev pub isFresh : ℕ → ℕ → Bool
+isFresh place offered = cond (leb place 2) (eqb offered 0) true
+
 -- no number of the reader's own is beyond its limits (the run's are tested with its memory)
 unfoldable pub isReading : Reading → Bool
-isReading r = leb (r .place) 4 && leb (r .passed) mostPassed && areAmounts (r .amounts) && isNumber (r .vehicle)
+isReading r =
+    leb (r .place) 5
+    && isFresh (r .place) (r .run .progress .offered)
+    && leb (r .passed) mostPassed
+    && areAmounts (r .amounts)
+    && isNumber (r .vehicle)
 
 -- "In a started run 1 and 2 come before all others"
 unfoldable pub readGround : Reading → List ℕ → List ℤ → List ℕ → ℕ

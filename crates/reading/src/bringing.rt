@@ -7,13 +7,15 @@ use contents::Bring;
 use contents::Content;
 use rules::Amounts;
 use rules::Charge;
+use rules::Method;
+use rules::Stretches;
 use rules::Tolerances;
 ghost use mathlib.Core.Path.{_≡_};
 ghost use Prim.Native.Nat.{_+_, _≤_};
 ghost use Rattle.rules.specs.Bench.{mostPassed};
-ghost use Rattle.rules.specs.Regular.{plan};
+ghost use Rattle.rules.specs.Plan.{plan};
 ghost use Rattle.state.specs.State.{left};
-ghost use Rattle.reading.specs.Along.{steppedSaid, withPassed, withAmounts, bringTaken, contentTaken, Brings, Takes};
+ghost use Rattle.reading.specs.Along.{steppedSaid, withPassed, withAmounts, withStretches, bringTaken, contentTaken, Brings, Takes};
 
 // "only the passed-over count rises".
 fn with_passed(k: Along) -> Along
@@ -21,12 +23,14 @@ fn with_passed(k: Along) -> Along
     ensures { λ r. ⌜ r ≡ withPassed k ⌝ }
 {
     let amounts = k.amounts;
-    let going = k.going;
+    let method = k.method;
+    let taken = k.taken;
     Along {
         place: k.place,
         passed: k.passed + 1,
         amounts,
-        going,
+        method,
+        taken,
     }
 }
 
@@ -34,7 +38,8 @@ fn with_passed(k: Along) -> Along
 fn with_amounts(k: Along, place: u32, before: i64, after: i64, charge: Charge) -> Along
     ensures { λ r. ⌜ r ≡ withAmounts k place (record { before = before; after = after; charge = charge }) ⌝ }
 {
-    let going = k.going;
+    let method = k.method;
+    let taken = k.taken;
     Along {
         place,
         passed: k.passed,
@@ -43,7 +48,23 @@ fn with_amounts(k: Along, place: u32, before: i64, after: i64, charge: Charge) -
             after,
             charge,
         },
-        going,
+        method,
+        taken,
+    }
+}
+
+// Stretches are brought, behind the tolerances: the run goes by the shortened method.
+fn with_stretches(k: Along, x: Stretches) -> Along
+    ensures { λ r. ⌜ r ≡ withStretches k x ⌝ }
+{
+    let amounts = k.amounts;
+    let taken = k.taken;
+    Along {
+        place: 1,
+        passed: k.passed,
+        amounts,
+        method: Method::Shortened(x),
+        taken,
     }
 }
 
@@ -57,25 +78,28 @@ fn bring(
     v: &[u8],
     b: Bring,
 ) -> Along
-    requires { ⌜ Brings (plan (now cycle) t) (left k (now ledger) (now map)) (now v) b ⌝ }
+    requires { ⌜ Brings (plan (now cycle) t (k .method)) (left k (now ledger) (now map)) (now v) b ⌝ }
     ensures { λ r. ⌜
         left r (now (ledger .exit)) (now (map .exit))
         ≡ bringTaken (now (cycle .entry)) t k (now (ledger .entry)) (now (map .entry)) (now (v .entry)) b
         ⌝ }
 {
-    let going = k.going;
+    let taken = k.taken;
+    let method = k.method;
     let amounts = k.amounts;
     let charge = amounts.charge;
     match b {
+        Bring::Stretch(x) => with_stretches(k, x),
         Bring::Samples => Along {
-            place: 2,
+            place: 3,
             passed: k.passed,
             amounts,
-            going: take_block(cycle, t, going, &mut *ledger, &mut *map, &v[21..]),
+            method,
+            taken: take_block(cycle, t, method, taken, &mut *ledger, &mut *map, &v[21..]),
         },
-        Bring::Before(energy) => with_amounts(k, 1, energy, amounts.after, charge),
-        Bring::After(energy) => with_amounts(k, 3, amounts.before, energy, charge),
-        Bring::Recharge(wh) => { with_amounts(k, 4, amounts.before, amounts.after, Charge::Wh(wh)) }
+        Bring::Before(energy) => with_amounts(k, 2, energy, amounts.after, charge),
+        Bring::After(energy) => with_amounts(k, 4, amounts.before, energy, charge),
+        Bring::Recharge(wh) => { with_amounts(k, 5, amounts.before, amounts.after, Charge::Wh(wh)) }
     }
 }
 
@@ -90,7 +114,7 @@ pub fn take_content(
     c: Content,
     n: usize,
 ) -> Stepped
-    requires { ⌜ Takes (plan (now cycle) t) (left k (now ledger) (now map)) (now v) c ⌝ }
+    requires { ⌜ Takes (plan (now cycle) t (k .method)) (left k (now ledger) (now map)) (now v) c ⌝ }
     ensures { λ r. ⌜
         left (steppedSaid r) (now (ledger .exit)) (now (map .exit))
         ≡ contentTaken (now (cycle .entry)) t k (now (ledger .entry)) (now (map .entry)) (now (v .entry)) c n

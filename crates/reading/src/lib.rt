@@ -1,33 +1,35 @@
 // Fields after the start: the tests before them, one field, and all of an input.
 mod bringing;
+mod own;
 
 use bringing::take_content;
 use contents::content_of;
 use fields::Front;
 use fields::front_of;
-use fields::is_number;
+use own::is_reading;
 use rules::Amounts;
+use rules::Method;
 use rules::Tolerances;
-use rules::limits::MOST_PASSED;
 use state::Run;
 use state::ground_refusal;
-use step::Going;
+use state::with_method;
+use step::Taken;
 use step::going_at;
-use step::with_going;
-use values::are_amounts;
+use step::with_taken;
 ghost use mathlib.Core.Path.{_≡_};
 ghost use mathlib.Core.Bool.{true};
 ghost use Prim.Native.Nat.{_≤_};
 ghost use lib.ListN.{length};
-ghost use Rattle.rules.specs.Cycle.{valid, seconds};
+ghost use Rattle.rules.specs.Cycle.{valid};
 ghost use Rattle.rules.specs.Bench.{mostTimeTolerance};
 ghost use Rattle.rules.specs.Table.{lengthAllowed, tags};
-ghost use Rattle.reading.specs.Answers.{stepSaid, bytesOf, isReading, readGround};
-ghost use Rattle.rules.specs.Regular.{plan};
+ghost use Rattle.reading.specs.Answers.{stepSaid, bytesOf, readGround};
+ghost use Rattle.rules.specs.Plan.{plan};
+ghost use Rattle.values.specs.Limits.{isMethod};
 ghost use Rattle.state.specs.State.{left};
 ghost use Rattle.reading.specs.Along.{alongAt, steppedSaid, passageSaid, withAlong, wholeTaken, frontTaken, allTaken, Ready};
 
-// After the start. Place in the order: 0 after the tolerances, 1 after a 6 before, 2 after an own block, 3 after a 6 after, 4 after a 7.
+// After the start. Place in the order: 0 after the tolerances, 1 after a field 8, 2 after a 6 before, 3 after an own block, 4 after a 6 after, 5 after a 7.
 pub struct Reading {
     pub vehicle: [u8; 17],
     pub place: u32,
@@ -49,7 +51,8 @@ pub struct Along {
     pub place: u32,
     pub passed: u32,
     pub amounts: Amounts,
-    pub going: Going,
+    pub method: Method,
+    pub taken: Taken,
 }
 
 // The answer to a field, and the reading with it.
@@ -66,24 +69,6 @@ pub struct Passage {
     pub last: Step,
 }
 
-// Whether no number of the reader's own is beyond its limits.
-fn is_reading(r: Reading) -> bool
-    ensures { λ x. ⌜ x ≡ isReading r ⌝ }
-{
-    if 4 < r.place {
-        return false;
-    }
-    if MOST_PASSED < r.passed {
-        return false;
-    }
-    let amounts = r.amounts;
-    if !are_amounts(amounts) {
-        return false;
-    }
-    let vehicle = r.vehicle;
-    is_number(&vehicle[..])
-}
-
 // 1 or 2, or 0 where a field may be looked at.
 pub fn read_refusal(r: Reading, cycle: &[u8], ledger: &[i64], map: &[u64]) -> u32
     ensures { λ x. ⌜ x ≡ readGround r (now (cycle .entry)) (now (ledger .entry)) (now (map .entry)) ⌝ }
@@ -98,17 +83,24 @@ pub fn read_refusal(r: Reading, cycle: &[u8], ledger: &[i64], map: &[u64]) -> u3
 // Where the reading stands.
 pub fn along_at(r: Reading, cycle: &[u8]) -> Along
     requires { ⌜
-        (valid (now cycle) ≡ true) × (seconds (now cycle) ≡ r .run .track .seconds) × (r .run .track .tolerances .time ≤ mostTimeTolerance)
+        (valid (now cycle) ≡ true)
+        × (r .run .track .tolerances .time ≤ mostTimeTolerance)
+        × (isMethod (r .run .track .method) ≡ true)
         ⌝ }
     ensures { λ x. ⌜ x ≡ alongAt r (now (cycle .entry)) ⌝ }
 {
     let run = r.run;
+    let track = run.track;
+    let method = track.method;
     let amounts = r.amounts;
+    let stretched = run.stretched;
+    let going = going_at(cycle, run);
     Along {
         place: r.place,
         passed: r.passed,
         amounts,
-        going: going_at(cycle, run),
+        method,
+        taken: Taken { going, stretched },
     }
 }
 
@@ -119,13 +111,14 @@ pub fn with_along(r: Reading, k: Along) -> Reading
     let vehicle = r.vehicle;
     let run = r.run;
     let amounts = k.amounts;
-    let going = k.going;
+    let method = k.method;
+    let taken = k.taken;
     Reading {
         vehicle,
         place: k.place,
         passed: k.passed,
         amounts,
-        run: with_going(run, going),
+        run: with_taken(with_method(run, method), taken),
     }
 }
 
@@ -140,13 +133,13 @@ fn whole_field(
     tag: u8,
     v: &[u8],
 ) -> Stepped
-    requires { ⌜ Ready (now me) (plan (now cycle) t) (left k (now ledger) (now map)) × (lengthAllowed tags tag (length (now v)) ≡ true) ⌝ }
+    requires { ⌜ Ready (now me) (plan (now cycle) t (k .method)) (left k (now ledger) (now map)) × (lengthAllowed tags tag (length (now v)) ≡ true) ⌝ }
     ensures { λ r. ⌜
         left (steppedSaid r) (now (ledger .exit)) (now (map .exit))
         ≡ wholeTaken (now (cycle .entry)) t k (now (ledger .entry)) (now (map .entry)) (now (me .entry)) (record { tag = tag; value = now (v .entry) })
         ⌝ }
 {
-    let going = k.going;
+    let going = k.taken.going;
     let c = content_of(me, k.place, k.passed, going.progress.offered, tag, v);
     take_content(cycle, t, k, &mut *ledger, &mut *map, v, c, 3 + v.len())
 }
@@ -161,7 +154,7 @@ pub fn one_field(
     map: &mut [u64],
     input: &[u8],
 ) -> Stepped
-    requires { ⌜ Ready (now me) (plan (now cycle) t) (left k (now ledger) (now map)) ⌝ }
+    requires { ⌜ Ready (now me) (plan (now cycle) t (k .method)) (left k (now ledger) (now map)) ⌝ }
     ensures { λ r. ⌜
         left (steppedSaid r) (now (ledger .exit)) (now (map .exit))
         ≡ frontTaken (now (cycle .entry)) t k (now (ledger .entry)) (now (map .entry)) (now (me .entry)) (now (input .entry))
@@ -214,7 +207,7 @@ pub fn all_fields(
     map: &mut [u64],
     input: &[u8],
 ) -> Passage
-    requires { ⌜ Ready (now me) (plan (now cycle) t) (left k (now ledger) (now map)) ⌝ }
+    requires { ⌜ Ready (now me) (plan (now cycle) t (k .method)) (left k (now ledger) (now map)) ⌝ }
     ensures { λ r. ⌜
         left (passageSaid r) (now (ledger .exit)) (now (map .exit))
         ≡ allTaken (now (cycle .entry)) t k (now (ledger .entry)) (now (map .entry)) (now (me .entry)) (now (input .entry))

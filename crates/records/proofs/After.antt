@@ -8,8 +8,8 @@ use native.Mathlib.Omega.{arith}
 use Rattle.rules.specs.Table.{behindCycle, behindTolerances, tags}
 use Rattle.rules.specs.Front.{Field}
 use Rattle.rules.specs.Machine.{on, moveAt, upto}
-use Rattle.rules.specs.Record.{Bring, nothing, aNumber, aCycle, theTolerances, ownSamples, before, after, charged}
-use Rattle.laws.proofs.Places.{place-is, block-places, recharge-places}
+use Rattle.rules.specs.Record.{Bring, nothing, aNumber, aCycle, theTolerances, theStretches, ownSamples, before, after, charged}
+use Rattle.laws.proofs.Places.{place-is, before-places, block-places, recharge-places}
 use Rattle.laws.proofs.Prefixes.{kept}
 use Rattle.laws.proofs.Says.{movesTo, Says}
 use Rattle.records.specs.Stage.{Stage, bringOn, takeOn}
@@ -38,8 +38,9 @@ module _ (x : Stage) (f : Field) where
   after-brought (aNumber v) s = let e = place-is (x .place) 1 (s .1) in record { place = omega arith; cycle = λ l. refl; vehicle = λ l. absurd (omega arith); tolerances = λ l. refl }
   after-brought (aCycle v) s = let e = place-is (x .place) 2 (s .1) in record { place = omega arith; cycle = λ l. absurd (omega arith); vehicle = λ l. refl; tolerances = λ l. refl }
   after-brought (theTolerances t) s = let e = place-is (x .place) 3 (s .1) in record { place = omega arith; cycle = λ l. refl; vehicle = λ l. refl; tolerances = λ l. absurd (omega arith) }
+  after-brought (theStretches y) s = let e = place-is (x .place) behindTolerances (s .1) in record { place = omega arith; cycle = λ l. refl; vehicle = λ l. refl; tolerances = λ l. refl }
   after-brought (ownSamples xs) s = let e = block-places (x .place) (s .1) .1 in record { place = omega arith; cycle = λ l. refl; vehicle = λ l. refl; tolerances = λ l. refl }
-  after-brought (before z) s = let e = place-is (x .place) behindTolerances (s .1) in record { place = omega arith; cycle = λ l. refl; vehicle = λ l. refl; tolerances = λ l. refl }
+  after-brought (before z) s = let e = before-places (x .place) (s .1) .1 in record { place = omega arith; cycle = λ l. refl; vehicle = λ l. refl; tolerances = λ l. refl }
   after-brought (after z) s = let e = block-places (x .place) (s .1) .1 in record { place = omega arith; cycle = λ l. refl; vehicle = λ l. refl; tolerances = λ l. refl }
   after-brought (charged w) s = let e = recharge-places (x .place) (s .1) .1 in record { place = omega arith; cycle = λ l. refl; vehicle = λ l. refl; tolerances = λ l. refl }
 

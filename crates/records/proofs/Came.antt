@@ -1,6 +1,6 @@
 -- What it says of a state that a field led to it.
 -- Assumes nothing.
-use mathlib.Core.Bool.{true, false, cond, false≢true}
+use mathlib.Core.Bool.{true, cond, false≢true}
 use mathlib.Core.List.{List}
 use mathlib.Core.Path.{_≡_, refl, sym, ap, _∙_}
 use Prim.Native.Nat.{ℕ, _+_, _≤_}
@@ -10,7 +10,7 @@ use Rattle.rules.specs.Bench.{mostPassed}
 use Rattle.rules.specs.Table.{Row, Matter, among, lengthAllowed, placeAfter, blockPlaces, tags}
 use Rattle.rules.specs.Front.{Field, Front, incomplete, impossible, field, bytesOf, frontOf}
 use Rattle.rules.specs.Machine.{Answer, taken, passed, refused, on, moveBy, replyAt, moveAt}
-use Rattle.rules.specs.Record.{Bring, nothing, aNumber, aCycle, theTolerances, ownSamples, before, after, charged, Content, brought, foreign, wrong, contentOf, fieldContent, answerBy}
+use Rattle.rules.specs.Record.{Bring, nothing, aNumber, aCycle, theTolerances, theStretches, ownSamples, before, after, charged, Content, brought, foreign, wrong, contentOf, fieldContent, answerBy}
 use Rattle.laws.proofs.Carried.{In, here, there, by-row}
 use Rattle.laws.proofs.Fronts.{front-allowed}
 use Rattle.laws.proofs.Moves.{moveAs, uses}
@@ -25,6 +25,7 @@ Enough x nothing = Unit {0}
 Enough x (aNumber v) = Unit {0}
 Enough x (aCycle v) = Unit {0}
 Enough x (theTolerances t) = isLong (x .run .memory) ≡ true
+Enough x (theStretches y) = Unit {0}
 Enough x (ownSamples xs) = Unit {0}
 Enough x (before e) = Unit {0}
 Enough x (after e) = Unit {0}
@@ -59,6 +60,8 @@ module _ (x : Stage) (f : Field) where
   enough-for q (there (there (there (there (there here))))) (theTolerances t) e s m = absurd (false≢true cc)
   enough-for q (there (there (there (there (there (there here)))))) (theTolerances t) e s m = absurd (false≢true cc)
   enough-for q (there (there (there (there (there (there (there here))))))) (theTolerances t) e s m = absurd (false≢true cc)
+  enough-for q (there (there (there (there (there (there (there (there here)))))))) (theTolerances t) e s m = absurd (false≢true cc)
+  enough-for q i (theStretches y) e s m = tt
   enough-for q i (ownSamples xs) e s m = tt
   enough-for q i (before z) e s m = tt
   enough-for q i (after z) e s m = tt

@@ -4,4 +4,5 @@ pub mod Later
 pub mod Weighs
 pub mod Limits
 pub mod After
+pub mod Held
 pub mod Joined

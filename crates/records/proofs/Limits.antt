@@ -16,7 +16,7 @@ use Rattle.rules.specs.Table.{behindRecharge, tags}
 use Rattle.rules.specs.Front.{Field}
 use Rattle.rules.specs.Machine.{on, moveAt, upto}
 use Rattle.rules.specs.Values.{isNumber}
-use Rattle.rules.specs.Record.{Bring, nothing, aNumber, aCycle, theTolerances, ownSamples, before, after, charged}
+use Rattle.rules.specs.Record.{Bring, nothing, aNumber, aCycle, theTolerances, theStretches, ownSamples, before, after, charged}
 use Rattle.laws.proofs.Prefixes.{kept}
 use Rattle.laws.proofs.Says.{movesTo, Says}
 use Rattle.laws.proofs.Sound.{sound}
@@ -53,6 +53,7 @@ module _ (x : Stage) (f : Field) (h : InLimits x) where
       let o = sound v (ap valid (s .2) ∙ s .3) in
       record { place = omega arith; passed = h .passed; amounts = h .amounts; number = h .number; size = omega (arith, o .whole, o .few-phases, o .short) }
   limits-brought (theTolerances t) s = record { place = omega arith; passed = h .passed; amounts = h .amounts; number = h .number; size = h .size }
+  limits-brought (theStretches y) s = record { place = omega arith; passed = h .passed; amounts = h .amounts; number = h .number; size = h .size }
   limits-brought (ownSamples xs) s = record { place = omega arith; passed = h .passed; amounts = h .amounts; number = h .number; size = h .size }
   limits-brought (before e) s = record { place = omega arith; passed = h .passed; amounts = tests (isTransfer e) (s .2) .0; number = h .number; size = h .size }
   limits-brought (after e) s = record { place = omega arith; passed = h .passed; amounts = tests (isTransfer e) (s .2) .1; number = h .number; size = h .size }

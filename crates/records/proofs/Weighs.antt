@@ -7,14 +7,14 @@ use Prim.Native.Nat.{ℕ, zero, suc, _+_, _-_, _≤_}
 use native.Mathlib.Omega.{arith}
 use lib.ListN.{length, drop, length-drop}
 use Rattle.numbers.proofs.Tables.{length-table}
-use Rattle.rules.specs.Regular.{courseOf, momentIn}
+use Rattle.rules.specs.Regular.{momentIn}
 use Rattle.rules.specs.Table.{lengthAllowed, behindTolerances, tags}
 use Rattle.rules.specs.Front.{Field}
 use Rattle.rules.specs.Machine.{Ran, on, moveAt, upto}
 use Rattle.rules.specs.Values.{samplesOf, momentAt, countIn}
-use Rattle.rules.specs.Record.{Bring, nothing, aNumber, aCycle, theTolerances, ownSamples, before, after, charged}
+use Rattle.rules.specs.Record.{Bring, nothing, aNumber, aCycle, theTolerances, theStretches, ownSamples, before, after, charged}
 use Rattle.laws.proofs.Moves.{by-move}
-use Rattle.laws.proofs.Places.{place-is, block-places, recharge-places}
+use Rattle.laws.proofs.Places.{place-is, before-places, block-places, recharge-places}
 use Rattle.laws.proofs.Samples.{Block, block-of}
 use Rattle.laws.proofs.Says.{movesTo, Says}
 use Rattle.laws.proofs.Tags.{sizes}
@@ -43,15 +43,16 @@ module _ (x : Stage) (f : Field) where
   brought-weighs (aNumber v) a s z = let e = place-is (x .place) 1 (s .1) in omega arith
   brought-weighs (aCycle v) a s z = let e = place-is (x .place) 2 (s .1) in omega arith
   brought-weighs (theTolerances t) a s z = let e = place-is (x .place) 3 (s .1) in let o = z (omega arith) in omega arith
+  brought-weighs (theStretches y) a s z = let p = place-is (x .place) behindTolerances (s .1) in omega arith
   brought-weighs (ownSamples xs) a s z =
       let q = samplesOf (f .value) in
       let k = sizes (f .tag) (length (f .value)) a .block (s .0) in
       let l : length xs ≡ countIn q = ap length (s .2) ∙ length-table (momentAt q) (countIn q) in
       let c = some-samples (f .value) (k .0) (block-of _ (k .1)) in
-      let o = all-offered (courseOf (planOn x)) (x .run) (momentIn xs) (length xs) in
+      let o = all-offered (planOn x) (x .run) (momentIn xs) (length xs) in
       let p = block-places (x .place) (s .1) .1 in
       omega arith
-  brought-weighs (before e) a s z = let p = place-is (x .place) behindTolerances (s .1) in omega arith
+  brought-weighs (before e) a s z = let p = before-places (x .place) (s .1) .1 in omega arith
   brought-weighs (after e) a s z = let p = block-places (x .place) (s .1) .1 in omega arith
   brought-weighs (charged w) a s z = let p = recharge-places (x .place) (s .1) .1 in omega arith
 
@@ -60,6 +61,7 @@ module _ (x : Stage) (f : Field) where
   brought-fresh (aNumber v) s z = λ l. let e = place-is (x .place) 1 (s .1) in z (omega arith)
   brought-fresh (aCycle v) s z = λ l. let e = place-is (x .place) 2 (s .1) in z (omega arith)
   brought-fresh (theTolerances t) s z = λ l. refl
+  brought-fresh (theStretches y) s z = λ l. absurd (omega arith)
   brought-fresh (ownSamples xs) s z = λ l. absurd (omega arith)
   brought-fresh (before e) s z = λ l. absurd (omega arith)
   brought-fresh (after e) s z = λ l. absurd (omega arith)

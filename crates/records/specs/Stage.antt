@@ -9,12 +9,15 @@ use Rattle.rules.specs.Words.{unless}
 use Rattle.rules.specs.declared.Amounts.{Amounts}
 use Rattle.rules.specs.declared.Moment.{Moment}
 use Rattle.rules.specs.declared.Tolerances.{Tolerances}
-use Rattle.rules.specs.Regular.{Plan, plan, courseOf, momentIn}
+use Rattle.rules.specs.declared.Method.{Method}
+use Rattle.rules.specs.declared.Method.the-variants.{Shortened as withStretches}
+use Rattle.rules.specs.Regular.{momentIn}
+use Rattle.rules.specs.Plan.{Plan, plan}
 use Rattle.rules.specs.Shown.{ledgerNumbers, mapWords}
-use Rattle.rules.specs.Table.{Matter, mark, number, cycle, tolerances, block, energyBefore, energyAfter, recharge, behindNumber, behindCycle, tags}
+use Rattle.rules.specs.Table.{Matter, mark, number, cycle, tolerances, stretches, block, energyBefore, energyAfter, recharge, behindNumber, behindCycle, tags}
 use Rattle.rules.specs.Front.{Field}
 use Rattle.rules.specs.Machine.{Answer, taken, passed, refused, Reply, toField, notYet, noField, Ran, replyAt, run}
-use Rattle.rules.specs.Record.{Bring, nothing, aNumber, aCycle, theTolerances, ownSamples, before, after, charged, Content, wrong, contentOf, fieldAnswer}
+use Rattle.rules.specs.Record.{Bring, nothing, aNumber, aCycle, theTolerances, theStretches, ownSamples, before, after, charged, Content, wrong, contentOf, fieldAnswer}
 use Rattle.rules.specs.Record.{withBefore, withAfter, withCharge}
 use Rattle.state.specs.State.{Memory}
 use Rattle.step.specs.Step.{State, samplesTaken, startOf}
@@ -28,12 +31,13 @@ pub record Stage : Type 0 where
   pub vehicle : List ℕ
   pub cycle : List ℕ
   pub tolerances : Tolerances
+  pub method : Method
   pub amounts : Amounts
   pub run : State
 
 -- the plan of its run
 abbrev pub planOn : Stage → Plan
-planOn x = plan (x .cycle) (x .tolerances)
+planOn x = plan (x .cycle) (x .tolerances) (x .method)
 
 -- ---- a field
 
@@ -47,6 +51,7 @@ starts mark = false
 starts number = false
 starts cycle = false
 starts tolerances = true
+starts stretches = false
 starts block = false
 starts energyBefore = false
 starts energyAfter = false
@@ -58,25 +63,26 @@ contentOn x m v =
     unless (wrong 1) (cond (starts m) (isLong (x .run .memory)) true)
     (contentOf (x .passed) (x .vehicle) (x .cycle) (x .run .progress .offered) m v)
 
--- x at the place m, with this vehicle, cycle, tolerances, amounts and run
-abbrev pub stageAs : Stage → ℕ → List ℕ → List ℕ → Tolerances → Amounts → State → Stage
-stageAs x m v b t a r = record { place = m; passed = x .passed; vehicle = v; cycle = b; tolerances = t; amounts = a; run = r }
+-- x at the place m, with this vehicle, cycle, tolerances, method, amounts and run
+abbrev pub stageAs : Stage → ℕ → List ℕ → List ℕ → Tolerances → Method → Amounts → State → Stage
+stageAs x m v b t y a r = record { place = m; passed = x .passed; vehicle = v; cycle = b; tolerances = t; method = y; amounts = a; run = r }
 
 -- an amount is brought
 abbrev pub withAmounts : Stage → ℕ → Amounts → Stage
-withAmounts x m a = stageAs x m (x .vehicle) (x .cycle) (x .tolerances) a (x .run)
+withAmounts x m a = stageAs x m (x .vehicle) (x .cycle) (x .tolerances) (x .method) a (x .run)
 
 -- samples are taken by the judge
 abbrev pub takenOn : Stage → List Moment → State
-takenOn x xs = samplesTaken (courseOf (planOn x)) (x .run) (momentIn xs) (length xs)
+takenOn x xs = samplesTaken (planOn x) (x .run) (momentIn xs) (length xs)
 
 -- with what a field brings, at the place m that it moves to: a start sets ledger and map to zero
 abbrev pub bringOn : Stage → ℕ → Bring → Stage
-bringOn x m nothing = stageAs x m (x .vehicle) (x .cycle) (x .tolerances) (x .amounts) (x .run)
-bringOn x m (aNumber v) = stageAs x m v (x .cycle) (x .tolerances) (x .amounts) (x .run)
-bringOn x m (aCycle v) = stageAs x m (x .vehicle) v (x .tolerances) (x .amounts) (x .run)
-bringOn x m (theTolerances t) = stageAs x m (x .vehicle) (x .cycle) t (x .amounts) (startOf (x .run .memory .ledger) (x .run .memory .map))
-bringOn x m (ownSamples xs) = stageAs x m (x .vehicle) (x .cycle) (x .tolerances) (x .amounts) (takenOn x xs)
+bringOn x m nothing = stageAs x m (x .vehicle) (x .cycle) (x .tolerances) (x .method) (x .amounts) (x .run)
+bringOn x m (aNumber v) = stageAs x m v (x .cycle) (x .tolerances) (x .method) (x .amounts) (x .run)
+bringOn x m (aCycle v) = stageAs x m (x .vehicle) v (x .tolerances) (x .method) (x .amounts) (x .run)
+bringOn x m (theTolerances t) = stageAs x m (x .vehicle) (x .cycle) t (x .method) (x .amounts) (startOf (x .run .memory .ledger) (x .run .memory .map))
+bringOn x m (theStretches y) = stageAs x m (x .vehicle) (x .cycle) (x .tolerances) (withStretches y) (x .amounts) (x .run)
+bringOn x m (ownSamples xs) = stageAs x m (x .vehicle) (x .cycle) (x .tolerances) (x .method) (x .amounts) (takenOn x xs)
 bringOn x m (before e) = withAmounts x m (withBefore (x .amounts) e)
 bringOn x m (after e) = withAmounts x m (withAfter (x .amounts) e)
 bringOn x m (charged w) = withAmounts x m (withCharge (x .amounts) w)
@@ -89,6 +95,7 @@ passOn x = record {
   vehicle = x .vehicle;
   cycle = x .cycle;
   tolerances = x .tolerances;
+  method = x .method;
   amounts = x .amounts;
   run = x .run;
 }

@@ -1,10 +1,12 @@
-// Refusals that no record brings, each by itself and beside its neighbour in document 01's order: of the reader here, of the judge, the desk and
-// the intake, of a run's state and of bounds in their modules.
+// Refusals that no record brings, each by itself and beside its neighbour in the order of documents 01 and 02: of the reader here, of its place in the order,
+// the judge, the desk and the intake, of a run's state, its stretches and of bounds in their modules.
 mod of_bounds;
 mod of_desk;
 mod of_intake;
 mod of_judge;
+mod of_places;
 mod of_state;
+mod of_stretches;
 
 use of_state::ended_run;
 use opening::OpenStep;
@@ -15,19 +17,27 @@ use reader::read;
 use reader::reading_of;
 use reading::Reading;
 use reading::Step;
+use state::Run;
 
 // T = 2 and T = 3, one phase, points of 100.
 const CYCLE: [u8; 9] = [1, 0, 2, 0, 100, 0, 100, 0, 100];
 
 const OTHER_CYCLE: [u8; 11] = [1, 0, 3, 0, 100, 0, 100, 0, 100, 0, 100];
 
-const UNKNOWN: [u8; 1] = [8];
+const UNKNOWN: [u8; 1] = [9];
 // A field 4 with a speed tolerance of 101.
 const WIDE: [u8; 9] = [4, 0, 6, 0, 101, 0, 20, 1, 44];
 
-// The reading of a run of 64 finished cycles to which so many samples were offered, with so many blocks passed over.
+// The reading of a run, at a place in the order.
+fn reading_at(run: Run, place: u32) -> Reading {
+    let mut r = reading_of(blank(), run);
+    r.place = place;
+    r
+}
+
+// Behind an own block, of a run of 64 finished cycles to which so many samples were offered, with so many blocks passed over.
 fn reading_with(offered: u32, passed: u32) -> Reading {
-    let mut r = reading_of(blank(), ended_run(offered));
+    let mut r = reading_at(ended_run(offered), 3);
     r.passed = passed;
     r
 }
@@ -198,15 +208,25 @@ fn main() {
     openings();
     grounds();
     counts();
+    of_places::places();
     figures();
     of_judge::starts();
+    of_stretches::starts();
     of_judge::samples();
     of_judge::blocks();
     of_judge::figures();
     of_state::intervals();
     of_state::counts();
+    of_stretches::methods();
+    of_stretches::counts();
+    of_stretches::in_regular();
+    of_stretches::in_m();
+    of_stretches::in_e();
+    of_stretches::watches();
     of_bounds::ledgers();
     of_bounds::amounts();
+    of_desk::feeds();
+    of_desk::early_closings();
     of_desk::closings();
     of_intake::buffers();
 }

@@ -54,7 +54,7 @@ fn reading_holding(before: i64, after: i64) -> Reading {
     let run = r.run;
     Reading {
         vehicle,
-        place: 3,
+        place: 4,
         passed: 0,
         amounts: Amounts {
             before,

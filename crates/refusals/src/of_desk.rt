@@ -58,21 +58,20 @@ fn try_close(what: &[u8], desk: Desk, left: usize, room: &[u8], ledger: &[i64]) 
     say_line(what, &lines[..], printed);
 }
 
-// 1, 2 and 15.
-pub fn closings() {
-    // T = 2, one phase, points of 100
-    let mut room = [0u8; 4811];
-    room[0] = 1;
-    room[2] = 2;
-    room[4] = 100;
-    room[6] = 100;
-    room[8] = 100;
-    let ledger = [0i64; 576];
+// 1 and 8.
+pub fn feeds() {
     try_feed(b"feed, 8000009 fields, unknown tag", with_fields(8_000_009));
+    try_feed(b"feed, 8000010 fields, unknown tag", with_fields(8_000_010));
     try_feed(b"feed, unknown tag", empty());
+}
+
+// Before the start: 1 and 15.
+pub fn early_closings() {
+    let room = [0u8; 4811];
+    let ledger = [0i64; 576];
     try_close(
-        b"close, 8000009 fields, not started",
-        with_fields(8_000_009),
+        b"close, 8000010 fields, not started",
+        with_fields(8_000_010),
         0,
         &room[..],
         &ledger[..],
@@ -85,6 +84,18 @@ pub fn closings() {
         &ledger[..],
     );
     try_close(b"close, not started", empty(), 0, &room[..], &ledger[..]);
+}
+
+// After it: 1, 2 and 15.
+pub fn closings() {
+    // T = 2, one phase, points of 100
+    let mut room = [0u8; 4811];
+    room[0] = 1;
+    room[2] = 2;
+    room[4] = 100;
+    room[6] = 100;
+    room[8] = 100;
+    let ledger = [0i64; 576];
     try_close(
         b"close, ledger too short, bytes left over",
         started(9),

@@ -1,11 +1,13 @@
 // What the judge's operations refuse.
 use crate::CYCLE;
 use crate::OTHER_CYCLE;
+use crate::of_state::no_stretches;
 use crate::say;
 use judge::Answer;
 use judge::ShownAnswer;
 use judge::TotalsAnswer;
 use rules::End;
+use rules::Method;
 use rules::Moment;
 use rules::Sample;
 use rules::Tolerances;
@@ -15,14 +17,14 @@ use state::Run;
 use state::Track;
 
 // T = 2, whose second phase ends where the first does.
-const BROKEN: [u8; 11] = [2, 0, 2, 0, 2, 0, 100, 0, 100, 0, 100];
+pub const BROKEN: [u8; 11] = [2, 0, 2, 0, 2, 0, 100, 0, 100, 0, 100];
 
 // Samples: two (100, 6000, -120), and one with a speed of 1501.
 const GOOD: [u8; 12] = [0, 100, 23, 112, 255, 136, 0, 100, 23, 112, 255, 136];
 
 const FAST: [u8; 6] = [5, 221, 23, 112, 255, 136];
 
-fn tolerances(speed: u32) -> Tolerances {
+pub fn tolerances(speed: u32) -> Tolerances {
     Tolerances {
         speed,
         time: 20,
@@ -42,6 +44,7 @@ fn stopped(offered: u32) -> Run {
                 fourth: 0,
             },
             tolerances: tolerances(30),
+            method: Method::Regular,
         },
         progress: Progress {
             offered,
@@ -52,6 +55,7 @@ fn stopped(offered: u32) -> Run {
                 energy: 0,
             },
         },
+        stretched: no_stretches(),
     }
 }
 
@@ -63,7 +67,8 @@ pub fn number_of(answer: Answer) -> u32 {
 }
 
 fn try_start(what: &[u8], cycle: &[u8], speed: u32, ledger: &mut [i64], map: &mut [u64]) {
-    let answer = judge::start(cycle, tolerances(speed), &mut *ledger, &mut *map);
+    let t = tolerances(speed);
+    let answer = judge::start(cycle, t, Method::Regular, &mut *ledger, &mut *map);
     say(what, number_of(answer));
 }
 

@@ -4,16 +4,34 @@ use crate::CYCLE;
 use crate::of_judge::number_of;
 use crate::say;
 use rules::End;
+use rules::Method;
 use rules::Moment;
 use rules::Sample;
 use rules::Tolerances;
 use state::Ends;
 use state::Progress;
 use state::Run;
+use state::Stretch;
+use state::Stretched;
 use state::Track;
 
-// T = 2, so that 64 cycles have 2560 positions.
-fn run_with(progress: Progress) -> Run {
+// Nothing of M and E.
+pub fn no_stretches() -> Stretched {
+    Stretched {
+        in_m: Stretch {
+            energy: 0,
+            distance: 0,
+        },
+        in_e: Stretch {
+            energy: 0,
+            distance: 0,
+        },
+        watch: 0,
+    }
+}
+
+// T = 2, so that a cycle has 40 positions, and 64 cycles 2560.
+pub fn run_by(method: Method, progress: Progress, stretched: Stretched) -> Run {
     Run {
         track: Track {
             seconds: 2,
@@ -28,12 +46,19 @@ fn run_with(progress: Progress) -> Run {
                 time: 20,
                 allowance: 300,
             },
+            method,
         },
         progress,
+        stretched,
     }
 }
 
-fn progress_of(offered: u32, counted: u32, end: End, speed: u64, energy: i64) -> Progress {
+// By the regular method.
+fn run_with(progress: Progress) -> Run {
+    run_by(Method::Regular, progress, no_stretches())
+}
+
+pub fn progress_of(offered: u32, counted: u32, end: End, speed: u64, energy: i64) -> Progress {
     Progress {
         offered,
         counted,
@@ -47,8 +72,13 @@ pub fn ended_run(offered: u32) -> Run {
     run_with(progress_of(offered, 2560, End::Limit, 0, 0))
 }
 
+// A run to which no sample was offered.
+pub fn fresh_run() -> Run {
+    run_with(progress_of(0, 0, End::None, 0, 0))
+}
+
 // One sample more, on memory of zeros.
-fn try_state(what: &[u8], progress: Progress) {
+pub fn try_run(what: &[u8], run: Run) {
     let mut ledger = [0i64; 576];
     let mut map = [0u64; 750];
     let x = Sample {
@@ -56,9 +86,12 @@ fn try_state(what: &[u8], progress: Progress) {
         voltage: 6000,
         current: -120,
     };
-    let run = run_with(progress);
     let answer = judge::sample(run, &CYCLE[..], &mut ledger[..], &mut map[..], x);
     say(what, number_of(answer));
+}
+
+fn try_state(what: &[u8], progress: Progress) {
+    try_run(what, run_with(progress));
 }
 
 // Of one sample, which counts.

@@ -8,9 +8,11 @@ use Rattle.rules.specs.Bench.{tolerable}
 use Rattle.rules.specs.Question.{question}
 use Rattle.rules.specs.Tally.{over}
 use Rattle.rules.specs.Parts.{cycles}
+use Rattle.rules.specs.Shortened.{stopsInE}
+use Rattle.rules.specs.Shown.{shownRow}
 use Rattle.rules.specs.Closing.{weighing, closingRefusal, rechargeRefusal}
 use Rattle.rules.specs.Card.{card, holds}
 
 pub card-holds : T (every holds card)
-unfolding be fold gather first allBelow valid grid20 inside over cycles weighing unless closingRefusal rechargeRefusal tolerable side verdict question phaseAt card holds
+unfolding be fold gather first allBelow valid grid20 inside over cycles stopsInE shownRow weighing unless closingRefusal rechargeRefusal tolerable side verdict question phaseAt card holds
 card-holds = tt

@@ -8,6 +8,9 @@ use Rattle.rules.specs.Words.{between}
 pub use Rattle.rules.specs.declared.Sample.{Sample}
 pub use Rattle.rules.specs.declared.Moment.{Moment}
 pub use Rattle.rules.specs.declared.Tolerances.{Tolerances}
+pub use Rattle.rules.specs.declared.Stretches.{Stretches}
+pub use Rattle.rules.specs.declared.Method.{Method}
+pub use Rattle.rules.specs.declared.Method.the-variants.{Regular as byCycles, Shortened as withStretches}
 pub use Rattle.rules.specs.declared.End.{End}
 pub use Rattle.rules.specs.declared.End.the-variants.{None as none, Stop as stop, Limit as limit}
 
@@ -86,3 +89,7 @@ mostAllowance = 1200
 
 unfoldable pub tolerable : Tolerances → Bool
 tolerable t = leb (t .speed) mostSpeedTolerance && leb (t .time) mostTimeTolerance && leb (t .allowance) mostAllowance
+
+-- document 02, L5: "M's length in samples, 1..4,000,000 (4 bytes), and E's set speed, 1..1500 (2 bytes)"
+unfoldable pub areStretches : Stretches → Bool
+areStretches x = leb 1 (x .length) && leb (x .length) mostOffered && leb 1 (x .speed) && leb (x .speed) mostSpeed

@@ -2,18 +2,20 @@
 -- Assumes nothing.
 use mathlib.Core.Bool.{Bool, true, false, not, cond, _&&_}
 use mathlib.Core.List.{List, [], _∷_}
-use Prim.Native.Nat.{ℕ, _*_}
+use Prim.Native.Nat.{ℕ, _+_, _-_, _*_}
 use lib.Dec.{ltb, eqb}
 use lib.IntN.{ℤ, pos, negℤ}
 use lib.ListN.{length, getD}
-use Rattle.rules.specs.Words.{every, eqZ, sameBytes}
-use Rattle.rules.specs.Bench.{Moment, Tolerances, End, none, stop, limit, drawn}
+use Rattle.rules.specs.Words.{bit, every, eqZ, sameBytes}
+use Rattle.rules.specs.Bench.{Moment, Tolerances, withStretches, End, none, stop, limit, drawn}
 use Rattle.rules.specs.Cycle.{valid}
 use Rattle.rules.specs.Band.{inside}
 use Rattle.rules.specs.Question.{question}
-use Rattle.rules.specs.Course.{Layout, Course, course, closedWhere, endingWhere, outside, counted, judged}
-use Rattle.rules.specs.Parts.{phasePart, finished, cycles, partEnergy, partDistance}
+use Rattle.rules.specs.Course.{Layout, Course, course, rowM, rowE, closedWhere, endingWhere, outside, counted, judged}
+use Rattle.rules.specs.Parts.{rowPart, phasePart, finished, cycles, partEnergy, partDistance}
 use Rattle.rules.specs.Regular.{interval, positionOf, regularLayout, regularRule, regular}
+use Rattle.rules.specs.Plan.{plan, courseOf}
+use Rattle.rules.specs.Shown.{shownRow}
 use Rattle.rules.specs.declared.Charge.{Charge}
 use Rattle.rules.specs.declared.Charge.the-variants.{Absent as absent, Wh as wh}
 use Rattle.rules.specs.declared.Figure.{Figure}
@@ -57,6 +59,30 @@ fastFrom : ℕ → ℕ → Moment
 unfolding moment
 fastFrom j i = moment (cond (ltb i j) 100 131) (pos 0)
 
+-- so many samples of such a speed, one leg after another; each draws 720,000
+pub record Leg : Type 0 where
+  pub samples : ℕ
+  pub speed : ℕ
+
+leg : ℕ → ℕ → Leg
+leg k v = record { samples = k; speed = v }
+
+offered : List Leg → ℕ
+offered [] = 0
+offered (x ∷ xs) = x .samples + offered xs
+
+speedAt : List Leg → ℕ → ℕ
+speedAt [] j = 0
+speedAt (x ∷ xs) j = let r = speedAt xs (j - x .samples) in cond (ltb j (x .samples)) (x .speed) r
+
+driven : List Leg → ℕ → Moment
+unfolding moment
+driven xs j = moment (speedAt xs j) (pos 720_000)
+
+-- none outside in four cycles
+clean : List ℕ
+clean = 0 ∷ 0 ∷ 0 ∷ 0 ∷ []
+
 pub data Row : Type 0 where
   -- sample j of a run (so at position j mod 40), time and speed tolerance: the speeds that are inside, and those that are not
   band : Points → ℕ → ℕ → ℕ → List ℕ → List ℕ → Row
@@ -69,13 +95,17 @@ pub data Row : Type 0 where
   joins : Moment → Moment → ℤ → ℕ → Row
   -- E, the first two energies, the rates: W, of as many cycles as there are rates
   weighs : ℕ → ℕ → ℕ → ℕ → List ℕ → ℕ → Row
-  -- E, the energies and the distances of the finished cycles, F, the recharge: the closing
-  closes : ℤ → List ℤ → List ℤ → ℤ → Charge → ClosingAnswer → Row
+  -- how many finished cycles the method asks for, E, the energies and the distances of those finished, F, the recharge: the closing
+  closes : ℕ → ℤ → List ℤ → List ℤ → ℤ → Charge → ClosingAnswer → Row
   -- how many samples can count, n offered, m counted: the intervals closed, the end
   shuts : ℕ → ℕ → ℕ → ℕ → End → Row
   -- a cycle of two phases, one second each; sample j draws j at the speed 10 j, so that k intervals bring k² and 10 k² in all:
   -- cycle c, phase k of it, m intervals closed: the phase's energy, whether it is finished
   gathers : ℕ → ℕ → ℕ → ℕ → Bool → Row
+  -- by the shortened method, points all 100, speed tolerance 30, time tolerance 0, allowance 3: M's length, E's set speed, what is driven; the end,
+  -- the samples counted, the intervals closed, the cycles finished, the outside counts of the four cycles, the cycle that the map shows (from 0);
+  -- the intervals closed in M, whether M is finished, the intervals closed in E
+  short : ℕ → ℕ → List Leg → End → ℕ → ℕ → ℕ → List ℕ → ℕ → ℕ → Bool → ℕ → Row
   -- the cycle's bytes, speed and time tolerance, position, speed: what the bench controller is answered
   asks : List ℕ → ℕ → ℕ → ℕ → ℕ → ℤ → Row
 
@@ -92,7 +122,7 @@ hundreds : List ℤ
 hundreds = pos 100 ∷ pos 100 ∷ pos 100 ∷ []
 
 unfoldable pub card : List Row
-unfolding points flat bytes ones hundreds moment
+unfolding points flat bytes ones hundreds moment leg clean
 card =
     band (points 0 100 0) 10 0 30 (20 ∷ 80 ∷ []) (19 ∷ 81 ∷ [])
     ∷ band (points 0 100 0) 20 5 30 (45 ∷ 130 ∷ []) (44 ∷ 131 ∷ [])
@@ -131,18 +161,21 @@ card =
     ∷ joins (moment 100 (pos 720_000)) (moment 131 (negℤ (pos 20_000))) (pos 700_000) 231
     ∷ joins (moment 1500 (pos 150_000_000)) (moment 1500 (pos 150_000_000)) (pos 300_000_000) 3000
     -- not on the card: the closing's order, each number with the next one's fault there too; E = e_1 + e_2 is good
-    ∷ closes (pos 9) (pos 0 ∷ pos 0 ∷ []) (pos 0 ∷ pos 0 ∷ []) (pos 0) absent (Refused 10)
-    ∷ closes (pos 9) (pos 1 ∷ pos 1 ∷ pos 0 ∷ []) (pos 1 ∷ pos 1 ∷ pos 0 ∷ []) (pos 0) absent (Refused 11)
-    ∷ closes (pos 1) ones (pos 1 ∷ pos 1 ∷ pos 0 ∷ []) (pos 0) absent (Refused 11)
-    ∷ closes (pos 2) ones (pos 1 ∷ pos 1 ∷ pos 0 ∷ []) (pos 0) absent (Refused 12)
-    ∷ closes (pos 2) ones (pos 100 ∷ pos 100 ∷ pos 101 ∷ []) (pos 0) absent (Refused 12)
-    ∷ closes (pos 14) ones hundreds (pos 0) absent (Refused 13)
-    ∷ closes (pos 14) ones hundreds (negℤ (pos 14)) (wh 1) (Refused 13)
+    ∷ closes 3 (pos 9) (pos 0 ∷ pos 0 ∷ []) (pos 0 ∷ pos 0 ∷ []) (pos 0) absent (Refused 10)
+    ∷ closes 3 (pos 9) (pos 1 ∷ pos 1 ∷ pos 0 ∷ []) (pos 1 ∷ pos 1 ∷ pos 0 ∷ []) (pos 0) absent (Refused 11)
+    ∷ closes 3 (pos 1) ones (pos 1 ∷ pos 1 ∷ pos 0 ∷ []) (pos 0) absent (Refused 11)
+    ∷ closes 3 (pos 2) ones (pos 1 ∷ pos 1 ∷ pos 0 ∷ []) (pos 0) absent (Refused 12)
+    ∷ closes 3 (pos 2) ones (pos 100 ∷ pos 100 ∷ pos 101 ∷ []) (pos 0) absent (Refused 12)
+    ∷ closes 3 (pos 14) ones hundreds (pos 0) absent (Refused 13)
+    ∷ closes 3 (pos 14) ones hundreds (negℤ (pos 14)) (wh 1) (Refused 13)
     -- not on the card: absent before 14; 14, 12 and the figure; each beside weighted consumption and range
-    ∷ closes (pos 15) ones hundreds (negℤ (pos 15)) absent (Closed (together 1 1 Absent))
-    ∷ closes (pos 15) ones hundreds (negℤ (pos 15)) (wh 1) (Closed (together 1 1 (figure.Refused 14)))
-    ∷ closes (pos 15) ones hundreds (negℤ (pos 14)) (wh 1) (Closed (together 1 1 (figure.Refused 12)))
-    ∷ closes (pos 15) ones hundreds (negℤ (pos 13)) (wh 1) (Closed (together 1 1 (Is 7_500_000)))
+    ∷ closes 3 (pos 15) ones hundreds (negℤ (pos 15)) absent (Closed (together 1 1 Absent))
+    ∷ closes 3 (pos 15) ones hundreds (negℤ (pos 15)) (wh 1) (Closed (together 1 1 (figure.Refused 14)))
+    ∷ closes 3 (pos 15) ones hundreds (negℤ (pos 14)) (wh 1) (Closed (together 1 1 (figure.Refused 12)))
+    ∷ closes 3 (pos 15) ones hundreds (negℤ (pos 13)) (wh 1) (Closed (together 1 1 (Is 7_500_000)))
+    -- document 02, L5: the shortened method asks for four
+    ∷ closes 4 (pos 15) ones hundreds (pos 0) absent (Refused 10)
+    ∷ closes 4 (pos 15) (pos 1 ∷ ones) (pos 100 ∷ hundreds) (pos 0) absent (Closed (together 1 1 Absent))
     -- not on the card: an interval counts when it is closed, and the limit is reached when all are
     ∷ shuts 40 0 0 0 none
     ∷ shuts 40 1 1 0 none
@@ -165,6 +198,33 @@ card =
     ∷ gathers 1 0 59 1881 false
     ∷ gathers 1 0 60 2000 true
     ∷ gathers 1 2 80 0 false
+    -- document 02, L5: a stop in each of the four cycles; M (samples 80 to 82) is not judged, and the count begins afresh in cycle 3
+    ∷ short 3 100 (leg 4 131 ∷ []) stop 3 3 0 (4 ∷ 0 ∷ 0 ∷ 0 ∷ []) 0 0 false 0
+    ∷ short 3 100 (leg 40 100 ∷ leg 4 131 ∷ []) stop 43 43 1 (0 ∷ 4 ∷ 0 ∷ 0 ∷ []) 1 0 false 0
+    ∷ short 3 100 (leg 80 100 ∷ leg 3 0 ∷ leg 6 131 ∷ []) stop 86 86 2 (0 ∷ 0 ∷ 4 ∷ 0 ∷ []) 2 3 true 0
+    ∷ short 3 100 (leg 77 100 ∷ leg 9 131 ∷ leg 1 100 ∷ []) none 87 86 2 (0 ∷ 3 ∷ 3 ∷ 0 ∷ []) 2 3 true 0
+    ∷ short 3 100 (leg 123 100 ∷ leg 4 131 ∷ []) stop 126 126 3 (0 ∷ 0 ∷ 0 ∷ 4 ∷ []) 3 3 true 0
+    -- it ends on each joint, and with one sample more: before M, inside it, behind it, before E, four finished and none closed in E
+    ∷ short 3 100 (leg 80 100 ∷ []) none 80 79 1 clean 1 0 false 0
+    ∷ short 3 100 (leg 81 100 ∷ []) none 81 80 2 clean 1 0 false 0
+    ∷ short 3 100 (leg 82 100 ∷ []) none 82 81 2 clean 1 1 false 0
+    ∷ short 3 100 (leg 83 100 ∷ []) none 83 82 2 clean 1 2 false 0
+    ∷ short 3 100 (leg 84 100 ∷ []) none 84 83 2 clean 2 3 true 0
+    ∷ short 3 100 (leg 163 100 ∷ []) none 163 162 3 clean 3 3 true 0
+    ∷ short 3 100 (leg 164 100 ∷ []) none 164 163 4 clean 3 3 true 0
+    -- M of one sample
+    ∷ short 1 100 (leg 81 100 ∷ []) none 81 80 2 clean 1 0 false 0
+    ∷ short 1 100 (leg 82 100 ∷ []) none 82 81 2 clean 2 1 true 0
+    -- E begins with sample 163, and at 69 a sample is below 100 less 30: not at the 79th, at the 80th; 79, one that is not (70), 80
+    ∷ short 3 100 (leg 164 100 ∷ leg 79 69 ∷ []) none 243 242 4 clean 3 3 true 79
+    ∷ short 3 100 (leg 164 100 ∷ leg 80 69 ∷ []) stop 243 243 4 clean 3 3 true 80
+    ∷ short 3 100 (leg 164 100 ∷ leg 79 69 ∷ leg 1 70 ∷ leg 80 69 ∷ []) stop 323 323 4 clean 3 3 true 160
+    -- 80 below before the set speed is reached; it is never reached, though it is within the tolerance; it is reached in the cycles only;
+    -- it is as low as the tolerance, so that nothing is below
+    ∷ short 3 100 (leg 163 100 ∷ leg 80 69 ∷ leg 1 100 ∷ leg 79 69 ∷ []) none 323 322 4 clean 3 3 true 159
+    ∷ short 3 101 (leg 163 100 ∷ leg 90 70 ∷ leg 1 100 ∷ leg 90 70 ∷ []) none 344 343 4 clean 3 3 true 180
+    ∷ short 3 130 (leg 163 130 ∷ leg 90 99 ∷ []) none 253 252 4 clean 3 3 true 89
+    ∷ short 3 30 (leg 163 100 ∷ leg 1 30 ∷ leg 90 0 ∷ []) none 254 253 4 clean 3 3 true 90
     -- not on the card: the bench controller's answers, each refusal with the next one's fault there too
     ∷ asks [] 101 0 40 1501 (negℤ (pos 2))
     ∷ asks (flat 100) 101 0 40 1501 (negℤ (pos 3))
@@ -179,7 +239,7 @@ card =
 limited : ℕ → Course
 limited most =
     let l = regularLayout [] in
-    course (record { row = l .row; phase = l .phase; begin = l .begin; rowEnd = l .rowEnd; phaseEnd = l .phaseEnd; rows = l .rows; most = most })
+    course (record { row = l .row; phase = l .phase; begin = l .begin; rowEnd = l .rowEnd; phaseEnd = l .phaseEnd; most = most })
     (regularRule [] (record { speed = 0; time = 0; allowance = 0 })) interval
 
 twoPhases : Layout
@@ -199,7 +259,7 @@ numbersOf (Closed x) = 1 ∷ x .weighted ∷ x .range ∷ figureNumbers (x .rech
 numbersOf (Refused n) = 2 ∷ n ∷ []
 
 unfoldable pub holds : Row → Bool
-unfolding bytes tolerances moment fastFrom limited twoPhases same figureNumbers numbersOf
+unfolding bytes tolerances moment offered speedAt driven fastFrom limited twoPhases same figureNumbers numbersOf
 holds (band q j w s in-speeds out-speeds) =
     let y = bytes q in
     let test = inside y (tolerances s w 0) (positionOf y j) in
@@ -214,12 +274,23 @@ holds (joins x y e d) =
     let s : ℕ → Moment = λ j. cond (eqb j 0) x y in
     eqZ (interval .energy s 0) e && eqb (interval .distance s 0) d
 holds (weighs E e₁ e₂ n qs W) = eqb (weighted E n (λ c. getD (e₁ ∷ e₂ ∷ []) c 0) (λ c. getD qs c 0)) W
-holds (closes E es ds F charge x) =
-    let answer = closingBy E (length es) (λ c. getD es c (pos 0)) (λ c. getD ds c (pos 0)) F charge in
+holds (closes asked E es ds F charge x) =
+    let answer = closingBy E (length es) (λ c. getD es c (pos 0)) (λ c. getD ds c (pos 0)) F asked charge in
     sameBytes 5 (numbersOf answer) (numbersOf x)
 holds (shuts most n m k e) = let c = limited most in eqb (closedWhere c n m) k && sameEnd (endingWhere c n m) e
 holds (gathers c k m e done) =
     let p = phasePart twoPhases c k in
     let s : ℕ → Moment = λ j. moment (10 * j) (pos j) in
     eqZ (partEnergy interval s p m) (pos e) && eqb (partDistance interval s p m) (10 * e) && same (finished p m) done
+holds (short m u xs e k j c os r inM done inE) =
+    let b = bytes (record { a = 100; b = 100; c = 100 }) in
+    let y = courseOf (plan b (tolerances 30 0 3) (withStretches (record { length = m; speed = u }))) in
+    let x = driven xs in
+    let n = offered xs in
+    let l = k + bit (sameEnd e stop) in
+    let o : ℕ → Bool = λ q. eqb (outside y x q l) (getD os q 0) in
+    let closed-in : ℕ → ℤ = λ q. partEnergy interval x (rowPart (y .layout) q) j in
+    eqb (counted y x n) k && eqb (closedWhere y n k) j && sameEnd (endingWhere y n k) e && eqb (cycles (y .layout) j) c
+    && o 0 && o 1 && o 2 && o 3 && eqb (shownRow (y .layout) l) r
+    && eqZ (closed-in rowM) (pos (1_440_000 * inM)) && same (finished (rowPart (y .layout) rowM) j) done && eqZ (closed-in rowE) (pos (1_440_000 * inE))
 holds (asks y s w p v z) = eqZ (question y (tolerances s w 0) p v) z

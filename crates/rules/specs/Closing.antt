@@ -6,7 +6,7 @@ use lib.Dec.{leb}
 use lib.IntN.{ℤ, pos, negℤ, _+ℤ_}
 use lib.Signed.{leZ, ltZ}
 use Rattle.rules.specs.Words.{settled, sum, allBelow, unless, up, between}
-use Rattle.rules.specs.Bench.{Moment}
+use Rattle.rules.specs.Bench.{Moment, Method, byCycles, withStretches}
 use Rattle.rules.specs.Course.{Course, closed}
 use Rattle.rules.specs.Parts.{energy}
 pub use Rattle.rules.specs.declared.Charge.{Charge}
@@ -77,6 +77,11 @@ isRate q = leb 1 q && leb q mostRate
 abbrev pub rateOf : (ℕ → ℤ) → (ℕ → ℤ) → ℕ → ℕ
 rateOf e d c = rate (up (e c)) (up (d c))
 
+-- "10 | fewer than three finished cycles"; document 02, L5: "10 at closing also when fewer than four cycles were finished", by the shortened method
+abbrev pub leastFinished : Method → ℕ
+leastFinished byCycles = 3
+leastFinished (withStretches x) = 4
+
 -- n finished cycles, and the signed whole energy E
 module _ (E : ℤ) (n : ℕ) (e d : ℕ → ℤ) where
   abbrev pub weightedFigure : ℕ
@@ -85,10 +90,10 @@ module _ (E : ℤ) (n : ℕ) (e d : ℕ → ℤ) where
   abbrev pub rangeFigure : ℕ
   rangeFigure = range (up E) weightedFigure
 
-  -- "Closing: 10, 11, 12, 13."; 0 where nothing is refused
-  unfoldable pub closingRefusal : ℕ
-  closingRefusal =
-      unless 10 (leb 3 n)
+  -- "Closing: 10, 11, 12, 13."; 0 where nothing is refused: of a method that asks for so many
+  unfoldable pub closingRefusal : ℕ → ℕ
+  closingRefusal asked =
+      unless 10 (leb asked n)
       (unless 11 (allBelow n (λ c. leZ (pos 1) (e c)))
       (unless 11 (leZ (e 0 +ℤ e 1) E)
       (unless 12 (allBelow n (λ c. ltZ (pos 0) (d c)))
@@ -124,5 +129,5 @@ module _ (E : ℤ) (n : ℕ) (e d : ℕ → ℤ) (F : ℤ) where
   closingFigures charge = let R = rangeFigure E n e d in together (weightedFigure E n e d) R (rechargeBy E R F charge)
 
   -- "Recharge: whatever closing refuses, then absent, 14, 12."; document 02, L6: "Make them one operation."
-  abbrev pub closingBy : Charge → ClosingAnswer
-  closingBy charge = let refusal = closingRefusal E n e d in settled refusal (Closed (closingFigures charge)) (Refused refusal)
+  abbrev pub closingBy : ℕ → Charge → ClosingAnswer
+  closingBy asked charge = let refusal = closingRefusal E n e d asked in settled refusal (Closed (closingFigures charge)) (Refused refusal)

@@ -1,10 +1,10 @@
 -- What a method is (a course), and which of the samples s 0, s 1, .. count in a run over it, of which n are offered.
 -- Assumes nothing.
 use mathlib.Core.Bool.{Bool, false, cond, _||_}
-use Prim.Native.Nat.{ℕ, _-_, min}
+use Prim.Native.Nat.{ℕ, _+_, _-_, min}
 use lib.Dec.{leb, ltb}
 use lib.IntN.{ℤ}
-use Rattle.rules.specs.Bench.{Moment, End, none, stop, limit}
+use Rattle.rules.specs.Bench.{Moment, End, none, stop, limit, mostCycles}
 use Rattle.rules.specs.Tally as tally
 
 -- a number of samples, or one that is never reached
@@ -16,7 +16,13 @@ abbrev pub reached : Bound → ℕ → Bool
 reached never m = false
 reached (after e) m = leb e m
 
--- where the samples stand: the rows of the ledger are the cycles
+-- where the samples stand: rows 0 to 63 are the ledger's cycles; document 02, L5: M and E are "outside the ledger", two rows behind them
+abbrev pub rowM : ℕ
+rowM = mostCycles
+
+abbrev pub rowE : ℕ
+rowE = rowM + 1
+
 pub record Layout : Type 0 where
   -- sample j stands in this row, and there in this phase
   pub row : ℕ → ℕ
@@ -25,8 +31,7 @@ pub record Layout : Type 0 where
   pub begin : ℕ → ℕ
   pub rowEnd : ℕ → Bound
   pub phaseEnd : ℕ → ℕ → Bound
-  -- how many rows there are, and how many samples can count
-  pub rows : ℕ
+  -- how many samples can count
   pub most : ℕ
 
 -- what stops the run
@@ -35,7 +40,7 @@ pub record Rule : Type 0 where
   pub outside : ℕ → ℕ → Bool
   -- "The run stops at the first sample that brings this count above the allowance."
   pub allowance : ℕ
-  -- by all speeds, sample j stops the run though it is not outside
+  -- by all speeds, sample j stops the run though it is not outside (stretch E of document 02, L5)
   pub halts : (ℕ → ℕ) → ℕ → Bool
 
 -- what place j of the run brings, energy and distance, and how many samples after sample j it takes to close it

@@ -10,8 +10,9 @@ use Rattle.rules.specs.declared.Moment.{Moment}
 use Rattle.rules.specs.Bench.{mostCycles}
 use Rattle.rules.specs.Course.{outside, counted, judged, closed, ending}
 use Rattle.rules.specs.Parts.{rowPart, cycles, partEnergy, partDistance, energy}
-use Rattle.rules.specs.Regular.{Plan, plan, courseOf, momentIn}
-use Rattle.rules.specs.Closing.{ClosingAnswer, wholeEnergy, closingBy}
+use Rattle.rules.specs.Regular.{momentIn}
+use Rattle.rules.specs.Plan.{Plan, plan, courseOf}
+use Rattle.rules.specs.Closing.{ClosingAnswer, leastFinished, wholeEnergy, closingBy}
 use Rattle.rules.specs.Record.{Told}
 pub use Rattle.rules.specs.declared.Figures.{Figures}
 
@@ -38,7 +39,9 @@ module _ (p : Plan) (xs : List Moment) where
 
   -- the closing, with these amounts
   abbrev pub closingIn : Amounts → ClosingAnswer
-  closingIn a = closingBy (wholeEnergy (a .before) (courseOf p) (momentIn xs) (length xs)) cyclesIn energies distances (a .after) (a .charge)
+  closingIn a =
+      closingBy (wholeEnergy (a .before) (courseOf p) (momentIn xs) (length xs)) cyclesIn energies distances (a .after)
+      (leastFinished (p .method)) (a .charge)
 
 -- "`run` vehicle number; `end` none, stop or limit with the number of counted samples; `cycles` n; `outside` ..; `passed` blocks passed over;
 -- `drawn` energy of" the closed intervals "; `weighted`; `range`; `ac` figure or `-`"
@@ -58,7 +61,7 @@ figuresBy vehicle passed a p xs =
 
 -- of what a record tells
 abbrev pub planTold : Told → Plan
-planTold x = plan (x .holding .cycle) (x .holding .tolerances)
+planTold x = plan (x .holding .cycle) (x .holding .tolerances) (x .holding .method)
 
 abbrev pub figuresTold : Told → Figures
 figuresTold x = figuresBy (x .holding .vehicle) (x .passed) (x .holding .amounts) (planTold x) (x .holding .samples)

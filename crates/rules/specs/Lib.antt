@@ -7,11 +7,14 @@ pub mod Bench
 pub mod Cycle
 pub mod Band
 pub mod Question
--- which samples count; what a method is; phases and cycles, and when they are finished; the regular method; 'Ledger and map'
+-- which samples count; what a method is; phases and cycles, and when they are finished; the regular method, the shortened one (document 02, L5), the
+-- plan of a run; 'Ledger and map'
 pub mod Tally
 pub mod Course
 pub mod Parts
 pub mod Regular
+pub mod Shortened
+pub mod Plan
 pub mod Shown
 -- 'Closing figures'
 pub mod Closing

@@ -7,14 +7,14 @@ use lib.Dec.{leb, eqb}
 use lib.IntN.{ℤ, pos}
 use lib.ListN.{length, replicate}
 use Rattle.rules.specs.Words.{unless}
-use Rattle.rules.specs.Bench.{Moment, Tolerances, mostPassed}
+use Rattle.rules.specs.Bench.{Moment, Tolerances, Stretches, Method, byCycles, withStretches, mostPassed, areStretches}
 use Rattle.rules.specs.Cycle.{valid, startOr}
 use Rattle.rules.specs.Closing.{Amounts, absent, wh, isTransferIn, doubled, isCharge}
-use Rattle.rules.specs.Table.{Row, Matter, mark, number, cycle, tolerances, block, energyBefore, energyAfter, recharge, among, byRow, placeAfter}
+use Rattle.rules.specs.Table.{Row, Matter, mark, number, cycle, tolerances, stretches, block, energyBefore, energyAfter, recharge, among, byRow, placeAfter}
 use Rattle.rules.specs.Table.{atFirst, behindTolerances, tags}
 use Rattle.rules.specs.Front.{Field}
 use Rattle.rules.specs.Machine.{Answer, taken, passed, refused, End, waiting, broken, stopped, run}
-use Rattle.rules.specs.Values.{isNumber, sameNumber, tolerancesIn, firstIn, samplesOf, momentsIn, blockOr, transferIn, rechargeIn}
+use Rattle.rules.specs.Values.{isNumber, sameNumber, tolerancesIn, stretchesIn, firstIn, samplesOf, momentsIn, blockOr, transferIn, rechargeIn}
 
 -- ---- what has been read
 
@@ -23,6 +23,7 @@ pub record Holding : Type 0 where
   pub vehicle : List ℕ
   pub cycle : List ℕ
   pub tolerances : Tolerances
+  pub method : Method
   pub samples : List Moment
   pub amounts : Amounts
 
@@ -34,12 +35,13 @@ pub record Told : Type 0 where
 
 -- ---- what a field brings
 
--- a value: nothing (the mark), a vehicle number, a cycle, tolerances, samples, a transfer energy before or after, a recharge
+-- a value: nothing (the mark), a vehicle number, a cycle, tolerances, stretches, samples, a transfer energy before or after, a recharge
 pub data Bring : Type 0 where
   nothing : Bring
   aNumber : List ℕ → Bring
   aCycle : List ℕ → Bring
   theTolerances : Tolerances → Bring
+  theStretches : Stretches → Bring
   ownSamples : List Moment → Bring
   before : ℤ → Bring
   after : ℤ → Bring
@@ -59,12 +61,13 @@ blockContent over me offered v =
     (unless (wrong 7) (leb (over + 1) mostPassed) foreign))
 
 -- what the value v brings. "For starting a run, as field 4 does: .. 2, 3": the cycle is tested again; "transfer or recharge amount outside its limits" is 14,
--- of the transfer energy as the field has it
+-- of the transfer energy as the field has it; document 02, L5: "19 for a bad stretch field"
 abbrev pub contentOf : ℕ → List ℕ → List ℕ → ℕ → Matter → List ℕ → Content
 contentOf over me course offered mark v = brought nothing
 contentOf over me course offered number v = unless (wrong 4) (isNumber v) (brought (aNumber v))
 contentOf over me course offered cycle v = unless (wrong 2) (valid v) (brought (aCycle v))
 contentOf over me course offered tolerances v = startOr wrong course (tolerancesIn v) (brought (theTolerances (tolerancesIn v)))
+contentOf over me course offered stretches v = unless (wrong 19) (areStretches (stretchesIn v)) (brought (theStretches (stretchesIn v)))
 contentOf over me course offered block v = blockContent over me offered v
 contentOf over me course offered energyBefore v = unless (wrong 14) (isTransferIn (transferIn v)) (brought (before (doubled (transferIn v))))
 contentOf over me course offered energyAfter v = unless (wrong 14) (isTransferIn (transferIn v)) (brought (after (doubled (transferIn v))))
@@ -101,19 +104,24 @@ withAfter a e = record { before = a .before; after = e; charge = a .charge }
 abbrev pub withCharge : Amounts → ℕ → Amounts
 withCharge a w = record { before = a .before; after = a .after; charge = wh w }
 
-abbrev pub holding : List ℕ → List ℕ → Tolerances → List Moment → Amounts → Holding
-holding me course t xs a = record { vehicle = me; cycle = course; tolerances = t; samples = xs; amounts = a }
+abbrev pub holding : List ℕ → List ℕ → Tolerances → Method → List Moment → Amounts → Holding
+holding me course t y xs a = record { vehicle = me; cycle = course; tolerances = t; method = y; samples = xs; amounts = a }
 
--- samples stand behind those before; an amount replaces that of its kind
+-- with other amounts
+abbrev pub withAmounts : Holding → Amounts → Holding
+withAmounts h a = holding (h .vehicle) (h .cycle) (h .tolerances) (h .method) (h .samples) a
+
+-- samples stand behind those before; an amount replaces that of its kind; stretches make the run a shortened one
 abbrev pub withBring : Holding → Bring → Holding
 withBring h nothing = h
-withBring h (aNumber v) = holding v (h .cycle) (h .tolerances) (h .samples) (h .amounts)
-withBring h (aCycle v) = holding (h .vehicle) v (h .tolerances) (h .samples) (h .amounts)
-withBring h (theTolerances t) = holding (h .vehicle) (h .cycle) t (h .samples) (h .amounts)
-withBring h (ownSamples xs) = holding (h .vehicle) (h .cycle) (h .tolerances) (h .samples ++ xs) (h .amounts)
-withBring h (before e) = holding (h .vehicle) (h .cycle) (h .tolerances) (h .samples) (withBefore (h .amounts) e)
-withBring h (after e) = holding (h .vehicle) (h .cycle) (h .tolerances) (h .samples) (withAfter (h .amounts) e)
-withBring h (charged w) = holding (h .vehicle) (h .cycle) (h .tolerances) (h .samples) (withCharge (h .amounts) w)
+withBring h (aNumber v) = holding v (h .cycle) (h .tolerances) (h .method) (h .samples) (h .amounts)
+withBring h (aCycle v) = holding (h .vehicle) v (h .tolerances) (h .method) (h .samples) (h .amounts)
+withBring h (theTolerances t) = holding (h .vehicle) (h .cycle) t (h .method) (h .samples) (h .amounts)
+withBring h (theStretches x) = holding (h .vehicle) (h .cycle) (h .tolerances) (withStretches x) (h .samples) (h .amounts)
+withBring h (ownSamples xs) = holding (h .vehicle) (h .cycle) (h .tolerances) (h .method) (h .samples ++ xs) (h .amounts)
+withBring h (before e) = withAmounts h (withBefore (h .amounts) e)
+withBring h (after e) = withAmounts h (withAfter (h .amounts) e)
+withBring h (charged w) = withAmounts h (withCharge (h .amounts) w)
 
 -- what the value v brings to what is told; what is told with it; and "the place in the order does not move, only the passed-over count rises"
 abbrev pub contentAt : Told → Matter → List ℕ → Content
@@ -140,7 +148,7 @@ abbrev pub untold : Told
 untold = record {
   place = atFirst;
   passed = 0;
-  holding = holding (replicate 17 48) [] (record { speed = 0; time = 0; allowance = 0 }) [] noAmounts;
+  holding = holding (replicate 17 48) [] (record { speed = 0; time = 0; allowance = 0 }) byCycles [] noAmounts;
 }
 
 -- what is told, or "refused N field K"

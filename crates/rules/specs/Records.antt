@@ -9,6 +9,7 @@ use Rattle.rules.specs.declared.Charge.{Charge}
 use Rattle.rules.specs.declared.Charge.the-variants.{Absent as absent, Wh as wh}
 use Rattle.rules.specs.declared.Amounts.{Amounts}
 use Rattle.rules.specs.Words.{up}
+use Rattle.rules.specs.Bench.{Method, byCycles, withStretches}
 use Rattle.rules.specs.Table.{RUN1, behindTolerances}
 use Rattle.rules.specs.Values.{blockOr}
 use Rattle.rules.specs.Record.{Told, Sheet, told, refusedAt, untold, sheetFrom, sheetOf}
@@ -63,6 +64,23 @@ full kind = put 6 (kind ∷ 0 ∷ 0 ∷ 9 ∷ 24 ∷ 78 ∷ 114 ∷ 160 ∷ 0 �
 abbrev pub far : ℕ → List ℕ
 far kind = put 6 (kind ∷ 0 ∷ 0 ∷ 9 ∷ 24 ∷ 78 ∷ 114 ∷ 160 ∷ 1 ∷ [])
 
+-- a field 8: M's length in four bytes, E's set speed in two
+abbrev pub stretched : List ℕ → List ℕ → List ℕ
+stretched m u = put 8 (m ++ u)
+
+-- M of 3 samples and a set speed of 100; M of 4,000,000 and one more; set speeds of 1500 and 1501
+abbrev pub brief : List ℕ
+brief = stretched (0 ∷ 0 ∷ 0 ∷ 3 ∷ []) (0 ∷ 100 ∷ [])
+
+abbrev pub none : List ℕ
+none = 0 ∷ 0 ∷ 0 ∷ 0 ∷ []
+
+abbrev pub longest : List ℕ
+longest = 0 ∷ 61 ∷ 9 ∷ 0 ∷ []
+
+abbrev pub tooLong : List ℕ
+tooLong = 0 ∷ 61 ∷ 9 ∷ 1 ∷ []
+
 abbrev pub charge : ℕ → List ℕ
 charge w = put 7 (0 ∷ 0 ∷ 0 ∷ w ∷ [])
 
@@ -76,9 +94,16 @@ chargeOf (wh w) = w
 abbrev pub amountsOf : Amounts → List ℕ
 amountsOf a = up (a .before) ∷ up (a .after) ∷ chargeOf (a .charge) ∷ []
 
--- told: place, passed over, samples, cycle's bytes, amounts; refused: number, field
+-- M's length and E's set speed; 0 by the regular method
+abbrev pub stretchesOf : Method → List ℕ
+stretchesOf byCycles = 0 ∷ 0 ∷ []
+stretchesOf (withStretches x) = x .length ∷ x .speed ∷ []
+
+-- told: place, passed over, samples, cycle's bytes, amounts, stretches; refused: number, field
 abbrev pub shown : Sheet → List ℕ
-shown (told s) = s .place ∷ s .passed ∷ length (s .holding .samples) ∷ length (s .holding .cycle) ∷ amountsOf (s .holding .amounts)
+shown (told s) =
+    s .place ∷ s .passed ∷ length (s .holding .samples) ∷ length (s .holding .cycle)
+    ∷ (amountsOf (s .holding .amounts) ++ stretchesOf (s .holding .method))
 shown (refusedAt number field) = number ∷ field ∷ []
 
 abbrev pub same : List ℕ → List ℕ → Bool
@@ -107,10 +132,14 @@ records =
     ∷ line mark (15 ∷ 2 ∷ [])
     ∷ line three (15 ∷ 4 ∷ [])
     ∷ line (four ++ (5 ∷ [])) (15 ∷ 5 ∷ [])
+    ∷ line (four ++ (8 ∷ 0 ∷ [])) (15 ∷ 5 ∷ [])
+    ∷ line (four ++ take 8 brief) (15 ∷ 5 ∷ [])
     ∷ line (four ++ take 6 (charge 15)) (15 ∷ 5 ∷ [])
     -- 8: unknown tag from its first byte, length from the third, wrong mark, no sample, a sample and one byte, kind above 1
     ∷ line (0 ∷ []) (8 ∷ 1 ∷ [])
-    ∷ line (four ++ (8 ∷ [])) (8 ∷ 5 ∷ [])
+    ∷ line (four ++ (9 ∷ [])) (8 ∷ 5 ∷ [])
+    ∷ line (four ++ (8 ∷ 0 ∷ 5 ∷ [])) (8 ∷ 5 ∷ [])
+    ∷ line (four ++ (8 ∷ 0 ∷ 7 ∷ [])) (8 ∷ 5 ∷ [])
     ∷ line (1 ∷ 0 ∷ 5 ∷ []) (8 ∷ 1 ∷ [])
     ∷ line (put 1 (82 ∷ 85 ∷ 78 ∷ 50 ∷ [])) (8 ∷ 1 ∷ [])
     ∷ line (four ++ block me 0 []) (8 ∷ 5 ∷ [])
@@ -127,6 +156,17 @@ records =
     ∷ line (four ++ (energy 1 1 ++ block other 0 sample)) (9 ∷ 6 ∷ [])
     ∷ line (four ++ (energy 1 1 ++ energy 1 1)) (9 ∷ 6 ∷ [])
     ∷ line (four ++ (charge 15 ++ charge 0)) (9 ∷ 6 ∷ [])
+    -- 9 of a field 8, whatever it holds: before the start, behind another, behind a 6 before, an own block, a 7
+    ∷ line (three ++ stretched none (0 ∷ 100 ∷ [])) (9 ∷ 4 ∷ [])
+    ∷ line (four ++ (brief ++ stretched none (0 ∷ 100 ∷ []))) (9 ∷ 6 ∷ [])
+    ∷ line (four ++ (energy 0 1 ++ brief)) (9 ∷ 6 ∷ [])
+    ∷ line (four ++ (block me 0 sample ++ brief)) (9 ∷ 6 ∷ [])
+    ∷ line (four ++ (charge 15 ++ brief)) (9 ∷ 6 ∷ [])
+    -- 19: M's length, E's set speed
+    ∷ line (four ++ stretched none (0 ∷ 100 ∷ [])) (19 ∷ 5 ∷ [])
+    ∷ line (four ++ stretched tooLong (0 ∷ 100 ∷ [])) (19 ∷ 5 ∷ [])
+    ∷ line (four ++ stretched longest (0 ∷ 0 ∷ [])) (19 ∷ 5 ∷ [])
+    ∷ line (four ++ stretched longest (5 ∷ 221 ∷ [])) (19 ∷ 5 ∷ [])
     -- 4, 2, 3 until the start; 4, 6, 5 of a block, 14 of amounts; pass over before 6 and 5
     ∷ line (mark ++ put 2 forbidden) (4 ∷ 2 ∷ [])
     ∷ line (mark ++ (put 2 me ++ put 3 (5 ∷ take 8 course))) (2 ∷ 3 ∷ [])
@@ -137,16 +177,20 @@ records =
     ∷ line (four ++ far 0) (14 ∷ 5 ∷ [])
     ∷ line (four ++ far 1) (14 ∷ 5 ∷ [])
     ∷ line (four ++ charge 0) (14 ∷ 5 ∷ [])
-    ∷ line (four ++ block other 1 fast) (4 ∷ 1 ∷ 0 ∷ 9 ∷ 0 ∷ 0 ∷ 0 ∷ [])
+    ∷ line (four ++ block other 1 fast) (4 ∷ 1 ∷ 0 ∷ 9 ∷ 0 ∷ 0 ∷ 0 ∷ 0 ∷ 0 ∷ [])
     -- told: nothing but the start; document 01's example, shortened; blocks cut otherwise; all fields, with foreign blocks between
-    ∷ line four (4 ∷ 0 ∷ 0 ∷ 9 ∷ 0 ∷ 0 ∷ 0 ∷ [])
-    ∷ line (four ++ (block me 0 (sample ++ sample) ++ charge 15)) (8 ∷ 0 ∷ 2 ∷ 9 ∷ 0 ∷ 0 ∷ 15 ∷ [])
-    ∷ line (four ++ (block me 0 sample ++ (block me 1 sample ++ charge 15))) (8 ∷ 0 ∷ 2 ∷ 9 ∷ 0 ∷ 0 ∷ 15 ∷ [])
+    ∷ line four (4 ∷ 0 ∷ 0 ∷ 9 ∷ 0 ∷ 0 ∷ 0 ∷ 0 ∷ 0 ∷ [])
+    ∷ line (four ++ (block me 0 (sample ++ sample) ++ charge 15)) (9 ∷ 0 ∷ 2 ∷ 9 ∷ 0 ∷ 0 ∷ 15 ∷ 0 ∷ 0 ∷ [])
+    ∷ line (four ++ (block me 0 sample ++ (block me 1 sample ++ charge 15))) (9 ∷ 0 ∷ 2 ∷ 9 ∷ 0 ∷ 0 ∷ 15 ∷ 0 ∷ 0 ∷ [])
     ∷ line
     (four ++ (block other 0 sample ++ (energy 0 1 ++ (block other 0 sample ++ (block me 0 sample ++ (block other 0 sample ++ (energy 1 3 ++ charge 200)))))))
-    (8 ∷ 3 ∷ 1 ∷ 9 ∷ 2 ∷ 6 ∷ 200 ∷ [])
+    (9 ∷ 3 ∷ 1 ∷ 9 ∷ 2 ∷ 6 ∷ 200 ∷ 0 ∷ 0 ∷ [])
     -- told: transfer energies are doubled, also at their limit
-    ∷ line (four ++ (full 0 ++ full 1)) (7 ∷ 0 ∷ 0 ∷ 9 ∷ 20_000_000_000_000 ∷ 20_000_000_000_000 ∷ 0 ∷ [])
+    ∷ line (four ++ (full 0 ++ full 1)) (8 ∷ 0 ∷ 0 ∷ 9 ∷ 20_000_000_000_000 ∷ 20_000_000_000_000 ∷ 0 ∷ 0 ∷ 0 ∷ [])
+    -- told: stretches, with a foreign block before them; at their limits; a 6 before and a block may follow
+    ∷ line (four ++ (block other 0 sample ++ brief)) (5 ∷ 1 ∷ 0 ∷ 9 ∷ 0 ∷ 0 ∷ 0 ∷ 3 ∷ 100 ∷ [])
+    ∷ line (four ++ stretched longest (5 ∷ 220 ∷ [])) (5 ∷ 0 ∷ 0 ∷ 9 ∷ 0 ∷ 0 ∷ 0 ∷ 4_000_000 ∷ 1500 ∷ [])
+    ∷ line (four ++ (stretched (0 ∷ 0 ∷ 0 ∷ 1 ∷ []) (0 ∷ 1 ∷ []) ++ (energy 0 1 ++ (block me 0 sample ++ charge 15)))) (9 ∷ 0 ∷ 1 ∷ 9 ∷ 2 ∷ 0 ∷ 15 ∷ 1 ∷ 1 ∷ [])
     ∷ []
 
 -- 7: 4,000,000 blocks are passed over

@@ -1,4 +1,4 @@
--- The regular method, "continuous cycles", as a course; and the course of a run.
+-- The regular method, "continuous cycles", as a course; and the samples of a list.
 -- Assumes nothing.
 use mathlib.Core.Bool.{false, not, cond}
 use mathlib.Core.List.{List}
@@ -40,7 +40,6 @@ module _ (b : List ℕ) where
     begin = λ c. c * positions b;
     rowEnd = λ c. after (suc c * positions b);
     phaseEnd = λ c k. cond (ltb k (phases b)) (after (c * positions b + 20 * phaseEnd b k)) never;
-    rows = mostCycles;
     most = most;
   }
 
@@ -50,18 +49,6 @@ regularRule b t = record { outside = λ j v. not (inside b t (positionOf b j) v)
 
 abbrev pub regular : List ℕ → Tolerances → Course
 regular b t = course (regularLayout b) (regularRule b t) interval
-
--- what is settled before the first sample: the cycle's bytes and the tolerances
-pub record Plan : Type 0 where
-  pub cycle : List ℕ
-  pub tolerances : Tolerances
-
-abbrev pub plan : List ℕ → Tolerances → Plan
-plan b t = record { cycle = b; tolerances = t }
-
--- the course of a run
-abbrev pub courseOf : Plan → Course
-courseOf p = regular (p .cycle) (p .tolerances)
 
 -- sample j of a list; past its end, nothing of one
 abbrev pub momentIn : List Moment → ℕ → Moment

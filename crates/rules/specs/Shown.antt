@@ -6,7 +6,7 @@ use Prim.Native.Nat.{ℕ, _+_, _-_, _*_, _/_, _%_}
 use lib.Dec.{ltb, eqb}
 use lib.IntN.{ℤ, pos, negℤ}
 use Rattle.rules.specs.Words.{fold, table, between}
-use Rattle.rules.specs.Bench.{Moment, mostShareEnergy, mostShareDistance, mostPositions, mostCycles}
+use Rattle.rules.specs.Bench.{Moment, mostShareEnergy, mostShareDistance, mostPositions, mostCycles, mostOffered}
 use Rattle.rules.specs.Course.{Layout, Course, out, outside, judged, closed}
 use Rattle.rules.specs.Parts.{phasePart, partEnergy, partDistance}
 
@@ -31,6 +31,14 @@ mostDistance = mostShareDistance * mostPositions
 
 abbrev pub mostOutside : ℕ
 mostOutside = mostPositions
+
+-- document 02, L5: "M and E each have one energy and one distance outside the ledger": at most those of as many intervals as samples may be offered,
+-- 1.2 × 10^15 and 1.2 × 10^10
+abbrev pub mostStretchEnergy : ℕ
+mostStretchEnergy = mostShareEnergy * mostOffered
+
+abbrev pub mostStretchDistance : ℕ
+mostStretchDistance = mostShareDistance * mostOffered
 
 -- the number z may stand at place i of the ledger
 unfoldable pub inBounds : ℕ → ℤ → Bool

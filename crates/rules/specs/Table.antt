@@ -79,12 +79,14 @@ module _ {M : Type 0} (rows : List (Row M)) where
 
 -- ---- the table
 
--- what a field holds: "mark .. vehicle number .. phase count, phase ends, points .. speed, time, allowance .. samples .. drawn energy .. recharge"
+-- what a field holds: "mark .. vehicle number .. phase count, phase ends, points .. speed, time, allowance .. samples .. drawn energy .. recharge";
+-- document 02, L5: "a bad stretch field" is of one that holds M's length and E's set speed
 pub data Matter : Type 0 where
   mark : Matter
   number : Matter
   cycle : Matter
   tolerances : Matter
+  stretches : Matter
   block : Matter
   energyBefore : Matter
   energyAfter : Matter
@@ -107,17 +109,20 @@ behindCycle = 3
 abbrev pub behindTolerances : ℕ
 behindTolerances = 4
 
+abbrev pub behindStretches : ℕ
+behindStretches = 5
+
 abbrev pub behindBefore : ℕ
-behindBefore = 5
+behindBefore = 6
 
 abbrev pub behindBlock : ℕ
-behindBlock = 6
+behindBlock = 7
 
 abbrev pub behindAfter : ℕ
-behindAfter = 7
+behindAfter = 8
 
 abbrev pub behindRecharge : ℕ
-behindRecharge = 8
+behindRecharge = 9
 
 -- "the four letters RUN1"
 abbrev pub RUN1 : List ℕ
@@ -125,7 +130,7 @@ RUN1 = 82 ∷ 85 ∷ 78 ∷ 49 ∷ []
 
 -- "any number of 5": from the start to the 6 after
 abbrev pub blockPlaces : List ℕ
-blockPlaces = behindTolerances ∷ behindBefore ∷ behindBlock ∷ []
+blockPlaces = behindTolerances ∷ behindStretches ∷ behindBefore ∷ behindBlock ∷ []
 
 -- "Order: 1, 2, 3, 4 once each; 6 before at most once; any number of 5; 6 after at most once; 7 at most once."
 abbrev pub tags : List (Row Matter)
@@ -136,7 +141,9 @@ tags =
     ∷ row 3 [] (from-to leastBytes mostBytes) (behindNumber ∷ []) behindCycle cycle
     ∷ row 4 [] (exactly 6) (behindCycle ∷ []) behindTolerances tolerances
     ∷ row 5 [] (head-samples 21 6) blockPlaces behindBlock block
-    ∷ row 6 (0 ∷ []) (exactly 9) (behindTolerances ∷ []) behindBefore energyBefore
+    ∷ row 6 (0 ∷ []) (exactly 9) (behindTolerances ∷ behindStretches ∷ []) behindBefore energyBefore
     ∷ row 6 (1 ∷ []) (exactly 9) blockPlaces behindAfter energyAfter
     ∷ row 7 [] (exactly 4) (behindAfter ∷ blockPlaces) behindRecharge recharge
+    -- document 02, L5: "A new field (tag 8) after the tolerances"
+    ∷ row 8 [] (exactly 6) (behindTolerances ∷ []) behindStretches stretches
     ∷ []

@@ -21,6 +21,18 @@ pub struct Tolerances {
     pub allowance: u32,
 }
 
+// The stretches of a shortened run: how many samples M has, and the set speed of E in 0.1 km/h.
+pub struct Stretches {
+    pub length: u32,
+    pub speed: u32,
+}
+
+// How a run is driven: cycle after cycle, or two cycles, M, two cycles, E.
+pub enum Method {
+    Regular,
+    Shortened(Stretches),
+}
+
 // How a run has ended.
 pub enum End {
     None,

@@ -60,6 +60,26 @@ pub const MOST_DISTANCE: i64 = MOST_SHARE_DISTANCE * MOST_POSITIONS as i64;
 
 pub const MOST_OUTSIDE: i64 = MOST_POSITIONS as i64;
 
+// Rows 0 to 63 are the cycles of the ledger; behind them stand the stretches M and E of the shortened method.
+pub const ROW_M: usize = MOST_CYCLES;
+
+pub const ROW_E: usize = ROW_M + 1;
+
+// "the run stops at the 80th consecutive sample below".
+pub const MOST_BELOW: u64 = 80;
+
+// The most that M or E can bring, of as many intervals as samples may be offered: energy either way, and distance.
+pub const MOST_STRETCH_ENERGY: i64 = MOST_SHARE_ENERGY * MOST_OFFERED as i64;
+
+pub const LEAST_STRETCH_ENERGY: i64 = -MOST_STRETCH_ENERGY;
+
+pub const MOST_STRETCH_DISTANCE: u64 = MOST_SHARE_DISTANCE as u64 * MOST_OFFERED as u64;
+
+// "Weights are by formula 13, with n = 4": as many cycles are finished where a run is closed, and three in the regular method.
+pub const LEAST_FINISHED: usize = 3;
+
+pub const LEAST_SHORTENED: usize = 4;
+
 // Field 6: "within 10^13 either way"; doubled on reading.
 pub const MOST_TRANSFER_IN: i64 = 10_000_000_000_000;
 

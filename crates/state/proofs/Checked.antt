@@ -16,13 +16,15 @@ use Rattle.rules.specs.declared.Moment.{Moment}
 use Rattle.rules.specs.declared.Tolerances.{Tolerances}
 use Rattle.rules.specs.declared.End.{End}
 use Rattle.rules.specs.declared.End.the-variants.{None as none, Stop as stop, Limit as limit}
+use Rattle.rules.specs.declared.Method.{Method}
 use Rattle.laws.specs.Beside.{isMoment, isOpen}
 use Rattle.rules.specs.Bench.{tolerable, mostSeconds, mostOffered}
 use Rattle.rules.specs.Cycle.{seconds, valid}
 use Rattle.laws.proofs.Band.{Tolerated, tolerated}
 use Rattle.rules.specs.Shown.{ledgerNumbers, mapWords}
+use Rattle.values.specs.Limits.{isMethod}
 use Rattle.ledger.specs.Row.{bounded}
-use Rattle.state.specs.State.{Ends, Run, endsOf, sameEnds, mostOf, isProgress, isNothing, isHeld, areEnds, isRun, isLent, isStarts, ground}
+use Rattle.state.specs.State.{Ends, Run, endsOf, sameEnds, mostOf, isProgress, isNothing, isHeld, isStretched, areEnds, isRun, isLent, isStarts, ground}
 use Rattle.state.specs.Refusals.{judgedBy, startRefusal}
 
 -- ---- what an end says of the samples offered and counted
@@ -80,14 +82,18 @@ pub record Limits (r : Run) : Type 0 where
   pub third : r .track .ends .third ≤ mostSeconds
   pub fourth : r .track .ends .fourth ≤ mostSeconds
   pub tolerated : Tolerated (r .track .tolerances)
+  pub method : isMethod (r .track .method) ≡ true
   pub offered : r .progress .offered ≤ mostOffered
   pub held : isHeld (r .progress .end) (r .progress .counted) (r .progress .held) ≡ true
+  pub stretched : isStretched r ≡ true
   pub progress : isProgress (r .progress .end) (mostOf r) (r .progress .offered) (r .progress .counted) ≡ true
 
 pub limits : (r : Run) → isRun r ≡ true → Limits r
 unfolding isRun areEnds
 limits r e =
-    let e₆ = both _ _ e in
+    let e₈ = both _ _ e in
+    let e₇ = both _ _ (e₈ .0) in
+    let e₆ = both _ _ (e₇ .0) in
     let e₅ = both _ _ (e₆ .0) in
     let e₄ = both _ _ (e₅ .0) in
     let e₃ = both _ _ (e₄ .0) in
@@ -104,12 +110,14 @@ limits r e =
       third = leb-true _ _ (d₂ .1);
       fourth = leb-true _ _ (d₃ .1);
       tolerated = tolerated (r .track .tolerances) (e₃ .1);
-      offered = leb-true _ _ (e₄ .1);
-      held = e₅ .1;
-      progress = e₆ .1;
+      method = e₄ .1;
+      offered = leb-true _ _ (e₅ .1);
+      held = e₆ .1;
+      stretched = e₇ .1;
+      progress = e₈ .1;
     }
 
-tolerable-by : (t : Tolerances) → Tolerated t → tolerable t ≡ true
+pub tolerable-by : (t : Tolerances) → Tolerated t → tolerable t ≡ true
 unfolding tolerable
 tolerable-by t h = rw (le-leb _ _ (h .speed), le-leb _ _ (h .time), le-leb _ _ (h .allowance))
 
@@ -124,27 +132,31 @@ run-by {r} h =
       le-leb _ _ (h .third),
       le-leb _ _ (h .fourth),
       tolerable-by (r .track .tolerances) (h .tolerated),
+      h .method,
       le-leb _ _ (h .offered),
       h .held,
+      h .stretched,
       h .progress,
     )
 
 -- ---- a start
 
-pub record Startable (b : List ℕ) (t : Tolerances) (l : List ℤ) (m : List ℕ) : Type 0 where
+pub record Startable (b : List ℕ) (t : Tolerances) (y : Method) (l : List ℤ) (m : List ℕ) : Type 0 where
   pub long-ledger : ledgerNumbers ≤ length l
   pub long-map : mapWords ≤ length m
   pub sound : valid b ≡ true
   pub tolerated : Tolerated t
+  pub method : isMethod y ≡ true
 
-pub start-passed : (b : List ℕ) (t : Tolerances) (l : List ℤ) (m : List ℕ) → startRefusal b t l m ≡ 0 → Startable b t l m
+pub start-passed : (b : List ℕ) (t : Tolerances) (y : Method) (l : List ℤ) (m : List ℕ) → startRefusal b t y l m ≡ 0 → Startable b t y l m
 unfolding startRefusal
-start-passed b t l m e =
+start-passed b t y l m e =
     let (p₁, e₁) = not-refused 0 _ _ e in
     let (p₂, e₂) = not-refused 0 _ _ e₁ in
     let (p₃, e₃) = not-refused 1 _ _ e₂ in
     let (p₄, e₄) = not-refused 2 _ _ e₃ in
-    record { long-ledger = leb-true _ _ p₁; long-map = leb-true _ _ p₂; sound = p₃; tolerated = tolerated t p₄ }
+    let (p₅, e₅) = not-refused 18 _ _ e₄ in
+    record { long-ledger = leb-true _ _ p₁; long-map = leb-true _ _ p₂; sound = p₃; tolerated = tolerated t p₄; method = p₅ }
 
 -- ---- the phase ends
 

@@ -1,23 +1,29 @@
 -- A started run's state, its limits, and the tests that come before all others.
 -- Assumes nothing.
-use mathlib.Core.Bool.{Bool, cond, _&&_}
+use mathlib.Core.Bool.{Bool, false, cond, _&&_}
 use mathlib.Core.List.{List}
-use Prim.Native.Nat.{ℕ, _*_}
+use Prim.Native.Nat.{ℕ, _+_, _-_, _*_, min}
 use lib.Dec.{leb, ltb, eqb}
-use lib.IntN.{ℤ, pos}
+use lib.IntN.{ℤ, pos, negℤ}
 use lib.ListN.{length}
-use Rattle.rules.specs.Words.{unless, eqZ}
+use Rattle.rules.specs.Words.{unless, eqZ, between}
 use Rattle.rules.specs.declared.Moment.{Moment}
 use Rattle.rules.specs.declared.End.{End}
 use Rattle.rules.specs.declared.End.the-variants.{None as none, Stop as stop, Limit as limit}
+use Rattle.rules.specs.declared.Method.{Method}
+use Rattle.rules.specs.declared.Method.the-variants.{Regular as byCycles, Shortened as withStretches}
 use Rattle.rules.specs.Bench.{tolerable, leastSeconds, mostSeconds, mostOffered, mostCycles}
 use Rattle.rules.specs.Cycle.{phases, phaseEnd, seconds, valid}
-use Rattle.rules.specs.Shown.{mapWords}
+use Rattle.rules.specs.Shortened.{mostBelow}
+use Rattle.rules.specs.Shown.{mapWords, mostStretchEnergy, mostStretchDistance}
+use Rattle.values.specs.Limits.{isMethod}
 use Rattle.laws.specs.Beside.{isMoment}
 use Rattle.ledger.specs.Row.{bounded}
 pub use Rattle.state.specs.declared.Ends.{Ends}
 pub use Rattle.state.specs.declared.Track.{Track}
 pub use Rattle.state.specs.declared.Progress.{Progress}
+pub use Rattle.state.specs.declared.Stretch.{Stretch}
+pub use Rattle.state.specs.declared.Stretched.{Stretched}
 pub use Rattle.state.specs.declared.Run.{Run}
 
 -- ledger and map together
@@ -46,9 +52,17 @@ endsOf b = record { first = endOrZero b 0; second = endOrZero b 1; third = endOr
 unfoldable pub sameEnds : Ends → Ends → Bool
 sameEnds d e = eqb (d .first) (e .first) && eqb (d .second) (e .second) && eqb (d .third) (e .third) && eqb (d .fourth) (e .fourth)
 
--- how many samples can count: those of 64 cycles
+-- how many samples can count: those of 64 cycles of n positions, or all that may be offered
+abbrev pub mostBy : Method → ℕ → ℕ
+mostBy byCycles n = mostCycles * n
+mostBy (withStretches x) n = mostOffered
+
 abbrev pub mostOf : Run → ℕ
-mostOf r = mostCycles * (20 * r .track .seconds)
+mostOf r = mostBy (r .track .method) (20 * r .track .seconds)
+
+-- how many intervals are closed
+abbrev pub closedBy : Progress → ℕ
+closedBy p = min (p .offered - 1) (p .counted)
 
 -- what the three ends say of the samples offered and counted
 unfoldable pub isProgress : End → ℕ → ℕ → ℕ → Bool
@@ -66,6 +80,26 @@ isHeld none counted x = cond (eqb counted 0) (isNothing x) (isMoment x)
 isHeld stop counted x = isNothing x
 isHeld limit counted x = isNothing x
 
+-- what a stretch has is within its limits where one of its intervals is closed, and else nothing
+abbrev pub isStretch : Bool → Stretch → Bool
+isStretch begun x =
+    cond begun (leb (x .distance) mostStretchDistance && between (negℤ (pos mostStretchEnergy)) (pos mostStretchEnergy) (x .energy))
+    (eqb (x .distance) 0 && eqZ (x .energy) (pos 0))
+
+-- the same of both: whether an interval of M is closed, and of E, and whether a sample of E is counted
+unfoldable pub areStretched : Stretched → Bool → Bool → Bool → Bool
+areStretched z m e watched = isStretch m (z .in_m) && isStretch e (z .in_e) && cond watched (leb (z .watch) mostBelow) (eqb (z .watch) 0)
+
+-- M begins behind two cycles of n positions, E behind four and M; by the regular method there is neither
+abbrev pub stretchedBy : Method → ℕ → Progress → Stretched → Bool
+stretchedBy byCycles n p z = areStretched z false false false
+stretchedBy (withStretches x) n p z =
+    let e = 4 * n + x .length in
+    areStretched z (ltb (2 * n) (closedBy p)) (ltb e (closedBy p)) (ltb e (p .counted))
+
+unfoldable pub isStretched : Run → Bool
+isStretched r = stretchedBy (r .track .method) (20 * r .track .seconds) (r .progress) (r .stretched)
+
 unfoldable pub areEnds : Ends → Bool
 areEnds e = leb (e .first) mostSeconds && leb (e .second) mostSeconds && leb (e .third) mostSeconds && leb (e .fourth) mostSeconds
 
@@ -76,8 +110,10 @@ isRun r =
     && leb (r .track .seconds) mostSeconds
     && areEnds (r .track .ends)
     && tolerable (r .track .tolerances)
+    && isMethod (r .track .method)
     && leb (r .progress .offered) mostOffered
     && isHeld (r .progress .end) (r .progress .counted) (r .progress .held)
+    && isStretched r
     && isProgress (r .progress .end) (mostOf r) (r .progress .offered) (r .progress .counted)
 
 -- ledger and map are long enough, none of the 576 numbers is out of bounds, and none of the state's

@@ -11,21 +11,23 @@ use numbers::wide;
 use own::are_same;
 use own::is_run;
 use rules::End;
+use rules::Method;
 use rules::Moment;
 use rules::Sample;
 use rules::Tolerances;
 use rules::limits::LEDGER_NUMBERS;
 use rules::limits::MAP_WORDS;
 use rules::limits::MOST_OFFERED;
+use values::is_method;
 use values::is_sample;
 use values::is_tolerable;
 ghost use mathlib.Core.Path.{_≡_};
 ghost use mathlib.Core.Bool.{true};
-ghost use Prim.Native.Nat.{_≤_, _<_};
-ghost use Rattle.rules.specs.Bench.{mostCycles};
+ghost use Prim.Native.Nat.{_-_, _≤_, _<_};
+ghost use Rattle.rules.specs.Bench.{mostCycles, mostPositions, mostOffered};
 ghost use Rattle.rules.specs.Cycle.{seconds, valid};
-ghost use Rattle.state.specs.State.{endOrZero, endsOf, isRun, isLent, isStarts, ground};
-ghost use Rattle.state.specs.Refusals.{startRefusal, sampleRefusal, cyclesBy, lastCycle};
+ghost use Rattle.state.specs.State.{closedBy, endOrZero, endsOf, isRun, isLent, isStarts, ground};
+ghost use Rattle.state.specs.Refusals.{withMethod, startRefusal, sampleRefusal, besideBy, finishedAround, cyclesBy, judgedBy, lastAround, lastCycle};
 
 // The seconds at which the phases end; 0 for a phase that does not exist.
 pub struct Ends {
@@ -35,11 +37,12 @@ pub struct Ends {
     pub fourth: u16,
 }
 
-// What the start fixed: T, the phase ends and the tolerances.
+// What is fixed before the first sample: T, the phase ends, the tolerances, the method.
 pub struct Track {
     pub seconds: u32,
     pub ends: Ends,
     pub tolerances: Tolerances,
+    pub method: Method,
 }
 
 // What a sample changes: how many were offered, how many count, how the run ended, and what closes the open interval: the last counted sample's
@@ -51,10 +54,44 @@ pub struct Progress {
     pub held: Moment,
 }
 
-// A started run. Cycle and position are not in it: they are counted div N and counted mod N.
+// What the closed intervals of a stretch have brought.
+pub struct Stretch {
+    pub energy: i64,
+    pub distance: u64,
+}
+
+// What a run has of its stretches M and E. `watch` is 0 until a sample of E has reached the set speed, and then one more than the samples below in a row.
+pub struct Stretched {
+    pub in_m: Stretch,
+    pub in_e: Stretch,
+    pub watch: u64,
+}
+
+// A started run. Where its next sample stands is not in it: method, T and counted say so.
 pub struct Run {
     pub track: Track,
     pub progress: Progress,
+    pub stretched: Stretched,
+}
+
+// The run, by this method.
+pub fn with_method(run: Run, method: Method) -> Run
+    ensures { λ r. ⌜ r ≡ withMethod run method ⌝ }
+{
+    let ends = run.track.ends;
+    let tolerances = run.track.tolerances;
+    let progress = run.progress;
+    let stretched = run.stretched;
+    Run {
+        track: Track {
+            seconds: run.track.seconds,
+            ends,
+            tolerances,
+            method,
+        },
+        progress,
+        stretched,
+    }
 }
 
 // The end of phase k, and 0 where there is no such phase.
@@ -119,8 +156,8 @@ pub fn ground_refusal(run: Run, cycle: &[u8], ledger: &[i64], map: &[u64]) -> u3
     0
 }
 
-pub fn start_refusal(cycle: &[u8], t: Tolerances, ledger: &[i64], map: &[u64]) -> u32
-    ensures { λ r. ⌜ r ≡ startRefusal (now (cycle .entry)) t (now (ledger .entry)) (now (map .entry)) ⌝ }
+pub fn start_refusal(cycle: &[u8], t: Tolerances, y: Method, ledger: &[i64], map: &[u64]) -> u32
+    ensures { λ r. ⌜ r ≡ startRefusal (now (cycle .entry)) t y (now (ledger .entry)) (now (map .entry)) ⌝ }
 {
     if ledger.len() < LEDGER_NUMBERS {
         return 1;
@@ -133,6 +170,9 @@ pub fn start_refusal(cycle: &[u8], t: Tolerances, ledger: &[i64], map: &[u64]) -
     }
     if !is_tolerable(t) {
         return 3;
+    }
+    if !is_method(y) {
+        return 19;
     }
     0
 }
@@ -153,26 +193,90 @@ pub fn sample_refusal(run: Run, cycle: &[u8], ledger: &[i64], map: &[u64], x: Sa
     0
 }
 
+// How many intervals are closed.
+pub fn closed_of(progress: Progress) -> u32
+    ensures { λ r. ⌜ r ≡ closedBy progress ⌝ }
+{
+    smaller(less(progress.offered, 1), progress.counted)
+}
+
+// The energy of M and E.
+pub fn beside_of(run: Run) -> i64
+    requires { ⌜ isRun run ≡ true ⌝ }
+    ensures { λ r. ⌜ r ≡ besideBy run ⌝ }
+{
+    run.stretched.in_m.energy + run.stretched.in_e.energy
+}
+
+// How many cycles of n positions are finished where so many intervals are closed, with M of m samples behind the second.
+fn finished_around(closed: u32, n: u32, m: u32) -> u32
+    requires { ⌜ (1 ≤ n) × (n ≤ mostPositions) × (m ≤ mostOffered) ⌝ }
+    ensures { λ r. ⌜ r ≡ finishedAround closed n m ⌝ }
+{
+    if closed < 2 * n {
+        return closed / n;
+    }
+    if closed < 2 * n + m {
+        return 2;
+    }
+    smaller(4, (closed - m) / n)
+}
+
 // How many cycles are finished: as many as the intervals closed make.
 pub fn cycles_of(run: Run) -> u32
     requires { ⌜ isRun run ≡ true ⌝ }
     ensures { λ r. ⌜ (r ≡ cyclesBy run) × (r ≤ mostCycles) ⌝ }
 {
-    let progress = run.progress;
-    smaller(less(progress.offered, 1), progress.counted) / (20 * run.track.seconds)
+    let closed = closed_of(run.progress);
+    let n = 20 * run.track.seconds;
+    let track = run.track;
+    let method = track.method;
+    match method {
+        Method::Regular => closed / n,
+        Method::Shortened(x) => finished_around(closed, n, x.length),
+    }
 }
 
-// The cycle of the sample last judged.
+// The cycle, of n positions each, that stands last among the samples up to sample j, with M of m samples behind the second.
+fn last_around(j: u32, n: u32, m: u32) -> u32
+    requires { ⌜ (1 ≤ n) × (n ≤ mostPositions) × (m ≤ mostOffered) ⌝ }
+    ensures { λ r. ⌜ r ≡ lastAround j n m ⌝ }
+{
+    if j < 2 * n {
+        return j / n;
+    }
+    if j < 2 * n + m {
+        return 1;
+    }
+    if j < 4 * n + m {
+        return (j - m) / n;
+    }
+    3
+}
+
+// The sample last judged, and 0 before the first.
+fn last_judged(progress: Progress) -> u32
+    ensures { λ r. ⌜ r ≡ judgedBy (progress .end) (progress .counted) - 1 ⌝ }
+{
+    let end = progress.end;
+    match end {
+        End::Stop => progress.counted,
+        End::None => less(progress.counted, 1),
+        End::Limit => less(progress.counted, 1),
+    }
+}
+
+// The cycle last judged.
 pub fn last_cycle(run: Run, cycle: &[u8]) -> usize
     requires { ⌜ (valid (now cycle) ≡ true) × (seconds (now cycle) ≡ run .track .seconds) × (isRun run ≡ true) ⌝ }
     ensures { λ r. ⌜ (r ≡ lastCycle run (now (cycle .entry))) × (r < mostCycles) ⌝ }
 {
     let n = 20 * run.track.seconds;
-    let progress = run.progress;
-    let end = progress.end;
-    match end {
-        End::Stop => (progress.counted / n) as usize,
-        End::None => (less(progress.counted, 1) / n) as usize,
-        End::Limit => (less(progress.counted, 1) / n) as usize,
+    let last = last_judged(run.progress);
+    let track = run.track;
+    let method = track.method;
+    match method {
+        Method::Regular => (last / n) as usize,
+        Method::Shortened(x) => last_around(last, n, x.length) as usize,
     }
 }

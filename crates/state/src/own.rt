@@ -2,18 +2,30 @@
 use crate::Ends;
 use crate::Progress;
 use crate::Run;
+use crate::Stretch;
+use crate::Stretched;
+use crate::closed_of;
 use rules::End;
+use rules::Method;
 use rules::Moment;
 use rules::limits::LEAST_SECONDS;
+use rules::limits::LEAST_STRETCH_ENERGY;
+use rules::limits::MOST_BELOW;
 use rules::limits::MOST_CYCLES;
 use rules::limits::MOST_OFFERED;
 use rules::limits::MOST_SECONDS;
+use rules::limits::MOST_STRETCH_DISTANCE;
+use rules::limits::MOST_STRETCH_ENERGY;
+use values::is_between;
+use values::is_method;
 use values::is_moment;
 use values::is_tolerable;
 ghost use mathlib.Core.Path.{_≡_};
-ghost use Prim.Native.Nat.{_<_};
-ghost use Rattle.rules.specs.Cycle.{seconds};
-ghost use Rattle.state.specs.State.{sameEnds, isProgress, isNothing, isHeld, areEnds, isRun};
+ghost use mathlib.Core.Bool.{true};
+ghost use Prim.Native.Nat.{_≤_};
+ghost use Rattle.rules.specs.Bench.{mostSeconds};
+ghost use Rattle.values.specs.Limits.{isMethod};
+ghost use Rattle.state.specs.State.{sameEnds, isProgress, isNothing, isHeld, areEnds, isStretch, areStretched, isStretched, mostOf, isRun};
 
 // As many cycles, and as many seconds, as the numbers beside them are wide.
 const CYCLES: u32 = MOST_CYCLES as u32;
@@ -105,6 +117,75 @@ fn is_held(progress: Progress) -> bool
     }
 }
 
+// Whether a stretch has no more than it can bring, and nothing where it has not begun.
+fn is_stretch(begun: bool, x: Stretch) -> bool
+    ensures { λ r. ⌜ r ≡ isStretch begun x ⌝ }
+{
+    if !begun {
+        if x.distance != 0 {
+            return false;
+        }
+        return x.energy == 0;
+    }
+    if MOST_STRETCH_DISTANCE < x.distance {
+        return false;
+    }
+    is_between(LEAST_STRETCH_ENERGY, MOST_STRETCH_ENERGY, x.energy)
+}
+
+// Whether the numbers of the stretches are within their limits: whether intervals of M and of E are closed, and whether a sample of E is counted.
+fn are_stretched(z: Stretched, m: bool, e: bool, watched: bool) -> bool
+    ensures { λ r. ⌜ r ≡ areStretched z m e watched ⌝ }
+{
+    if !is_stretch(m, z.in_m) {
+        return false;
+    }
+    if !is_stretch(e, z.in_e) {
+        return false;
+    }
+    if watched {
+        return z.watch <= MOST_BELOW;
+    }
+    z.watch == 0
+}
+
+// The same of a run: by the regular method there are no stretches.
+fn is_stretched(run: Run) -> bool
+    requires { ⌜ (run .track .seconds ≤ mostSeconds) × (isMethod (run .track .method) ≡ true) ⌝ }
+    ensures { λ r. ⌜ r ≡ isStretched run ⌝ }
+{
+    let stretched = run.stretched;
+    let track = run.track;
+    let method = track.method;
+    match method {
+        Method::Regular => are_stretched(stretched, false, false, false),
+        Method::Shortened(x) => {
+            let two = 40 * run.track.seconds;
+            let end = 2 * two + x.length;
+            let closed = closed_of(run.progress);
+            are_stretched(
+                stretched,
+                two < closed,
+                end < closed,
+                end < run.progress.counted,
+            )
+        }
+    }
+}
+
+// How many samples can count.
+fn most_of(run: Run) -> u32
+    requires { ⌜ run .track .seconds ≤ mostSeconds ⌝ }
+    ensures { λ r. ⌜ r ≡ mostOf run ⌝ }
+{
+    let track = run.track;
+    let method = track.method;
+    match method {
+        Method::Regular => CYCLES * (20 * run.track.seconds),
+        Method::Shortened(_) => MOST_OFFERED,
+    }
+}
+
 // Whether no number of the state is beyond its limits.
 pub fn is_run(run: Run) -> bool
     ensures { λ r. ⌜ r ≡ isRun run ⌝ }
@@ -121,11 +202,19 @@ pub fn is_run(run: Run) -> bool
     if !is_tolerable(run.track.tolerances) {
         return false;
     }
+    let track = run.track;
+    let method = track.method;
+    if !is_method(method) {
+        return false;
+    }
     if MOST_OFFERED < run.progress.offered {
         return false;
     }
     if !is_held(run.progress) {
         return false;
     }
-    is_progress(run.progress, CYCLES * (20 * run.track.seconds))
+    if !is_stretched(run) {
+        return false;
+    }
+    is_progress(run.progress, most_of(run))
 }

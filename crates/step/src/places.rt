@@ -2,21 +2,32 @@
 use crate::Going;
 use crate::Next;
 use cycle::end_of;
+use cycle::phase_of;
 use cycle::seconds_of;
 use numbers::smaller;
 use rules::End;
+use rules::Method;
 use rules::Moment;
+use rules::limits::ROW_E;
+use rules::limits::ROW_M;
 use state::Progress;
 use window::Window;
 use window::shift;
 use window::window_at;
 ghost use mathlib.Core.Path.{_≡_};
 ghost use mathlib.Core.Bool.{true};
-ghost use Prim.Native.Nat.{_+_, _*_, _<_, min};
+ghost use Prim.Native.Nat.{_+_, _*_, _≤_, _<_, min};
 ghost use lib.ListN.{length};
-ghost use Rattle.rules.specs.Bench.{mostOffered};
+ghost use Rattle.rules.specs.Bench.{mostTimeTolerance, mostOffered, mostCycles};
 ghost use Rattle.rules.specs.Cycle.{phaseEnd, phaseAt, positions, valid};
-ghost use Rattle.step.specs.Step.{offeredOne, endedBy, countedOne, standing, nextOf, progressed, Counts};
+ghost use Rattle.rules.specs.Plan.{layoutOf};
+ghost use Rattle.rules.specs.Shortened.{ride, stand};
+ghost use Rattle.values.specs.Limits.{isMethod};
+ghost use Rattle.step.specs.Step.{offeredOne, endedBy, countedOne, openRow, openPhase};
+ghost use Rattle.step.specs.Where.{standing, nextAt, nextOf, progressed, movedOn, resumedOn, Counts};
+
+// A row in which no sample stands.
+const NO_ROW: usize = ROW_E + 1;
 
 // Up to which position phase and window stay what they are, but for the window's ends.
 pub fn until_in(cycle: &[u8], window: Window, phase: usize) -> u32
@@ -45,12 +56,12 @@ fn with_progress(g: Going, progress: Progress) -> Going
     Going {
         progress,
         row: g.row,
-        position: g.position,
         phase: g.phase,
         window,
-        until: g.until,
         open_row: g.open_row,
         open_phase: g.open_phase,
+        position: g.position,
+        until: g.until,
     }
 }
 
@@ -92,10 +103,77 @@ pub fn ended_by(g: Going, end: End) -> Going
     )
 }
 
-// Where the sample behind a counted one stands.
-fn next_place(cycle: &[u8], w: u32, g: Going) -> Next
-    requires { ⌜ Counts (now cycle) w g ⌝ }
-    ensures { λ r. ⌜ r ≡ nextOf (now (cycle .entry)) (g .progress .counted + 1) ⌝ }
+// Place i of the cycles, laid end to end.
+fn ridden_at(cycle: &[u8], i: u32) -> Next
+    requires { ⌜ valid (now cycle) ≡ true ⌝ }
+    ensures { λ r. ⌜ r ≡ nextAt (now (cycle .entry)) (ride i) ⌝ }
+{
+    let n = 20 * seconds_of(cycle);
+    let position = i % n;
+    Next {
+        row: (i / n) as usize,
+        position,
+        phase: phase_of(cycle, position),
+    }
+}
+
+// In M or E, which have no positions.
+fn beside_at(row: usize) -> Next
+    ensures { λ r. ⌜ r ≡ record { row = row; position = 0; phase = 0 } ⌝ }
+{
+    Next {
+        row,
+        position: 0,
+        phase: 0,
+    }
+}
+
+// Where sample j of a shortened run stands, with M of m samples.
+fn shortened_at(cycle: &[u8], m: u32, j: u32) -> Next
+    requires { ⌜ (valid (now cycle) ≡ true) × (m ≤ mostOffered) ⌝ }
+    ensures { λ r. ⌜ r ≡ nextAt (now (cycle .entry)) (stand (now (cycle .entry)) m j) ⌝ }
+{
+    let two = 40 * seconds_of(cycle);
+    if j < two {
+        return ridden_at(cycle, j);
+    }
+    if j < two + m {
+        return beside_at(ROW_M);
+    }
+    if j < 2 * two + m {
+        return ridden_at(cycle, j - m);
+    }
+    beside_at(ROW_E)
+}
+
+// Where sample j stands.
+pub fn place_at(cycle: &[u8], y: Method, j: u32) -> Next
+    requires { ⌜ (valid (now cycle) ≡ true) × (isMethod y ≡ true) ⌝ }
+    ensures { λ r. ⌜ r ≡ nextOf (now (cycle .entry)) y j ⌝ }
+{
+    match y {
+        Method::Regular => ridden_at(cycle, j),
+        Method::Shortened(x) => shortened_at(cycle, x.length, j),
+    }
+}
+
+// Where the last of n counted samples stands, whose interval is open; before the first, where no sample stands.
+pub fn open_place(cycle: &[u8], y: Method, n: u32) -> Next
+    requires { ⌜ (valid (now cycle) ≡ true) × (isMethod y ≡ true) ⌝ }
+    ensures { λ r. ⌜
+        (r .row ≡ openRow (layoutOf (now (cycle .entry)) y) n) × (r .phase ≡ openPhase (layoutOf (now (cycle .entry)) y) n)
+        ⌝ }
+{
+    if n == 0 {
+        return beside_at(NO_ROW);
+    }
+    place_at(cycle, y, n - 1)
+}
+
+// Where the sample behind a counted one of a cycle stands.
+fn next_place(cycle: &[u8], w: u32, y: Method, g: Going) -> Next
+    requires { ⌜ Counts (now cycle) w y g × (g .row < mostCycles) ⌝ }
+    ensures { λ r. ⌜ r ≡ nextOf (now (cycle .entry)) y (g .progress .counted + 1) ⌝ }
 {
     let position = g.position;
     if position + 1 < 20 * seconds_of(cycle) {
@@ -105,19 +183,15 @@ fn next_place(cycle: &[u8], w: u32, g: Going) -> Next
             phase: next_phase(cycle, g.phase, position),
         };
     }
-    Next {
-        row: g.row + 1,
-        position: 0,
-        phase: 0,
-    }
+    place_at(cycle, y, g.progress.counted + 1)
 }
 
-// A sample that counts, behind which phase, cycle or window may be others: all is worked out anew.
-fn turned_by(cycle: &[u8], w: u32, g: Going, x: Moment) -> Going
-    requires { ⌜ Counts (now cycle) w g ⌝ }
-    ensures { λ r. ⌜ r ≡ standing (now (cycle .entry)) w (countedOne (g .progress) x) ⌝ }
+// A sample of a cycle that counts, behind which phase, row or window may be others: all is worked out anew.
+fn turned_by(cycle: &[u8], w: u32, y: Method, g: Going, x: Moment) -> Going
+    requires { ⌜ Counts (now cycle) w y g × (g .row < mostCycles) ⌝ }
+    ensures { λ r. ⌜ r ≡ standing (now (cycle .entry)) w y (countedOne (g .progress) x) ⌝ }
 {
-    let next = next_place(cycle, w, g);
+    let next = next_place(cycle, w, y, g);
     let window = window_at(cycle, w, next.position);
     let progress = g.progress;
     Going {
@@ -128,23 +202,76 @@ fn turned_by(cycle: &[u8], w: u32, g: Going, x: Moment) -> Going
             held: x,
         },
         row: next.row,
-        position: next.position,
         phase: next.phase,
         window,
-        until: until_in(cycle, window, next.phase),
         open_row: g.row,
         open_phase: g.phase,
+        position: next.position,
+        until: until_in(cycle, window, next.phase),
     }
 }
 
-// A sample that counts: its interval is open.
-pub fn counted_by(cycle: &[u8], w: u32, g: Going, x: Moment) -> Going
-    requires { ⌜ Counts (now cycle) w g ⌝ }
-    ensures { λ r. ⌜ r ≡ standing (now (cycle .entry)) w (countedOne (g .progress) x) ⌝ }
+// The last sample of M counts: the next is the first of cycle 3.
+pub fn resumed_by(cycle: &[u8], w: u32, g: Going, x: Moment) -> Going
+    requires { ⌜
+        (valid (now cycle) ≡ true)
+        × (w ≤ mostTimeTolerance)
+        × (g .progress .offered < mostOffered)
+        × (g .progress .counted ≤ g .progress .offered)
+        ⌝ }
+    ensures { λ r. ⌜ r ≡ resumedOn (now (cycle .entry)) w g x ⌝ }
+{
+    let window = window_at(cycle, w, 0);
+    let progress = g.progress;
+    Going {
+        progress: Progress {
+            offered: progress.offered + 1,
+            counted: progress.counted + 1,
+            end: End::None,
+            held: x,
+        },
+        row: 2,
+        phase: 0,
+        window,
+        open_row: g.row,
+        open_phase: g.phase,
+        position: 0,
+        until: until_in(cycle, window, 0),
+    }
+}
+
+// A sample of M or E that counts, behind which the next stands in the same stretch.
+pub fn moved_by(g: Going, x: Moment) -> Going
+    requires { ⌜ (g .progress .offered < mostOffered) × (g .progress .counted ≤ g .progress .offered) ⌝ }
+    ensures { λ r. ⌜ r ≡ movedOn g x ⌝ }
+{
+    let window = g.window;
+    let progress = g.progress;
+    Going {
+        progress: Progress {
+            offered: progress.offered + 1,
+            counted: progress.counted + 1,
+            end: End::None,
+            held: x,
+        },
+        row: g.row,
+        phase: g.phase,
+        window,
+        open_row: g.row,
+        open_phase: g.phase,
+        position: g.position,
+        until: g.until,
+    }
+}
+
+// A sample of a cycle that counts: its interval is open.
+pub fn counted_by(cycle: &[u8], w: u32, y: Method, g: Going, x: Moment) -> Going
+    requires { ⌜ Counts (now cycle) w y g × (g .row < mostCycles) ⌝ }
+    ensures { λ r. ⌜ r ≡ standing (now (cycle .entry)) w y (countedOne (g .progress) x) ⌝ }
 {
     let position = g.position;
     if g.until <= position + 1 {
-        return turned_by(cycle, w, g, x);
+        return turned_by(cycle, w, y, g, x);
     }
     let window = g.window;
     let progress = g.progress;
@@ -156,11 +283,11 @@ pub fn counted_by(cycle: &[u8], w: u32, g: Going, x: Moment) -> Going
             held: x,
         },
         row: g.row,
-        position: position + 1,
         phase: g.phase,
         window: shift(cycle, w, position, window),
-        until: g.until,
         open_row: g.row,
         open_phase: g.phase,
+        position: position + 1,
+        until: g.until,
     }
 }

@@ -1,2 +1,2 @@
--- The limits of amounts.
+-- The limits of amounts and methods.
 pub mod Limits

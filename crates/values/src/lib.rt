@@ -1,8 +1,10 @@
 // The values of samples, tolerances and amounts: their limits, and what a run takes of a sample.
 use rules::Amounts;
 use rules::Charge;
+use rules::Method;
 use rules::Moment;
 use rules::Sample;
+use rules::Stretches;
 use rules::Tolerances;
 use rules::limits::LEAST_CURRENT;
 use rules::limits::LEAST_DRAWN;
@@ -12,6 +14,7 @@ use rules::limits::MOST_ALLOWANCE;
 use rules::limits::MOST_CHARGE;
 use rules::limits::MOST_CURRENT;
 use rules::limits::MOST_DRAWN;
+use rules::limits::MOST_OFFERED;
 use rules::limits::MOST_SPEED;
 use rules::limits::MOST_SPEED_TOLERANCE;
 use rules::limits::MOST_TIME_TOLERANCE;
@@ -20,10 +23,10 @@ use rules::limits::MOST_TRANSFER_IN;
 use rules::limits::MOST_VOLTAGE;
 ghost use mathlib.Core.Path.{_≡_};
 ghost use Rattle.rules.specs.Words.{between};
-ghost use Rattle.rules.specs.Bench.{isSample, tolerable, drawn, momentOf};
+ghost use Rattle.rules.specs.Bench.{isSample, tolerable, drawn, momentOf, areStretches};
 ghost use Rattle.rules.specs.Closing.{isTransferIn, isCharge};
 ghost use Rattle.laws.specs.Beside.{isMoment, isTransfer};
-ghost use Rattle.values.specs.Limits.{areAmounts};
+ghost use Rattle.values.specs.Limits.{areAmounts, isMethod};
 
 pub fn is_between(lo: i64, hi: i64, z: i64) -> bool
     ensures { λ r. ⌜ r ≡ between lo hi z ⌝ }
@@ -75,6 +78,32 @@ pub fn is_tolerable(t: Tolerances) -> bool
         return false;
     }
     t.allowance <= MOST_ALLOWANCE
+}
+
+// Whether M's length and E's set speed are within their limits.
+pub fn are_stretches(x: Stretches) -> bool
+    ensures { λ r. ⌜ r ≡ areStretches x ⌝ }
+{
+    if x.length < 1 {
+        return false;
+    }
+    if MOST_OFFERED < x.length {
+        return false;
+    }
+    if x.speed < 1 {
+        return false;
+    }
+    x.speed <= MOST_SPEED as u32
+}
+
+// Whether the method's stretches, if it has any, are within their limits.
+pub fn is_method(y: Method) -> bool
+    ensures { λ r. ⌜ r ≡ isMethod y ⌝ }
+{
+    match y {
+        Method::Regular => true,
+        Method::Shortened(x) => are_stretches(x),
+    }
 }
 
 // Whether the moment is such as a sample within its limits brings.

@@ -1,4 +1,8 @@
-//! Which places of the rules a record shows, by name.
+//! Which places of the rules a record shows, by name. What both methods have is
+//! asked for by two names.
+
+mod shortened;
+mod stretches;
 
 use second::closing::{close, recharge};
 use second::field::{cut, signed_number, Cut};
@@ -8,26 +12,62 @@ use second::run::{End, Run};
 /// Whether the record shows a place, and the place's name.
 pub type Place = (bool, &'static str);
 
+/// A place with the name that it has in the record's method.
+pub type Named = (bool, String);
+
 /// The places that the record is asked for.
-pub fn places(bytes: &[u8]) -> Vec<Place> {
+pub fn places(bytes: &[u8]) -> Vec<Named> {
     let read = read(bytes);
-    let mut all = field_places(bytes, &read);
-    all.extend(
-        read.as_ref().err().and_then(|refused| refused_places(bytes, refused)).unwrap_or_default(),
-    );
-    if let Ok(record) = &read {
-        let run = Run::drive(&record.cycle, &record.tolerances, &record.samples);
-        all.extend(run_places(record, &run));
-        all.extend(end_places(record, &run));
-        all.extend(stop_places(record, &run));
-        all.extend(limit_places(record, &run));
-        if run.finished.len() >= 3 {
-            all.extend(closing_places(record, &run));
-            all.extend(range_places(record, &run));
-            all.extend(recharge_places(record, &run));
-        }
+    let mut all = named("", field_places(bytes, &read));
+    all.extend(named("field 8: ", stretches::places(bytes, &read)));
+    match &read {
+        Ok(record) => all.extend(record_places(record)),
+        Err(refused) => all.extend(refused_places(bytes, refused).unwrap_or_default()),
     }
     all
+}
+
+fn named(method: &str, places: Vec<Place>) -> Vec<Named> {
+    places.into_iter().map(|(shown, place)| (shown, format!("{method}{place}"))).collect()
+}
+
+fn method(record: &Record) -> &'static str {
+    if record.stretches.is_some() {
+        "shortened: "
+    } else {
+        ""
+    }
+}
+
+fn record_places(record: &Record) -> Vec<Named> {
+    let run = record.run();
+    let mut all = run_places(record, &run);
+    match &record.stretches {
+        Some(stretches) => all.extend(shortened::places(record, stretches, &run)),
+        None => {
+            all.extend(end_places(record, &run));
+            all.extend(stop_places(record, &run));
+            all.extend(limit_places(record, &run));
+        }
+    }
+    if record.close(&run) != Err(10) {
+        all.extend(closing_places(record, &run));
+        all.extend(range_places(record, &run));
+        all.extend(recharge_places(record, &run));
+    }
+    named(method(record), all)
+}
+
+/// The number of the first sample of each cycle.
+fn first_samples(record: &Record) -> Vec<usize> {
+    let positions = record.cycle.positions() as usize;
+    match &record.stretches {
+        None => (0..64).map(|cycle| cycle * positions).collect(),
+        Some(stretches) => {
+            let behind = 2 * positions + stretches.length;
+            vec![0, positions, behind, behind + positions]
+        }
+    }
 }
 
 /// Field 6 at its limits, which are those before it is doubled; and blocks of 1.
@@ -61,7 +101,7 @@ fn field_places(bytes: &[u8], read: &Result<Record, Refused>) -> Vec<Place> {
 }
 
 /// A block refused 5 or 6 behind a stop, or with the sample after cycle 64.
-fn refused_places(bytes: &[u8], refused: &Refused) -> Option<Vec<Place>> {
+fn refused_places(bytes: &[u8], refused: &Refused) -> Option<Vec<Named>> {
     let mut left = bytes;
     for _ in 1..refused.field {
         let Cut::Whole(_, rest) = cut(left) else { return None };
@@ -69,23 +109,28 @@ fn refused_places(bytes: &[u8], refused: &Refused) -> Option<Vec<Place>> {
     }
     let Cut::Whole(block, _) = cut(left) else { return None };
     let record = read(&bytes[..bytes.len() - left.len()]).ok()?;
-    let run = Run::drive(&record.cycle, &record.tolerances, &record.samples);
-    let stop = run.end == End::Stop;
-    let offered = record.samples.len() + block.value.len().saturating_sub(21) / 6;
-    let limit = !stop && offered > 64 * record.cycle.positions() as usize;
-    Some(vec![
+    let stop = record.run().end == End::Stop;
+    let mut all = vec![
         (refused.number == 5 && stop, "refused 5 behind a stop"),
         (refused.number == 6 && stop, "refused 6 behind a stop"),
-        (refused.number == 5 && limit, "refused 5 after cycle 64"),
-        (refused.number == 6 && limit, "refused 6 after cycle 64"),
-    ])
+    ];
+    if record.stretches.is_none() {
+        let offered = record.samples.len() + block.value.len().saturating_sub(21) / 6;
+        let limit = !stop && offered > 64 * record.cycle.positions() as usize;
+        all.extend([
+            (refused.number == 5 && limit, "refused 5 after cycle 64"),
+            (refused.number == 6 && limit, "refused 6 after cycle 64"),
+        ]);
+    }
+    Some(named(method(&record), all))
 }
 
 fn run_places(record: &Record, run: &Run) -> Vec<Place> {
     let closed = &record.samples[..run.closed];
     let earlier: i64 = closed.iter().map(|sample| 2 * sample.drawn()).sum();
     let positions = record.cycle.positions() as usize;
-    let distance_told = run.finished.iter().zip(closed.chunks(positions)).any(|(cycle, lap)| {
+    let distance_told = run.finished.iter().zip(first_samples(record)).any(|(cycle, first)| {
+        let lap = &closed[first..first + positions];
         cycle.distance != lap.iter().map(|sample| 2 * i128::from(sample.speed)).sum()
     });
     vec![
@@ -149,12 +194,13 @@ fn limit_places(record: &Record, run: &Run) -> Vec<Place> {
         (limit && offered > most + 1, "64 cycles and more samples after"),
         (far, "the sample after cycle 64 is outside"),
         (far && record.tolerances.allowance == 0, "the sample after cycle 64 would stop the run"),
+        (limit && record.close(run).is_ok(), "limit and figures"),
     ]
 }
 
 /// Both sides of the limits of 11 and 12.
 fn closing_places(record: &Record, run: &Run) -> Vec<Place> {
-    let energy = record.before + run.drawn;
+    let energy = record.energy(run);
     let closing = close(&run.finished, energy);
     let (good, twelve) = (closing.is_ok() || closing == Err(13), closing == Err(12));
     let first_two = run.finished[0].energy + run.finished[1].energy;
@@ -165,7 +211,6 @@ fn closing_places(record: &Record, run: &Run) -> Vec<Place> {
         (closing == Err(11) && least > 0 && energy == first_two - 1, "E is e1 + e2 less 1"),
         (good && energy == first_two, "E is e1 + e2 and good"),
         (good && run.end == End::Stop, "stop and figures"),
-        (good && run.end == End::Limit, "limit and figures"),
     ];
     for cycle in run.finished.iter().filter(|_| good || twelve) {
         let q = (cycle.distance > 0).then(|| 100 * cycle.energy / cycle.distance);
@@ -183,7 +228,7 @@ fn closing_places(record: &Record, run: &Run) -> Vec<Place> {
 
 /// Both sides of range 1.
 fn range_places(record: &Record, run: &Run) -> Vec<Place> {
-    let energy = record.before + run.drawn;
+    let energy = record.energy(run);
     let range = |energy| close(&run.finished, energy).map(|figures| figures.range);
     vec![
         (range(energy) == Ok(1), "range 1"),
@@ -194,7 +239,7 @@ fn range_places(record: &Record, run: &Run) -> Vec<Place> {
 
 /// Both sides of the limits of the recharge figure.
 fn recharge_places(record: &Record, run: &Run) -> Vec<Place> {
-    let energy = record.before + run.drawn;
+    let energy = record.energy(run);
     let Ok(figures) = close(&run.finished, energy) else {
         return Vec::new();
     };

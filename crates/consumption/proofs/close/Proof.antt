@@ -12,7 +12,7 @@ use mir.Val.{SFits, toZ}
 use Rattle.rules.specs.Words.{allBelow, unless, up}
 use Rattle.numbers.specs.Whole.{Sized}
 use Rattle.numbers.proofs.Tests.{pass, stop, tests, settled-answer}
-use Rattle.numbers.proofs.Whole.{of-nat, weaken, sized-add, le-not, abs-is}
+use Rattle.numbers.proofs.Whole.{of-nat, sized-add, le-not, abs-is}
 use Rattle.numbers.proofs.Signed.{sfits, read}
 use Rattle.rules.specs.Closing.{isRate, rateOf, closingRefusal, closingFigures}
 use Rattle.laws.specs.Answers.{gives, refuses, figuredSaid, closingSaid}
@@ -27,9 +27,9 @@ use Rattle.consumption.proofs.Gathers.{Tested, energy-at, finished-ener
 use Rattle.consumption.proofs.close.Statement.{statement}
 use Rattle.consumption.proofs.close.Tie as tie
 
--- E, e_c and q_c
+-- E, e_c, q_c, and the chain of refusals
 abbrev E : tie.Start → ℤ
-E s = s .args .a .before +ℤ energyAll (s .args .ledger .now)
+E s = s .args .a .before +ℤ (energyAll (s .args .ledger .now) +ℤ s .args .beside)
 
 abbrev e : tie.Start → ℕ → ℤ
 e s = energyIn (s .args .ledger .now)
@@ -37,25 +37,35 @@ e s = energyIn (s .args .ledger .now)
 abbrev q : tie.Start → ℕ → ℕ
 q s = rateOf (energyIn (s .args .ledger .now)) (distanceIn (s .args .ledger .now))
 
+abbrev refusal : tie.Start → ℕ
+refusal s = closingRefusal (E s) (s .args .n) (e s) (distanceIn (s .args .ledger .now)) (s .args .asked)
+
 -- a refusal of the chain is the answer
-refused-so : (s : tie.Start) {k : ℕ} → suc k ≡ closingRefusal (E s) (s .args .n) (e s) (distanceIn (s .args .ledger .now))
-    → refuses (suc k) ≡ closingSaid (closingOn (s .args .ledger .now) (s .args .n) (s .args .a))
+refused-so : (s : tie.Start) {k : ℕ} → suc k ≡ refusal s
+    → refuses (suc k) ≡ closingSaid (closingOn (s .args .ledger .now) (s .args .beside) (s .args .asked) (s .args .n) (s .args .a))
 refused-so s {k} h =
     let figures = closingFigures (E s) (s .args .n) (e s) (distanceIn (s .args .ledger .now)) (s .args .a .after) (s .args .a .charge) in
-    settled-answer refuses (gives (figuredSaid figures)) h (λ (z : suc k ≡ 0). omega arith) ∙ sym (closing-or (closingRefusal (E s) (s .args .n) (e s) (distanceIn (s .args .ledger .now))) figures)
+    settled-answer refuses (gives (figuredSaid figures)) h (λ (z : suc k ≡ 0). omega arith) ∙ sym (closing-or (refusal s) figures)
 
 limits : (s : tie.Start) → InLimits (s .args .a)
-limits s = in-limits (s .args .a) (s .pre .2)
+limits s = in-limits (s .args .a) (s .pre .0 .2)
 
 returns : tie.Need-returns
 unfolding closingRefusal
 returns c = refused-so (c .before) (stop _ (omega tests))
 
 gather-cycles-requires : tie.Need-gather-cycles-requires
-gather-cycles-requires c κs = let s = c .before in (s .pre .0, omega arith, s .pre .1)
+gather-cycles-requires c κs = let s = c .before in (s .pre .0 .0, omega arith, s .pre .0 .1)
 
 abbrev entry : tie.After-gather-cycles → tie.Start
 entry c = c .before .before
+
+-- as many cycles are finished as the method asks for, and so three at least
+enough : (c : tie.After-gather-cycles) → entry c .args .asked ≤ entry c .args .n
+enough c = c .before .if1 .left
+
+three : (c : tie.After-gather-cycles) → 3 ≤ entry c .args .n
+three c = omega (arith, enough c, entry c .pre .1 .1)
 
 returns-2 : tie.Need-returns-2
 unfolding closingRefusal
@@ -77,12 +87,15 @@ begin c = entry (found c)
 before-read : (c : tie.After-struct-told) → machine (begin c .args .a .before) ≡ begin c .args .a .before
 before-read c = read (sfits w64 tt (limits (begin c) .before))
 
+beside-read : (c : tie.After-struct-told) → machine (begin c .args .beside) ≡ begin c .args .beside
+beside-read c = read (begin c .fits .beside)
+
 whole-energy-requires : tie.Need-whole-energy-requires
 whole-energy-requires c κs =
     let s = begin c in
     let l = s .args .ledger .now in
-    let finished = ap (λ (x : Gathered). pos (x .energy)) (found c .gather-cycles .ensures) ∙ finished-energy l (s .args .n) (s .pre .0) (s .pre .1) (drawn (c .before)) in
-    ((s .pre .0, s .pre .1), (finished, rw (before-read c) (limits s .before)))
+    let finished = ap (λ (x : Gathered). pos (x .energy)) (found c .gather-cycles .ensures) ∙ finished-energy l (s .args .n) (s .pre .0 .0) (s .pre .0 .1) (drawn (c .before)) in
+    ((s .pre .0 .0, s .pre .0 .1), (finished, rw (before-read c) (limits s .before), rw (beside-read c) (s .pre .1 .0)))
 
 -- E, and the sum of the first two energies
 module _ (c : tie.After-struct-known2) where
@@ -93,10 +106,12 @@ module _ (c : tie.After-struct-known2) where
   start = begin (formed .before)
 
   whole-sized : Sized mostWhole (E start)
-  whole-sized = weaken (omega arith) (sized-add (limits start .before) (energy-all-sized (start .args .ledger .now) (start .pre .0)))
+  whole-sized = sized-add (limits start .before) (sized-add (energy-all-sized (start .args .ledger .now) (start .pre .0 .0)) (start .pre .1 .0))
 
   total-is : formed .whole-energy .result ≡ E start
-  total-is = formed .whole-energy .ensures ∙ ap (λ (z : ℤ). z +ℤ energyAll (start .args .ledger .now)) (before-read (formed .before))
+  total-is =
+      formed .whole-energy .ensures
+      ∙ (λ i. before-read (formed .before) i +ℤ (energyAll (start .args .ledger .now) +ℤ beside-read (formed .before) i))
 
   total-read : machine (formed .whole-energy .result) ≡ E start
   total-read = read (record { sfits = formed .whole-energy .ok }) ∙ total-is
@@ -109,8 +124,8 @@ module _ (c : tie.After-struct-known2) where
 
   first-at : (k : ℕ) → k < 3 → Positive mostDrawn (e start k)
   first-at k h =
-      let three : 3 ≤ start .args .n = found (formed .before) .before .if1 .left in
-      energy-at (start .args .ledger .now) (start .args .n) (start .pre .0) (start .pre .1) (drawn (formed .before .before)) k (omega arith)
+      energy-at (start .args .ledger .now) (start .args .n) (start .pre .0 .0) (start .pre .0 .1) (drawn (formed .before .before)) k
+      (omega (arith, three (found (formed .before))))
 
   two-is : two ≡ up (e start 0) + up (e start 1)
   two-is = ap (λ (x : Gathered). x .first .energy + x .second .energy) (found (formed .before) .gather-cycles .ensures)
@@ -159,7 +174,7 @@ returns-4 c =
     let on = c .before .before in
     let known = on .before in
     refused-so (start known)
-    (pass 10 (le-leb 3 _ (found (formed known .before) .before .if1 .left))
+    (pass 10 (le-leb _ _ (enough (found (formed known .before))))
     (pass 11 (drawn (formed known .before .before))
     (pass 11 (fits on) (unrated _ _ (sym (rated-is (c .before)) ∙ not-true _ (c .if4 .taken))))))
 
@@ -173,9 +188,9 @@ module _ (c : tie.Else4) where
 
   nothing-refused : Tested (s .args .ledger .now) (s .args .n) (E s)
   nothing-refused = record {
-    bounded = s .pre .0;
-    most = s .pre .1;
-    three = found (formed known .before) .before .if1 .left;
+    bounded = s .pre .0 .0;
+    most = s .pre .0 .1;
+    three = three (found (formed known .before));
     drawn = drawn (formed known .before .before);
     fits = fits (c .before .before);
     rated = sym (rated-is (c .before)) ∙ not-false _ (c .if4 .left);
@@ -209,7 +224,7 @@ returns-5 c =
     let a = s on .args in
     c .finish .ensures
     ∙ (λ i. finishedBy (gathered-is on i) (a .n) (total-read (known on) i) (after-read on i) (a .a .charge))
-    ∙ finished-is (nothing-refused on) (a .a .after) (a .a .charge)
+    ∙ finished-is (nothing-refused on) (a .a .after) (a .asked) (enough (found (formed (known on) .before))) (a .a .charge)
 
 pub close-spec : {M : Type 1} → statement M
 close-spec =

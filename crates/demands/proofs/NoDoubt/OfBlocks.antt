@@ -28,4 +28,4 @@ pub numbered-refusal-one-answer : OneAnswer numbered_refusal.ended numbered_refu
 numbered-refusal-one-answer κs a r r′ w w′ p q = (same p q, refl)
 
 pub take-block-one-answer : OneAnswer take_block.ended take_block.Reads.Learnt
-take-block-one-answer κs a r r′ w w′ p q = (ap (λ y. y .answer) (same p q), λ i. (tt, (tt, (tt, (same p q i .memory .ledger, (same p q i .memory .map, (tt, tt)))))))
+take-block-one-answer κs a r r′ w w′ p q = (ap (λ y. y .answer) (same p q), λ i. (tt, (tt, (tt, (tt, (same p q i .memory .ledger, (same p q i .memory .map, (tt, tt))))))))

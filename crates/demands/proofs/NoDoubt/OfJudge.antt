@@ -15,7 +15,7 @@ use Rattle.demands.specs.Calls.{AsksNothing, OneAnswer}
 use Rattle.demands.proofs.NoDoubt.{same}
 
 pub start-one-answer : OneAnswer start.ended start.Reads.Learnt
-start-one-answer κs a r r′ w w′ p q = (same-answer r r′ (ap (λ (y : Left (Said Run)). y .answer) (same p q)), λ i. (tt, (tt, (same p q i .memory .ledger, (same p q i .memory .map, tt)))))
+start-one-answer κs a r r′ w w′ p q = (same-answer r r′ (ap (λ (y : Left (Said Run)). y .answer) (same p q)), λ i. (tt, (tt, (tt, (same p q i .memory .ledger, (same p q i .memory .map, tt))))))
 
 pub start-asks-nothing : AsksNothing start.ended start.Reads.Asked
 start-asks-nothing κs a = tt

@@ -9,7 +9,7 @@ use Rattle.reading.proofs.all_fields
 use Rattle.state.specs.State.{Left}
 use Rattle.reading.specs.declared.Along.{Along}
 use Rattle.reading.specs.Answers.{ReadSaid, AllSaid}
-use Rattle.reading.proofs.Taking.{same-stepped, same-passage}
+use Rattle.reading.proofs.Answered.{same-stepped, same-passage}
 use Rattle.demands.specs.Calls.{AsksNothing, OneAnswer}
 use Rattle.demands.proofs.NoDoubt.{same}
 

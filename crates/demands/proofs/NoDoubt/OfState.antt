@@ -7,6 +7,9 @@ use Rattle.state.proofs.sample_refusal
 use Rattle.state.proofs.ends_of
 use Rattle.state.proofs.last_cycle
 use Rattle.state.proofs.cycles_of
+use Rattle.state.proofs.with_method
+use Rattle.state.proofs.closed_of
+use Rattle.state.proofs.beside_of
 use Rattle.demands.specs.Calls.{AsksNothing, OneAnswer}
 use Rattle.demands.proofs.NoDoubt.{same}
 
@@ -36,3 +39,18 @@ last-cycle-one-answer κs a r r′ w w′ p q = (same (p .0) (q .0), refl)
 
 pub cycles-of-one-answer : OneAnswer cycles_of.ended cycles_of.Reads.Learnt
 cycles-of-one-answer κs a r r′ w w′ p q = (same (p .0) (q .0), refl)
+
+pub with-method-one-answer : OneAnswer with_method.ended with_method.Reads.Learnt
+with-method-one-answer κs a r r′ w w′ p q = (same p q, refl)
+
+pub with-method-asks-nothing : AsksNothing with_method.ended with_method.Reads.Asked
+with-method-asks-nothing κs a = tt
+
+pub closed-of-one-answer : OneAnswer closed_of.ended closed_of.Reads.Learnt
+closed-of-one-answer κs a r r′ w w′ p q = (same p q, refl)
+
+pub closed-of-asks-nothing : AsksNothing closed_of.ended closed_of.Reads.Asked
+closed-of-asks-nothing κs a = tt
+
+pub beside-of-one-answer : OneAnswer beside_of.ended beside_of.Reads.Learnt
+beside-of-one-answer κs a r r′ w w′ p q = (same p q, refl)

@@ -9,6 +9,8 @@ use Rattle.values.proofs.are_amounts
 use Rattle.values.proofs.is_between
 use Rattle.values.proofs.is_sample
 use Rattle.values.proofs.moment_of
+use Rattle.values.proofs.are_stretches
+use Rattle.values.proofs.is_method
 use Rattle.demands.specs.Calls.{AsksNothing, OneAnswer}
 use Rattle.demands.proofs.NoDoubt.{same}
 
@@ -59,3 +61,15 @@ moment-of-one-answer κs a r r′ w w′ p q = (same p q, refl)
 
 pub moment-of-asks-nothing : AsksNothing moment_of.ended moment_of.Reads.Asked
 moment-of-asks-nothing κs a = tt
+
+pub are-stretches-one-answer : OneAnswer are_stretches.ended are_stretches.Reads.Learnt
+are-stretches-one-answer κs a r r′ w w′ p q = (same p q, refl)
+
+pub are-stretches-asks-nothing : AsksNothing are_stretches.ended are_stretches.Reads.Asked
+are-stretches-asks-nothing κs a = tt
+
+pub is-method-one-answer : OneAnswer is_method.ended is_method.Reads.Learnt
+is-method-one-answer κs a r r′ w w′ p q = (same p q, refl)
+
+pub is-method-asks-nothing : AsksNothing is_method.ended is_method.Reads.Asked
+is-method-asks-nothing κs a = tt

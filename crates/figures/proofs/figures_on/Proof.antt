@@ -6,7 +6,8 @@ use mir.Syntax.{w64}
 use mir.Val.{SFits}
 use Rattle.numbers.proofs.Signed.{read}
 use Rattle.laws.proofs.Answers.{same-closing}
-use Rattle.state.specs.Refusals.{cyclesBy}
+use Rattle.state.specs.Refusals.{besideBy, cyclesBy}
+use Rattle.rules.specs.Closing.{leastFinished}
 use Rattle.consumption.specs.Figures.{closingOn}
 use Rattle.judge.specs.declared.Sums.{Sums}
 use Rattle.figures.proofs.figures_on.Statement.{statement}
@@ -32,7 +33,7 @@ returns c =
     let reading = a .reading in
     let sums = summed .sums-of .ensures in
     let outside = read (outside-fits summed) ∙ ap (λ (x : Sums). x .outside) sums in
-    let by-rules = closingOn (a .ledger .now) (cyclesBy (reading .run)) (reading .amounts) in
+    let by-rules = closingOn (a .ledger .now) (besideBy (reading .run)) (leastFinished (reading .run .track .method)) (cyclesBy (reading .run)) (reading .amounts) in
     let closing = same-closing (c .before .close-on .result) by-rules (c .before .close-on .ensures) in
     let drawn = read (drawn-fits summed) ∙ ap (λ (x : Sums). x .drawn) sums in
     λ i. record {

@@ -45,13 +45,26 @@ returns-4 c =
     (pass _ (is-valid (c .before .before))
     (stop _ (sym (c .before .is-tolerable .ensures) ∙ not-true _ (c .if4 .taken)))))
 
+is-method-requires : tie.Need-is-method-requires
+is-method-requires c κs = search needs
+
 returns-5 : tie.Need-returns-5
 unfolding startRefusal
 returns-5 c =
     pass _ (omega tests)
     (pass _ (omega tests)
-    (pass _ (is-valid (c .before .before))
-    (pass _ (is-tolerated c) refl)))
+    (pass _ (is-valid (c .before .before .before .before))
+    (pass _ (is-tolerated (c .before .before))
+    (stop _ (sym (c .before .is-method .ensures) ∙ not-true _ (c .if5 .taken))))))
+
+returns-6 : tie.Need-returns-6
+unfolding startRefusal
+returns-6 c =
+    pass _ (omega tests)
+    (pass _ (omega tests)
+    (pass _ (is-valid (c .before .before .before .before))
+    (pass _ (is-tolerated (c .before .before))
+    (pass _ (sym (c .before .is-method .ensures) ∙ not-false _ (c .if5 .left)) refl))))
 
 pub start-refusal-spec : {M : Type 1} → statement M
 start-refusal-spec =
@@ -63,4 +76,6 @@ start-refusal-spec =
     returns-3
     is-tolerable-requires
     returns-4
-    returns-5)
+    is-method-requires
+    returns-5
+    returns-6)

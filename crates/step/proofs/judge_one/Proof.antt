@@ -1,19 +1,24 @@
 -- `step::judge_one` meets its contract, put together from what each callee ensures.
 -- Assumes nothing.
-use mathlib.Core.Bool.{Bool}
+use mathlib.Core.Bool.{Bool, true, false, cond}
 use mathlib.Core.List.{List}
-use mathlib.Core.Path.{_≡_, sym, _∙_}
-use Prim.Native.Nat.{ℕ}
+use mathlib.Core.Path.{_≡_, sym, ap, _∙_}
+use Prim.Native.Nat.{ℕ, _*_}
 use native.Mathlib.Omega.{arith}
 use borrow.Author.Needs.{needs}
 use lib.IntN.{ℤ}
-use Rattle.rules.specs.Regular.{plan, courseOf}
-use Rattle.state.specs.State.{left}
-use Rattle.step.specs.Step.{State, Going, outNow, judge, standing, Counts, withMemory, leftAt}
+use Rattle.rules.specs.declared.Method.{Method}
+use Rattle.rules.specs.declared.End.the-variants.{Stop as stop}
+use Rattle.rules.specs.Plan.{plan}
+use Rattle.ledger.specs.Row.{isOver}
+use Rattle.state.specs.State.{Left, left}
+use Rattle.state.specs.Refusals.{notStretched}
+use Rattle.step.specs.Step.{State, endedBy, countedOne, outNow}
+use Rattle.step.specs.Where.{Going, standing, progressed, Counts, withMemory, taking, oneJudged}
 use Rattle.laws.proofs.Sound.{Sound, sound}
 use Rattle.laws.proofs.Bounds.{within}
-use Rattle.step.proofs.Standing.{position-most, row-small}
-use Rattle.step.proofs.Steps.{out-in, ledger-is, map-is, stops-is, goes-is}
+use Rattle.step.proofs.Standing.{position-most}
+use Rattle.step.proofs.Judging.{out-in, judged-as}
 use Rattle.step.proofs.judge_one.Statement.{statement}
 use Rattle.step.proofs.judge_one.Tie as tie
 
@@ -27,15 +32,11 @@ l s = s .args .ledger .now
 abbrev m : tie.Start → List ℕ
 m s = s .args .map .now
 
-counts : (s : tie.Start) → Counts (b s) (s .args .t .time) (s .args .g)
+counts : (s : tie.Start) → Counts (b s) (s .args .t .time) (s .args .y) (s .args .g)
 counts s = s .pre .0 .0
 
 good : (s : tie.Start) → Sound (b s)
 good s = sound (b s) (counts s .sound)
-
--- the state after the sample, by the rules
-abbrev after : tie.Start → State
-after s = judge (courseOf (plan (b s) (s .args .t))) (withMemory (s .args .g) (l s) (m s)) (s .args .x)
 
 -- after the three calls
 abbrev entry : tie.After-ledger → tie.Start
@@ -46,22 +47,30 @@ abbrev out : tie.After-ledger → Bool
 out c = c .before .before .before .before .before .before .before .is-outside .result
 
 out-known : (c : tie.After-ledger)
-    → out c ≡ outNow (courseOf (plan (b (entry c)) (entry c .args .t))) (withMemory (entry c .args .g) (l (entry c)) (m (entry c))) (entry c .args .x)
+    → out c ≡ outNow (plan (b (entry c)) (entry c .args .t) (entry c .args .y)) (withMemory (taking (entry c .args .g) notStretched) (l (entry c)) (m (entry c))) (entry c .args .x)
 out-known c =
     let s = entry c in
-    c .before .before .before .before .before .before .before .is-outside .ensures ∙ out-in (b s) (s .args .t) (s .args .g) (l s) (m s) (s .args .x) (counts s)
+    c .before .before .before .before .before .before .before .is-outside .ensures
+    ∙ out-in (b s) (s .args .t) (s .args .y) (s .args .g) notStretched (l s) (m s) (s .args .x) (counts s) (s .pre .0 .1) (omega arith)
 
--- what is left, where the run stands at r
-by : (c : tie.After-ledger) (r : Going) → r ≡ standing (b (entry c)) (entry c .args .t .time) (after (entry c) .progress)
-    → left r (c .before .count-in-cycle .last .0) (c .before .before .before .before .before .mark-sample .last .0) ≡ leftAt (plan (b (entry c)) (entry c .args .t)) (after (entry c))
-by c r e =
+-- what is left of a state
+abbrev leftBy : List ℕ → ℕ → Method → State → Left Going
+leftBy b w y z = record { answer = standing b w y (z .progress); memory = z .memory }
+
+-- what is left, where the run stands at r, and v says whether it stops
+by : (c : tie.After-ledger) (v : Bool) → isOver (9 * entry c .args .g .row) (l (entry c)) (out c) (entry c .args .t .allowance) ≡ v → (r : Going)
+    → r ≡ standing (b (entry c)) (entry c .args .t .time) (entry c .args .y) (cond v (endedBy (entry c .args .g .progress) stop) (countedOne (entry c .args .g .progress) (entry c .args .x)))
+    → left r (c .before .count-in-cycle .last .0) (c .before .before .before .before .before .mark-sample .last .0)
+    ≡ oneJudged (b (entry c)) (entry c .args .t) (entry c .args .y) (entry c .args .g) (l (entry c)) (m (entry c)) (entry c .args .x)
+by c v q r e =
     let s = entry c in
-    let ledger = c .before .count-in-cycle .ensures .1 ∙ ledger-is (b s) (s .args .t) (s .args .g) (l s) (m s) (s .args .x) (counts s) (out c) (out-known c) in
-    let map = c .before .before .before .before .before .mark-sample .ensures ∙ map-is (b s) (s .args .t) (s .args .g) (l s) (m s) (s .args .x) (counts s) (out c) (out-known c) in
-    λ i. left (e i) (ledger i) (map i)
+    let ledger = c .before .count-in-cycle .ensures .1 in
+    let map = c .before .before .before .before .before .mark-sample .ensures in
+    (λ i. left (e i) (ledger i) (map i))
+    ∙ ap (leftBy (b s) (s .args .t .time) (s .args .y)) (sym (judged-as (b s) (s .args .t) (s .args .y) (s .args .g) notStretched (l s) (m s) (s .args .x) (counts s) (s .pre .0 .1) (omega arith) (out c) (out-known c) v q))
 
 cast-is-outside : tie.Need-cast-is-outside
-cast-is-outside c = let s = c .before .before .before .before in omega (arith, within (s .args .x) (s .pre .0 .1) .speed)
+cast-is-outside c = let s = c .before .before .before .before in omega (arith, within (s .args .x) (s .pre .0 .2) .speed)
 
 is-outside-requires : tie.Need-is-outside-requires
 is-outside-requires c κs = search needs
@@ -72,12 +81,12 @@ cast-mark-sample c = search needs
 mark-sample-requires : tie.Need-mark-sample-requires
 mark-sample-requires c κs =
     let s = c .before .before .before .before .before .before in
-    (position-most (b s) (good s) (s .args .t .time) (s .args .g) (counts s .stands), s .pre .0 .3)
+    (position-most (b s) (good s) (s .args .t .time) (s .args .y) (s .args .g) (counts s .stands), s .pre .0 .4)
 
 count-in-cycle-requires : tie.Need-count-in-cycle-requires
 count-in-cycle-requires c κs =
     let s = c .before .before .before .before .before .before .before .before .before .before in
-    ((s .pre .0 .2, row-small (b s) (good s) (s .args .t .time) (s .args .g) (counts s .stands) (counts s .room)), s .pre .1)
+    ((s .pre .0 .3, s .pre .0 .1), s .pre .1)
 
 ended-by-requires : tie.Need-ended-by-requires
 ended-by-requires c κs = search needs
@@ -92,12 +101,11 @@ returns : tie.Need-returns
 returns c =
     let a = c .before .before in
     let s = entry a in
-    by a _
-    (c .ended-by .ensures
-    ∙ stops-is (b s) (s .args .t) (s .args .g) (l s) (m s) (s .args .x) (counts s) (out a) (out-known a) (sym (a .before .count-in-cycle .ensures .0) ∙ c .before .if1 .taken))
+    by a true (sym (a .before .count-in-cycle .ensures .0) ∙ c .before .if1 .taken) _
+    (c .ended-by .ensures ∙ ap (λ (z : Going). progressed z (endedBy (s .args .g .progress) stop)) (counts s .stands))
 
 counted-by-requires : tie.Need-counted-by-requires
-counted-by-requires c κs = counts (entry (c .before))
+counted-by-requires c κs = let s = entry (c .before) in (counts s, s .pre .0 .1)
 
 same-length-3 : tie.Need-same-length-3
 same-length-3 c = search needs
@@ -108,10 +116,7 @@ same-length-4 c = search needs
 returns-2 : tie.Need-returns-2
 returns-2 c =
     let a = c .before .before in
-    let s = entry a in
-    by a _
-    (c .counted-by .ensures
-    ∙ goes-is (b s) (s .args .t) (s .args .g) (l s) (m s) (s .args .x) (counts s) (out a) (out-known a) (sym (a .before .count-in-cycle .ensures .0) ∙ c .before .if1 .left))
+    by a false (sym (a .before .count-in-cycle .ensures .0) ∙ c .before .if1 .left) _ (c .counted-by .ensures)
 
 pub judge-one-spec : {M : Type 1} → statement M
 judge-one-spec =

@@ -4,28 +4,29 @@ use mathlib.Core.Bool.{false}
 use mathlib.Core.Path.{_≡_, sym, ap, _∙_}
 use borrow.Author.Needs.{needs}
 use Rattle.laws.specs.Beside.{isOpen}
-use Rattle.rules.specs.Course.{Course}
-use Rattle.rules.specs.Regular.{plan, courseOf}
+use Rattle.rules.specs.Plan.{Plan, plan}
 use Rattle.state.specs.State.{left}
-use Rattle.step.specs.Step.{State, Going, offeredOne, progressed, withMemory, leftAt, oneTaken}
+use Rattle.step.specs.Step.{State, offeredOne}
+use Rattle.step.specs.Where.{Going, progressed, withMemory, taking, leftAt, oneTaken}
 use Rattle.step.proofs.Steps.{taken-open, taken-ended, offered-is}
 use Rattle.step.proofs.take_one.Statement.{statement}
 use Rattle.step.proofs.take_one.Tie as tie
 
--- the state at the entry, and after the sample
-abbrev before : tie.Start → State
-before s = withMemory (s .args .g) (s .args .ledger .now) (s .args .map .now)
+-- the plan, and the state at the entry
+abbrev by-plan : tie.Start → Plan
+by-plan s = plan (s .args .cycle .now) (s .args .t) (s .args .y)
 
-abbrev course : tie.Start → Course
-course s = courseOf (plan (s .args .cycle .now) (s .args .t))
+abbrev before : tie.Start → State
+before s = withMemory (taking (s .args .g) (s .args .z)) (s .args .ledger .now) (s .args .map .now)
 
 -- where it stands after a sample that is only offered, and its memory
 by : (s : tie.Start) (r : Going) → isOpen (s .args .g .progress .end) ≡ false → r ≡ progressed (s .args .g) (offeredOne (s .args .g .progress) (s .args .g .progress .end))
-    → left r (s .args .ledger .now) (s .args .map .now) ≡ oneTaken (s .args .cycle .now) (s .args .t) (s .args .g) (s .args .ledger .now) (s .args .map .now) (s .args .x)
+    → left (taking r (s .args .z)) (s .args .ledger .now) (s .args .map .now)
+    ≡ oneTaken (s .args .cycle .now) (s .args .t) (s .args .y) (taking (s .args .g) (s .args .z)) (s .args .ledger .now) (s .args .map .now) (s .args .x)
 by s r e q =
-    ap (λ (y : Going). left y (s .args .ledger .now) (s .args .map .now))
-    (q ∙ offered-is (s .args .cycle .now) (s .args .t .time) (s .args .g) (s .pre .0 .stands))
-    ∙ ap (leftAt (plan (s .args .cycle .now) (s .args .t))) (sym (taken-ended (course s) (before s) (s .args .x) e))
+    ap (λ (g : Going). left (taking g (s .args .z)) (s .args .ledger .now) (s .args .map .now))
+    (q ∙ offered-is (s .args .cycle .now) (s .args .t .time) (s .args .y) (s .args .g) (s .pre .0 .stands))
+    ∙ ap (leftAt (by-plan s)) (sym (taken-ended (by-plan s) (before s) (s .args .x) e))
 
 enum-told : tie.Need-enum-told
 enum-told c = search needs
@@ -58,8 +59,8 @@ returns c =
     let j = c .before .before .before in
     let s = j .before .before .before .before .before .before .before .before in
     j .take-open .ensures
-    ∙ ap (leftAt (plan (s .args .cycle .now) (s .args .t)))
-    (sym (taken-open (course s) (before s) (s .args .x) (ap isOpen (j .before .before .before .enum-told .given .1))))
+    ∙ ap (leftAt (by-plan s))
+    (sym (taken-open (by-plan s) (before s) (s .args .x) (ap isOpen (j .before .before .before .enum-told .given .1))))
 
 returns-2 : tie.Need-returns-2
 returns-2 c =

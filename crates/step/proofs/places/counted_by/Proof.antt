@@ -4,8 +4,8 @@ use mathlib.Core.Path.{_≡_, sym, ap, _∙_}
 use Prim.Native.Nat.{_+_, _<_}
 use native.Mathlib.Omega.{arith}
 use borrow.Author.Needs.{needs}
-use Rattle.laws.proofs.Sound.{Sound, sound}
 use Rattle.rules.specs.Bench.{mostPositions}
+use Rattle.laws.proofs.Sound.{Sound, sound}
 use Rattle.window.specs.declared.Window.{Window}
 use Rattle.window.specs.Moving.{windowOf}
 use Rattle.step.proofs.Standing.{position-is, window-is, until-is, position-most}
@@ -15,55 +15,57 @@ use Rattle.step.proofs.places.counted_by.Tie as tie
 
 module _ (c : tie.Start) where
   good : Sound (c .args .cycle .now)
-  good = sound _ (c .pre .sound)
+  good = sound _ (c .pre .0 .sound)
 
   small-position : c .args .g .position < mostPositions
-  small-position = position-most (c .args .cycle .now) good (c .args .w) (c .args .g) (c .pre .stands)
+  small-position = position-most (c .args .cycle .now) good (c .args .w) (c .args .y) (c .args .g) (c .pre .0 .stands)
 
   at-window : c .args .g .window ≡ windowOf (c .args .cycle .now) (c .args .w) (c .args .g .position)
   at-window =
-      window-is (c .args .cycle .now) good (c .args .w) (c .args .g) (c .pre .stands)
-      ∙ ap (windowOf (c .args .cycle .now) (c .args .w)) (sym (position-is (c .args .cycle .now) good (c .args .w) (c .args .g) (c .pre .stands)))
+      window-is (c .args .cycle .now) good (c .args .w) (c .args .y) (c .args .g) (c .pre .0 .stands)
+      ∙ ap (windowOf (c .args .cycle .now) (c .args .w)) (sym (position-is (c .args .cycle .now) good (c .args .w) (c .args .y) (c .args .g) (c .pre .0 .stands)))
 
   later : c .args .g .position + 1 < c .args .g .until → c .args .g .position + 1 < c .args .g .window .until
   later h =
-      let p = position-is (c .args .cycle .now) good (c .args .w) (c .args .g) (c .pre .stands) in
-      let u = until-is (c .args .cycle .now) good (c .args .w) (c .args .g) (c .pre .stands) in
-      let e = ap (λ (x : Window). x .until) (window-is (c .args .cycle .now) good (c .args .w) (c .args .g) (c .pre .stands)) in
+      let u = until-is (c .args .cycle .now) good (c .args .w) (c .args .y) (c .args .g) (c .pre .0 .stands) in
+      let e = ap (λ (x : Window). x .until) (window-is (c .args .cycle .now) good (c .args .w) (c .args .y) (c .args .g) (c .pre .0 .stands)) in
       omega arith
+
+-- where only the ends of the window move
+abbrev entry : tie.After-struct-known3 → tie.Start
+entry c = c .before .before .before .before .before .before .before
 
 add-if1 : tie.Need-add-if1
 add-if1 c = omega (arith, small-position (c .before))
 
 turned-by-requires : tie.Need-turned-by-requires
-turned-by-requires c κs = c .before .before .before .pre
+turned-by-requires c κs = search needs
 
 returns : tie.Need-returns
 returns c = search needs
 
-add-t8 : tie.Need-add-t8
-add-t8 c = omega (arith, c .before .before .before .before .before .before .pre .few)
+add-t9 : tie.Need-add-t9
+add-t9 c = search needs
 
-add-t10 : tie.Need-add-t10
-add-t10 c =
-    let start = c .before .before .before .before .before .before .before in
-    omega (arith, start .pre .room, good start .short)
-
-add-t13 : tie.Need-add-t13
-add-t13 c = search needs
+add-t11 : tie.Need-add-t11
+add-t11 c = search needs
 
 shift-requires : tie.Need-shift-requires
 shift-requires c κs =
-    let start = c .before .before .before .before .before .before .before in
+    let start = entry c in
     let near : start .args .g .position + 1 < start .args .g .until = omega arith in
-    (start .pre .sound, goes-on (start .args .cycle .now) (good start) (start .args .w) (start .args .g) (start .pre .stands) near, at-window start, later start near)
+    (start .pre .0 .sound, goes-on (start .args .cycle .now) (good start) (start .args .w) (start .args .y) (start .args .g) (start .pre .0 .stands) (start .pre .1) near, at-window start, later start near)
+
+add-t15 : tie.Need-add-t15
+add-t15 c = omega (arith, small-position (entry (c .before)))
 
 returns-2 : tie.Need-returns-2
 returns-2 c =
-    let start = c .before .before .before .before .before .before .before .before in
-    moved-is (start .args .cycle .now) (good start) (start .args .w) (start .args .g) (start .pre .stands) (omega arith) (start .args .x) (c .shift .result) (c .shift .ensures)
+    let start = entry (c .before) in
+    moved-is (start .args .cycle .now) (good start) (start .args .w) (start .args .y) (start .args .g) (start .pre .0 .stands) (start .pre .1) (omega arith)
+    (start .args .x) (c .shift .result) (c .shift .ensures)
 
 pub counted-by-spec : {M : Type 1} → statement M
 counted-by-spec =
     tie.close
-    (tie.spec add-if1 turned-by-requires returns add-t8 add-t10 add-t13 shift-requires returns-2)
+    (tie.spec add-if1 turned-by-requires returns add-t9 add-t11 shift-requires add-t15 returns-2)
