@@ -43,7 +43,8 @@ fn least_finished(y: Method) -> usize
 // The closing of a run, amounts and a ledger without 1: 10, 11, 12, 13, or the figures together.
 pub fn close_on(run: Run, amounts: Amounts, ledger: &[i64]) -> ClosingAnswer
     requires { ⌜ (isRun run ≡ true) × (areAmounts amounts ≡ true) × (bounded (now ledger) ≡ true) ⌝ }
-    ensures { λ r. ⌜ closingSaid r ≡ closingSaid (closingOn (now (ledger .entry)) (besideBy run) (leastFinished (run .track .method)) (cyclesBy run) amounts) ⌝ }
+    ensures { λ r. ⌜ closingSaid r
+        ≡ closingSaid (closingOn (now (ledger .entry)) (besideBy run) (leastFinished (run .track .method)) (cyclesBy run) amounts) ⌝ }
 {
     let n = cycles_of(run) as usize;
     let track = run.track;

@@ -5,7 +5,8 @@ use Prim.Native.Nat.{ℕ, _+_}
 use Rattle.rules.specs.Table.{behindTolerances}
 use Rattle.rules.specs.Front.{Field}
 use Rattle.rules.specs.Values.{samplesOf, momentsIn}
-use Rattle.rules.specs.Record.{Bring as Brings, Content as Comes, brought, foreign, wrong, theStretches, ownSamples, before, after, charged, contentOf, fieldContent}
+use Rattle.rules.specs.Record.{Bring as Brings, theStretches, ownSamples, before, after, charged}
+use Rattle.rules.specs.Record.{Content as Comes, brought, foreign, wrong, contentOf, fieldContent}
 pub use Rattle.contents.specs.declared.Content.{Content}
 pub use Rattle.contents.specs.declared.Bring.{Bring}
 use Rattle.contents.specs.declared.Content.the-variants.{Brought, Foreign, Refused}

@@ -17,7 +17,8 @@ use Rattle.rules.specs.Shown.{ledgerNumbers, mapWords}
 use Rattle.rules.specs.Table.{Matter, mark, number, cycle, tolerances, stretches, block, energyBefore, energyAfter, recharge, behindNumber, behindCycle, tags}
 use Rattle.rules.specs.Front.{Field}
 use Rattle.rules.specs.Machine.{Answer, taken, passed, refused, Reply, toField, notYet, noField, Ran, replyAt, run}
-use Rattle.rules.specs.Record.{Bring, nothing, aNumber, aCycle, theTolerances, theStretches, ownSamples, before, after, charged, Content, wrong, contentOf, fieldAnswer}
+use Rattle.rules.specs.Record.{Bring, nothing, aNumber, aCycle, theTolerances, theStretches, ownSamples, before, after, charged}
+use Rattle.rules.specs.Record.{Content, wrong, contentOf, fieldAnswer}
 use Rattle.rules.specs.Record.{withBefore, withAfter, withCharge}
 use Rattle.state.specs.State.{Memory}
 use Rattle.step.specs.Step.{State, samplesTaken, startOf}

@@ -10,7 +10,8 @@ use Rattle.rules.specs.Words.{unless}
 use Rattle.rules.specs.Bench.{Moment, Tolerances, Stretches, Method, byCycles, withStretches, mostPassed, areStretches}
 use Rattle.rules.specs.Cycle.{valid, startOr}
 use Rattle.rules.specs.Closing.{Amounts, absent, wh, isTransferIn, doubled, isCharge}
-use Rattle.rules.specs.Table.{Row, Matter, mark, number, cycle, tolerances, stretches, block, energyBefore, energyAfter, recharge, among, byRow, placeAfter}
+use Rattle.rules.specs.Table.{Row, Matter, mark, number, cycle, tolerances, stretches, block, energyBefore, energyAfter, recharge}
+use Rattle.rules.specs.Table.{among, byRow, placeAfter}
 use Rattle.rules.specs.Table.{atFirst, behindTolerances, tags}
 use Rattle.rules.specs.Front.{Field}
 use Rattle.rules.specs.Machine.{Answer, taken, passed, refused, End, waiting, broken, stopped, run}

@@ -190,7 +190,8 @@ records =
     -- told: stretches, with a foreign block before them; at their limits; a 6 before and a block may follow
     ∷ line (four ++ (block other 0 sample ++ brief)) (5 ∷ 1 ∷ 0 ∷ 9 ∷ 0 ∷ 0 ∷ 0 ∷ 3 ∷ 100 ∷ [])
     ∷ line (four ++ stretched longest (5 ∷ 220 ∷ [])) (5 ∷ 0 ∷ 0 ∷ 9 ∷ 0 ∷ 0 ∷ 0 ∷ 4_000_000 ∷ 1500 ∷ [])
-    ∷ line (four ++ (stretched (0 ∷ 0 ∷ 0 ∷ 1 ∷ []) (0 ∷ 1 ∷ []) ++ (energy 0 1 ++ (block me 0 sample ++ charge 15)))) (9 ∷ 0 ∷ 1 ∷ 9 ∷ 2 ∷ 0 ∷ 15 ∷ 1 ∷ 1 ∷ [])
+    ∷ line (four ++ (stretched (0 ∷ 0 ∷ 0 ∷ 1 ∷ []) (0 ∷ 1 ∷ []) ++ (energy 0 1 ++ (block me 0 sample ++ charge 15))))
+    (9 ∷ 0 ∷ 1 ∷ 9 ∷ 2 ∷ 0 ∷ 15 ∷ 1 ∷ 1 ∷ [])
     ∷ []
 
 -- 7: 4,000,000 blocks are passed over
