@@ -1,12 +1,13 @@
 // One accepted sample.
+mod counting;
 mod places;
 mod stretches;
 
+use counting::counted_by;
 use ledger::row::add_interval;
 use ledger::row::add_outside;
 use map::mark_if;
 use map::open_map;
-use places::counted_by;
 use places::ended_by;
 use places::offered_by;
 use places::open_place;

@@ -1,9 +1,9 @@
 // A sample that stands in no cycle: in M or E, or behind the last cycle of a regular run.
 use crate::Going;
 use crate::Taken;
+use crate::counting::moved_by;
+use crate::counting::resumed_by;
 use crate::places::ended_by;
-use crate::places::moved_by;
-use crate::places::resumed_by;
 use cycle::seconds_of;
 use rules::End;
 use rules::Method;

@@ -1,4 +1,4 @@
--- `step::places::resumed_by` meets its contract: the window of the first position, worked out anew.
+-- `step::counting::resumed_by` meets its contract: the window of the first position, worked out anew.
 -- Assumes nothing.
 use mathlib.Core.Path.{refl}
 use native.Mathlib.Omega.{arith}
@@ -7,8 +7,8 @@ use Rattle.rules.specs.Shortened.{beside}
 use Rattle.laws.proofs.Sound.{Sound, sound, real}
 use Rattle.step.specs.Step.{countedOne}
 use Rattle.step.proofs.Placing.{until-made}
-use Rattle.step.proofs.places.resumed_by.Statement.{statement}
-use Rattle.step.proofs.places.resumed_by.Tie as tie
+use Rattle.step.proofs.counting.resumed_by.Statement.{statement}
+use Rattle.step.proofs.counting.resumed_by.Tie as tie
 
 good : (c : tie.Start) → Sound (c .args .cycle .now)
 good c = sound _ (c .pre .0)

@@ -1,4 +1,4 @@
--- `step::places::counted_by` meets its contract: all is worked out anew, or only the ends of the window move.
+-- `step::counting::counted_by` meets its contract: all is worked out anew, or only the ends of the window move.
 -- Assumes nothing.
 use mathlib.Core.Path.{_≡_, sym, ap, _∙_}
 use Prim.Native.Nat.{_+_, _<_}
@@ -10,8 +10,8 @@ use Rattle.window.specs.declared.Window.{Window}
 use Rattle.window.specs.Moving.{windowOf}
 use Rattle.step.proofs.Standing.{position-is, window-is, until-is, position-most}
 use Rattle.step.proofs.Placing.{goes-on, moved-is}
-use Rattle.step.proofs.places.counted_by.Statement.{statement}
-use Rattle.step.proofs.places.counted_by.Tie as tie
+use Rattle.step.proofs.counting.counted_by.Statement.{statement}
+use Rattle.step.proofs.counting.counted_by.Tie as tie
 
 module _ (c : tie.Start) where
   good : Sound (c .args .cycle .now)

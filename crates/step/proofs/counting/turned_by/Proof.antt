@@ -1,4 +1,4 @@
--- `step::places::turned_by` meets its contract: where the next sample stands, with the window worked out anew.
+-- `step::counting::turned_by` meets its contract: where the next sample stands, with the window worked out anew.
 -- Assumes nothing.
 use mathlib.Core.Path.{ap, _∙_}
 use Prim.Native.Nat.{_+_, _<_}
@@ -11,8 +11,8 @@ use Rattle.laws.proofs.Sound.{Sound, sound, phase-exists}
 use Rattle.step.specs.Where.{Next}
 use Rattle.step.proofs.Placing.{turned-is}
 use Rattle.step.proofs.Standing.{place-small, place-phase, row-in, phase-in}
-use Rattle.step.proofs.places.turned_by.Statement.{statement}
-use Rattle.step.proofs.places.turned_by.Tie as tie
+use Rattle.step.proofs.counting.turned_by.Statement.{statement}
+use Rattle.step.proofs.counting.turned_by.Tie as tie
 
 good : (c : tie.Start) → Sound (c .args .cycle .now)
 good c = sound _ (c .pre .0 .sound)

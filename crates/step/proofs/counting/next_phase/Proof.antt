@@ -1,4 +1,4 @@
--- `step::places::next_phase` meets its contract: the phase stays until its end, and then is the next.
+-- `step::counting::next_phase` meets its contract: the phase stays until its end, and then is the next.
 -- Assumes nothing.
 use mathlib.Core.List.{List}
 use mathlib.Core.Path.{_≡_, sym, ap, _∙_}
@@ -8,8 +8,8 @@ use native.Mathlib.Omega.{arith}
 use borrow.Author.Needs.{needs}
 use Rattle.rules.specs.Cycle.{phases, phaseEnd, phaseAt, positions}
 use Rattle.laws.proofs.Sound.{Sound, sound, phase-exists, phase-stays, phase-next}
-use Rattle.step.proofs.places.next_phase.Statement.{statement}
-use Rattle.step.proofs.places.next_phase.Tie as tie
+use Rattle.step.proofs.counting.next_phase.Statement.{statement}
+use Rattle.step.proofs.counting.next_phase.Tie as tie
 
 -- as the code counts
 module _ (b : List ℕ) (o : Sound b) (k p : ℕ) (is : k ≡ phaseAt b p) (h : p + 1 < positions b) where

@@ -1,4 +1,4 @@
--- `step::places::next_place` meets its contract: the next sample stands at the next position of the cycle, or is looked for.
+-- `step::counting::next_place` meets its contract: the next sample stands at the next position of the cycle, or is looked for.
 -- Assumes nothing.
 use mathlib.Core.Path.{_≡_, sym, ap, _∙_}
 use Prim.Native.Nat.{_<_}
@@ -12,8 +12,8 @@ use Rattle.laws.specs.Beside.{standOf, placeOf}
 use Rattle.laws.proofs.Sound.{Sound, sound}
 use Rattle.step.proofs.Standing.{place-phase, Riding, position-is, row-is, phase-is, position-most, rides}
 use Rattle.step.proofs.Placing.{next-within}
-use Rattle.step.proofs.places.next_place.Statement.{statement}
-use Rattle.step.proofs.places.next_place.Tie as tie
+use Rattle.step.proofs.counting.next_place.Statement.{statement}
+use Rattle.step.proofs.counting.next_place.Tie as tie
 
 -- the sound cycle, and where the run stands, at the entry
 module _ (c : tie.Start) where
