@@ -26,7 +26,7 @@ use Rattle.demands.proofs.ShutOut.{shuts-out, shuts-out-always}
 use Rattle.demands.proofs.SomeRecord.{some-between, speaks}
 use Rattle.demands.proofs.ForeignBlocks.{foreign-changes-nothing, read-passes-over}
 use Rattle.demands.proofs.Arrivals.{before-all, prints}
-use Rattle.demands.proofs.WiderRuns.{wider-run, longer-run}
+use Rattle.demands.proofs.WiderRuns.{wider-run, longer-run, E-never-finished}
 use Rattle.demands.proofs.Calls.{wider-calls, longer-calls}
 use Rattle.demands.proofs.Splits.{told-has-four}
 use Rattle.demands.proofs.ToldLaws.{told-grows, none-behind-four}
@@ -67,6 +67,7 @@ pub demand-3 : Demand3
 demand-3 = record {
   wider-runs = wider-run;
   longer-runs = longer-run;
+  E-never-finished = E-never-finished;
   wider-calls = wider-calls;
   longer-calls = longer-calls;
   told-has-four = told-has-four;

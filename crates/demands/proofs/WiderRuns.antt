@@ -1,6 +1,6 @@
--- Demand 3 over runs of any samples: by wider tolerances, and with samples added at the end.
+-- Demand 3 over runs of any samples: by wider tolerances, with samples added at the end, and of E.
 -- Assumes nothing.
-use mathlib.Core.Bool.{true}
+use mathlib.Core.Bool.{true, false}
 use mathlib.Core.List.{List}
 use mathlib.Core.Path.{_≡_}
 use Prim.Native.Nat.{ℕ, _≤_, _<_}
@@ -8,11 +8,14 @@ use Rattle.rules.specs.declared.Method.{Method}
 use Rattle.rules.specs.declared.Moment.{Moment}
 use Rattle.rules.specs.declared.Tolerances.{Tolerances}
 use Rattle.rules.specs.Cycle.{valid}
+use Rattle.rules.specs.Course.{closed, rowE}
+use Rattle.rules.specs.Parts.{rowPart, finished}
 use Rattle.rules.specs.Regular.{interval}
-use Rattle.rules.specs.Plan.{plan, layoutOf, courseOf}
+use Rattle.rules.specs.Plan.{Plan, plan, layoutOf, courseOf}
 use Rattle.laws.proofs.Sound.{sound}
 use Rattle.laws.specs.Claims.{Widened}
 use Rattle.laws.proofs.Gathered.{row-ends, phase-ends}
+use Rattle.laws.proofs.Plans as plans
 use Rattle.laws.proofs.Plans.{planned-orderly, planned-lawful, planned-phase-ends, planned-wider}
 use Rattle.laws.proofs.Wider.{counted-wider, closed-wider, stopped-wider, part-wider, outside-finished}
 use Rattle.laws.proofs.Longer.{stop-longer, closed-longer, part-longer, outside-longer}
@@ -43,3 +46,7 @@ longer-run b y t s s′ n n′ more same =
           let orderly = planned-orderly b (sound b good) y in
           (part-longer course lawful s s′ n n′ more same (row-ends orderly c) d, outside-longer course lawful s s′ n n′ more same orderly c d);
     }
+
+pub E-never-finished : (p : Plan) (s : ℕ → Moment) (n : ℕ) → valid (p .cycle) ≡ true
+    → finished (rowPart (layoutOf (p .cycle) (p .method)) rowE) (closed (courseOf p) s n) ≡ false
+E-never-finished p s n good = plans.E-never-finished p (sound (p .cycle) good) s n

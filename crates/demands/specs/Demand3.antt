@@ -16,10 +16,10 @@ use Rattle.rules.specs.declared.Moment.{Moment}
 use Rattle.rules.specs.declared.Tolerances.{Tolerances}
 use Rattle.rules.specs.Bench.{tolerable, mostCycles}
 use Rattle.rules.specs.Cycle.{valid}
-use Rattle.rules.specs.Course.{Course, outside, counted, judged, closed, rowM}
+use Rattle.rules.specs.Course.{Course, outside, counted, judged, closed, rowM, rowE}
 use Rattle.rules.specs.Parts.{Part, rowPart, phasePart, finished}
 use Rattle.rules.specs.Regular.{interval}
-use Rattle.rules.specs.Plan.{plan, layoutOf, courseOf}
+use Rattle.rules.specs.Plan.{Plan, plan, layoutOf, courseOf}
 use Rattle.rules.specs.Table.{behindTolerances, behindBefore, behindBlock}
 use Rattle.rules.specs.Values.{tolerancesIn}
 use Rattle.rules.specs.Record.{Told, told, sheetOf}
@@ -54,7 +54,7 @@ module _ (b : List ℕ) (y : Method) (t t′ : Tolerances) (s : ℕ → Moment) 
     -- every interval that the narrower run closed: its stopping sample was offered to both
     pub wider-closes-no-less : closed c s n ≤ closed c′ s n
     -- "What the narrower run finished, the wider finished too, with equal energies and distances and no higher outside count."
-    -- Row 64 is stretch M and row 65 stretch E, which is never finished (document 02, L5)
+    -- Row 64 is stretch M (document 02, L5); row 65 is stretch E, see `E-never-finished`
     pub wider-finishes-phases : (i k : ℕ) → T (finished (phasePart (layoutOf b y) i k) (closed c s n))
         → PartKept interval (phasePart (layoutOf b y) i k) s s (closed c s n) (closed c′ s n)
     pub wider-finishes-cycles : (i : ℕ) → T (finished (rowPart (layoutOf b y) i) (closed c s n))
@@ -199,6 +199,9 @@ pub record Demand3 : Type 0 where
       → WiderRun b y t t′ s n
   pub longer-runs : (b : List ℕ) (y : Method) (t : Tolerances) (s s′ : ℕ → Moment) (n n′ : ℕ) → n ≤ n′
       → ((j : ℕ) → j < n → s′ j ≡ s j) → LongerRun b y t s s′ n n′
+  -- document 02, L5: "E never as a finished one"
+  pub E-never-finished : (p : Plan) (s : ℕ → Moment) (n : ℕ) → valid (p .cycle) ≡ true
+      → finished (rowPart (layoutOf (p .cycle) (p .method)) rowE) (closed (courseOf p) s n) ≡ false
   pub wider-calls : {b : List ℕ} {y : Method} {t t′ : Tolerances} {l₀ k₀ : List ℤ} {m₀ n₀ : List ℕ} {xs : List Moment}
       {r r′ : Run} {l l′ : List ℤ} {m m′ : List ℕ}
       → Driven (plan b t y) l₀ m₀ xs r l m → Driven (plan b t′ y) k₀ n₀ xs r′ l′ m′ → Widened t t′ → WiderCalls b y r r′ l l′

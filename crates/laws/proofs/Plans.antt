@@ -1,12 +1,12 @@
 -- What the laws of a run ask, of either method.
 -- Assumes nothing.
-use mathlib.Core.Bool.{true}
+use mathlib.Core.Bool.{true, false}
 use mathlib.Core.List.{List}
 use mathlib.Core.Path.{_≡_, refl}
-use Prim.Native.Nat.{ℕ, _-_, _≤_, _<_}
+use Prim.Native.Nat.{ℕ, suc, _-_, _*_, _≤_, _<_}
 use native.Mathlib.Nat.{div-add-mod'}
 use native.Mathlib.Omega.{arith}
-use borrow.Author.Tests.{lt-ltb}
+use borrow.Author.Tests.{lt-ltb, lt-leb}
 use lib.Dec.{T, eqb, eqb→eq}
 use Rattle.numbers.proofs.Tests.{both-T}
 use Rattle.rules.specs.declared.Moment.{Moment}
@@ -15,17 +15,17 @@ use Rattle.rules.specs.declared.Method.{Method}
 use Rattle.rules.specs.declared.Method.the-variants.{Regular as byCycles, Shortened as withStretches}
 use Rattle.rules.specs.Bench.{mostCycles, mostPositions}
 use Rattle.rules.specs.Cycle.{phases, positions}
-use Rattle.rules.specs.Course.{Share, rowM, rowE}
-use Rattle.rules.specs.Parts.{rowPart, phasePart}
+use Rattle.rules.specs.Course.{Share, rowM, rowE, closed}
+use Rattle.rules.specs.Parts.{rowPart, phasePart, finished}
 use Rattle.rules.specs.Regular.{cycleOf, most, regularLayout}
 use Rattle.rules.specs.Shortened.{rowOf, phaseOf, shortenedLayout}
 use Rattle.rules.specs.Shown.{ledgerNumbers, inBounds, figure}
 use Rattle.rules.specs.Plan.{Plan, layoutOf, ruleOf, courseOf}
 use Rattle.laws.specs.Beside.{standOf, placeOf}
 use Rattle.laws.specs.Claims.{Widened}
-use Rattle.laws.proofs.Sound.{Sound}
+use Rattle.laws.proofs.Sound.{Sound, real}
 use Rattle.laws.proofs.Facts.{Orderly, LooksBack, Lawful, Wider}
-use Rattle.laws.proofs.Gathered.{Ends}
+use Rattle.laws.proofs.Gathered.{Ends, closed-most}
 use Rattle.laws.proofs.Bounds.{Within, rowPlaces, interval-near, figure-in-bounds}
 use Rattle.laws.proofs.Total.{HasNothing, nothing-before}
 use Rattle.laws.proofs.Riding.{stand-phase}
@@ -94,6 +94,15 @@ module _ (b : List ℕ) (o : Sound b) where
   pub regular-stretches-none : (h : Share) (s : ℕ → Moment) (c k : ℕ) → mostCycles ≤ c → k ≤ most b
       → HasNothing h s (rowPart (regularLayout b) c) k
   regular-stretches-none h s c k g l = nothing-before h s (rowPart (regularLayout b) c) k (λ j q. no-stretch c g j (omega arith))
+
+-- "E never as a finished one": a shortened run's has no end, and a regular run is over before there could be one
+pub E-never-finished : (p : Plan) → Sound (p .cycle) → (s : ℕ → Moment) (n : ℕ)
+    → finished (rowPart (layoutOf (p .cycle) (p .method)) rowE) (closed (courseOf p) s n) ≡ false
+E-never-finished p o s n = go (p .method) (closed-most (courseOf p) s n)
+  where
+    go : (y : Method) {k : ℕ} → k ≤ layoutOf (p .cycle) y .most → finished (rowPart (layoutOf (p .cycle) y) rowE) k ≡ false
+    go byCycles {k} l = lt-leb (suc rowE * positions (p .cycle)) k (omega (arith, real o))
+    go (withStretches x) l = refl
 
 pub planned-in-bounds : (p : Plan) → Sound (p .cycle) → (s : ℕ → Moment) (n : ℕ) → ((j : ℕ) → j < n → Within (s j))
     → (i : ℕ) → i < ledgerNumbers → inBounds i (figure (courseOf p) s n i) ≡ true

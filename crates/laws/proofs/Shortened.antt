@@ -8,7 +8,7 @@ use Prim.Native.Nat.{ℕ, suc, _+_, _-_, _*_, _≤_, _<_}
 use native.Mathlib.Nat.{le-refl, mul-le-mul-right, div-lt-iff-lt-mul, le-div-iff-mul-le, div-add-mod', mod-lt}
 use native.Mathlib.Omega.{arith}
 use borrow.Author.Tests.{lt-ltb, le-ltb}
-use lib.Dec.{T, leb, leb→le, eqb→eq, lit<}
+use lib.Dec.{T, leb, ltb, leb→le, eqb→eq, lit<}
 use Rattle.rules.specs.Words.{allBelow}
 use Rattle.numbers.proofs.Order.{side}
 use Rattle.numbers.proofs.Tests.{and-mono, leb-mono, all-same, all-at, all-by, true-T, T-true}
@@ -188,8 +188,7 @@ module _ (e u s : ℕ) where
   halts-by : (v v′ : ℕ → ℕ) (j : ℕ) → ((i : ℕ) → i ≤ j → v′ i ≡ v i) → stopsInE e u s v′ j ≡ stopsInE e u s v j
   unfolding stopsInE
   halts-by v v′ j h =
-      let r = all-same (suc j) (λ i. not (leb e i && leb u (v′ i))) (λ i. not (leb e i && leb u (v i)))
-      (λ i l. ap (λ (x : ℕ). not (leb e i && leb u x)) (h i (omega arith))) in
+      let r = all-same (suc j - e) _ _ (λ i l. ap (λ (x : ℕ). ltb x u) (h (e + i) (omega arith))) in
       let d = all-same mostBelow _ _ (λ i l. ap (isBelow u s) (h (j - i) (omega arith))) in
       λ i. not (r i) && d i
 

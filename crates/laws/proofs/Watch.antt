@@ -3,10 +3,10 @@
 use mathlib.Core.Bool.{Bool, true, false, not, _&&_}
 use mathlib.Core.Path.{_≡_, refl, sym, ap, _∙_}
 use Prim.Native.Nat.{ℕ, zero, suc, _+_, _-_, _≤_, _<_, zero-le}
-use native.Mathlib.Nat.{le-refl, suc-sub-suc, sub-zero}
+use native.Mathlib.Nat.{le-refl, suc-sub-suc, sub-zero, zero-sub}
 use native.Mathlib.Omega.{arith}
-use borrow.Author.Tests.{leb-true, leb-false, le-leb, lt-leb, le-ltb, eq-eqb, ne-eqb}
-use lib.Dec.{T, leb, leb·suc-suc, leb→le}
+use borrow.Author.Tests.{leb-true, leb-false, le-leb, lt-leb, lt-ltb, le-ltb, eq-eqb, ne-eqb}
+use lib.Dec.{T, leb, ltb, leb·suc-suc, leb→le}
 use Rattle.rules.specs.Words.{allBelow}
 use Rattle.numbers.proofs.Tests.{all-same, all-fails, both-T}
 use Rattle.rules.specs.Shortened.{hasReached, isBelow, mostBelow, stopsInE}
@@ -48,6 +48,13 @@ one-more false false true z f e n h (suc k) =
     rw (ne-eqb z 0 (begun z (h 0))) (leb·suc-suc (suc k) z ∙ h k ∙ sym (all-front k f ∙ ap (λ (x : Bool). x && allBelow k (λ i. f (suc i))) e))
 one-more false false false z f e n h k = rw (ne-eqb z 0 (begun z (h 0))) (none-or-fails k f e)
 
+ltb-not : (a b : ℕ) → ltb a b ≡ not (leb b a)
+ltb-not a b = go (leb b a) refl
+  where
+    go : (x : Bool) → leb b a ≡ x → ltb a b ≡ not x
+    go true e = le-ltb a b (leb-true b a e)
+    go false e = lt-ltb a b (leb-false b a e)
+
 module _ (e u s : ℕ) (v : ℕ → ℕ) where
   -- sample n has reached the set speed in E
   abbrev reaches : ℕ → Bool
@@ -59,13 +66,32 @@ module _ (e u s : ℕ) (v : ℕ → ℕ) where
   shifted : (n k : ℕ) → allBelow k (λ i. isBelow u s (v (n - suc i))) ≡ allBelow k (λ i. isBelow u s (v (suc n - suc (suc i))))
   shifted n k = all-same k _ _ (λ i l. ap (λ (a : ℕ). isBelow u s (v a)) (sym (suc-sub-suc n (suc i))))
 
-  watched : (n k : ℕ) → leb (suc k) (watch e u s v n) ≡ (not (allBelow n (λ i. not (reaches i))) && allBelow k (λ i. isBelow u s (v (n - suc i))))
+  -- none of E's samples before sample n has
+  abbrev none : ℕ → Bool
+  none n = allBelow (n - e) (λ i. ltb (v (e + i)) u)
+
+  none-more : (n : ℕ) → none (suc n) ≡ (none n && not (reaches n))
+  unfolding allBelow
+  none-more n = go (leb e n) refl
+    where
+      go : (x : Bool) → leb e n ≡ x → none (suc n) ≡ (none n && not (x && leb u (v n)))
+      go true h =
+          let c : suc n - e ≡ suc (n - e) = omega (arith, leb-true e n h) in
+          let d : e + (n - e) ≡ n = omega (arith, leb-true e n h) in
+          rw (c, d) (ap (λ (x : Bool). none n && x) (ltb-not (v n) u))
+      go false h =
+          let c : suc n - e ≡ 0 = omega (arith, leb-false e n h) in
+          let d : n - e ≡ 0 = omega (arith, leb-false e n h) in
+          rw (c, d) refl
+
+  watched : (n k : ℕ) → leb (suc k) (watch e u s v n) ≡ (not (none n) && allBelow k (λ i. isBelow u s (v (n - suc i))))
   unfolding allBelow watch
-  watched zero k = lt-leb (suc k) 0 (omega arith)
+  watched zero k = rw (zero-sub e) (lt-leb (suc k) 0 (omega arith))
   watched (suc n) k =
-      one-more (allBelow n (λ i. not (reaches i))) (reaches n) (isBelow u s (v n)) (watch e u s v n) (λ i. isBelow u s (v (suc n - suc i)))
+      one-more (none n) (reaches n) (isBelow u s (v n)) (watch e u s v n) (λ i. isBelow u s (v (suc n - suc i)))
       (ap (λ (i : ℕ). isBelow u s (v i)) (suc-sub-suc n 0 ∙ sub-zero n)) (not-below n)
-      (λ j. watched n j ∙ ap (λ (x : Bool). not (allBelow n (λ i. not (reaches i))) && x) (shifted n j)) k
+      (λ j. watched n j ∙ ap (λ (x : Bool). not (none n) && x) (shifted n j)) k
+      ∙ ap (λ (x : Bool). not x && allBelow k (λ i. isBelow u s (v (suc n - suc i)))) (sym (none-more n))
 
   -- the run stops in E at the sample that brings the number above 80
   pub stop-watched : (j : ℕ) → stopsInE e u s v j ≡ leb (suc mostBelow) (watch e u s v (suc j))

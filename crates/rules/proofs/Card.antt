@@ -11,7 +11,8 @@ use Rattle.rules.specs.Parts.{cycles}
 use Rattle.rules.specs.Shortened.{stopsInE}
 use Rattle.rules.specs.Shown.{shownRow}
 use Rattle.rules.specs.Closing.{weighing, closingRefusal, rechargeRefusal}
-use Rattle.rules.specs.Card.{card, holds}
+use Rattle.rules.specs.Rows.{holds}
+use Rattle.rules.specs.Card.{card}
 
 pub card-holds : T (every holds card)
 unfolding be fold gather first allBelow valid grid20 inside over cycles stopsInE shownRow weighing unless closingRefusal rechargeRefusal tolerable side verdict question phaseAt card holds

@@ -77,7 +77,7 @@ isRate q = leb 1 q && leb q mostRate
 abbrev pub rateOf : (ℕ → ℤ) → (ℕ → ℤ) → ℕ → ℕ
 rateOf e d c = rate (up (e c)) (up (d c))
 
--- "10 | fewer than three finished cycles"; document 02, L5: "10 at closing also when fewer than four cycles were finished", by the shortened method
+-- "10 | n < 3"; document 02, L5: "10 at closing also when fewer than four cycles were finished", by the shortened method
 abbrev pub leastFinished : Method → ℕ
 leastFinished byCycles = 3
 leastFinished (withStretches x) = 4

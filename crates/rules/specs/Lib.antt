@@ -29,6 +29,7 @@ pub mod Record
 pub mod Figures
 pub mod Text
 -- 'Rows on the test card', and rows of our own: of the definitions above, of short records, of a sheet
+pub mod Rows
 pub mod Card
 pub mod Records
 pub mod Sheets

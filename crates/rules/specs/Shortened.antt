@@ -70,9 +70,9 @@ module _ (b : List ℕ) (m : ℕ) where
 
 -- ---- the stop in E, which begins with sample e: by its set speed u, the speed tolerance s and the speeds v
 
--- "until a sample has reached the set speed": one of E, up to sample j
+-- "until a sample has reached the set speed": one of E's, up to sample j, is not below it
 abbrev pub hasReached : ℕ → ℕ → (ℕ → ℕ) → ℕ → Bool
-hasReached e u v j = not (allBelow (suc j) (λ i. not (leb e i && leb u (v i))))
+hasReached e u v j = not (allBelow (suc j - e) (λ i. ltb (v (e + i)) u))
 
 -- "below the set speed less the speed tolerance"
 abbrev pub isBelow : ℕ → ℕ → ℕ → Bool

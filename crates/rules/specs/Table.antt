@@ -79,7 +79,7 @@ module _ {M : Type 0} (rows : List (Row M)) where
 
 -- ---- the table
 
--- what a field holds: "mark .. vehicle number .. phase count, phase ends, points .. speed, time, allowance .. samples .. drawn energy .. recharge";
+-- what a field holds: "mark .. vehicle number .. phase count .. phase ends .. points .. speed, time, allowance .. samples .. drawn energy .. recharge";
 -- document 02, L5: "a bad stretch field" is of one that holds M's length and E's set speed
 pub data Matter : Type 0 where
   mark : Matter

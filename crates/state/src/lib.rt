@@ -1,6 +1,10 @@
 // A started run's state, and the tests that come before it or its memory is touched.
+mod around;
 mod own;
 
+use around::finished_around;
+use around::last_around;
+use around::last_judged;
 use cycle::end_of;
 use cycle::is_cycle;
 use cycle::seconds_of;
@@ -23,11 +27,11 @@ use values::is_sample;
 use values::is_tolerable;
 ghost use mathlib.Core.Path.{_≡_};
 ghost use mathlib.Core.Bool.{true};
-ghost use Prim.Native.Nat.{_-_, _≤_, _<_};
-ghost use Rattle.rules.specs.Bench.{mostCycles, mostPositions, mostOffered};
+ghost use Prim.Native.Nat.{_≤_, _<_};
+ghost use Rattle.rules.specs.Bench.{mostCycles};
 ghost use Rattle.rules.specs.Cycle.{seconds, valid};
 ghost use Rattle.state.specs.State.{closedBy, endOrZero, endsOf, isRun, isLent, isStarts, ground};
-ghost use Rattle.state.specs.Refusals.{withMethod, startRefusal, sampleRefusal, besideBy, finishedAround, cyclesBy, judgedBy, lastAround, lastCycle};
+ghost use Rattle.state.specs.Refusals.{withMethod, startRefusal, sampleRefusal, besideBy, cyclesBy, lastCycle};
 
 // The seconds at which the phases end; 0 for a phase that does not exist.
 pub struct Ends {
@@ -208,20 +212,6 @@ pub fn beside_of(run: Run) -> i64
     run.stretched.in_m.energy + run.stretched.in_e.energy
 }
 
-// How many cycles of n positions are finished where so many intervals are closed, with M of m samples behind the second.
-fn finished_around(closed: u32, n: u32, m: u32) -> u32
-    requires { ⌜ (1 ≤ n) × (n ≤ mostPositions) × (m ≤ mostOffered) ⌝ }
-    ensures { λ r. ⌜ r ≡ finishedAround closed n m ⌝ }
-{
-    if closed < 2 * n {
-        return closed / n;
-    }
-    if closed < 2 * n + m {
-        return 2;
-    }
-    smaller(4, (closed - m) / n)
-}
-
 // How many cycles are finished: as many as the intervals closed make.
 pub fn cycles_of(run: Run) -> u32
     requires { ⌜ isRun run ≡ true ⌝ }
@@ -234,35 +224,6 @@ pub fn cycles_of(run: Run) -> u32
     match method {
         Method::Regular => closed / n,
         Method::Shortened(x) => finished_around(closed, n, x.length),
-    }
-}
-
-// The cycle, of n positions each, that stands last among the samples up to sample j, with M of m samples behind the second.
-fn last_around(j: u32, n: u32, m: u32) -> u32
-    requires { ⌜ (1 ≤ n) × (n ≤ mostPositions) × (m ≤ mostOffered) ⌝ }
-    ensures { λ r. ⌜ r ≡ lastAround j n m ⌝ }
-{
-    if j < 2 * n {
-        return j / n;
-    }
-    if j < 2 * n + m {
-        return 1;
-    }
-    if j < 4 * n + m {
-        return (j - m) / n;
-    }
-    3
-}
-
-// The sample last judged, and 0 before the first.
-fn last_judged(progress: Progress) -> u32
-    ensures { λ r. ⌜ r ≡ judgedBy (progress .end) (progress .counted) - 1 ⌝ }
-{
-    let end = progress.end;
-    match end {
-        End::Stop => progress.counted,
-        End::None => less(progress.counted, 1),
-        End::Limit => less(progress.counted, 1),
     }
 }
 

@@ -1,13 +1,13 @@
 // One accepted sample.
 mod counting;
+mod lending;
 mod places;
 mod stretches;
 
 use counting::counted_by;
-use ledger::row::add_interval;
-use ledger::row::add_outside;
-use map::mark_if;
-use map::open_map;
+use lending::add_in_cycle;
+use lending::count_in_cycle;
+use lending::mark_sample;
 use places::ended_by;
 use places::offered_by;
 use places::open_place;
@@ -28,19 +28,18 @@ use window::verdict_in;
 use window::window_at;
 ghost use mathlib.Core.Path.{_≡_};
 ghost use mathlib.Core.Bool.{true, not};
-ghost use Prim.Native.Nat.{ℕ, _+_, _*_, _<_, _≤_};
+ghost use Prim.Native.Nat.{ℕ, _<_, _≤_};
 ghost use lib.ListN.{length};
 ghost use Rattle.numbers.specs.Whole.{Sized};
 ghost use Rattle.laws.specs.Beside.{isMoment, isOpen};
-ghost use Rattle.rules.specs.Bench.{mostTimeTolerance, mostOffered, mostPositions, mostPhases, mostCycles};
+ghost use Rattle.rules.specs.Bench.{mostTimeTolerance, mostOffered, mostPhases, mostCycles};
 ghost use Rattle.rules.specs.Cycle.{valid};
 ghost use Rattle.rules.specs.Band.{insideOf};
 ghost use Rattle.rules.specs.Plan.{plan};
 ghost use Rattle.rules.specs.Shown.{mapWords, ledgerNumbers};
 ghost use Rattle.values.specs.Limits.{isMethod};
 ghost use Rattle.window.specs.Moving.{leastIn, greatestIn};
-ghost use Rattle.map.specs.Map.{opened, markedIf};
-ghost use Rattle.ledger.specs.Row.{at, isOver, intervalAdded, outsideAdded, mostHeld};
+ghost use Rattle.ledger.specs.Row.{at, mostHeld};
 ghost use Rattle.state.specs.State.{left};
 ghost use Rattle.step.specs.Step.{intervalClosed, stretchClosed, runTo};
 ghost use Rattle.step.specs.Where.{standing, taking, oneJudged, openTaken, oneTaken, StretchFits, Counts, Kept};
@@ -118,44 +117,6 @@ fn is_outside(window: Window, s: u32, v: u32) -> bool
     ensures { λ r. ⌜ r ≡ not (insideOf (leastIn window) (greatestIn window) s v) ⌝ }
 {
     verdict_in(window, s, v) != 0
-}
-
-// The map after a judged sample at position p.
-fn mark_sample(map: &mut [u64], p: usize, outside: bool)
-    requires { ⌜ (p < mostPositions) × (mapWords ≤ length (now map)) ⌝ }
-    ensures { λ _. ⌜ now (map .exit) ≡ markedIf (opened (now (map .entry)) p) p outside ⌝ }
-{
-    open_map(&mut *map, p);
-    mark_if(&mut *map, p, outside);
-}
-
-// The nine numbers of a cycle are lent on: the interval from sample x to sample y is of this row and phase.
-fn add_in_cycle(ledger: &mut [i64], row: usize, phase: usize, x: Moment, y: Moment)
-    requires { ⌜
-        (ledgerNumbers ≤ length (now ledger))
-        × (row < mostCycles)
-        × (phase < mostPhases)
-        × (isMoment x ≡ true)
-        × (isMoment y ≡ true)
-        ⌝ }
-    requires { ⌜ ((i : ℕ) → i < ledgerNumbers → Sized mostHeld (at (now ledger) i)) ⌝ }
-    ensures { λ _. ⌜ now (ledger .exit) ≡ intervalAdded (9 * row) (now (ledger .entry)) phase x y ⌝ }
-{
-    let from = 9 * row;
-    let upto = from + 9;
-    add_interval(&mut ledger[from..upto], phase, x, y);
-}
-
-// The nine numbers of a cycle are lent on: whether a sample of this row brings the outside count above the allowance.
-fn count_in_cycle(ledger: &mut [i64], row: usize, outside: bool, allowance: u32) -> bool
-    requires { ⌜ (ledgerNumbers ≤ length (now ledger)) × (row < mostCycles) ⌝ }
-    requires { ⌜ ((i : ℕ) → i < ledgerNumbers → Sized mostHeld (at (now ledger) i)) ⌝ }
-    ensures { λ r. ⌜ r ≡ isOver (9 * row) (now (ledger .entry)) outside allowance ⌝ }
-    ensures { λ _. ⌜ now (ledger .exit) ≡ outsideAdded (9 * row) (now (ledger .entry)) outside ⌝ }
-{
-    let from = 9 * row;
-    let upto = from + 9;
-    add_outside(&mut ledger[from..upto], outside, allowance)
 }
 
 // A sample of an open run closes the open interval, in the ledger or in a stretch; before the first sample none is open.

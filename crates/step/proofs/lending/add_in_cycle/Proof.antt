@@ -1,9 +1,9 @@
--- `step::add_in_cycle` meets its contract: what is done to the nine numbers that are lent on is done to the ledger at their places.
+-- `step::lending::add_in_cycle` meets its contract: what is done to the nine numbers that are lent on is done to the ledger at their places.
 -- Assumes nothing.
 use borrow.Author.Needs.{needs}
 use Rattle.ledger.proofs.Rows.{nine-length, nine-small, nine-interval}
-use Rattle.step.proofs.add_in_cycle.Statement.{statement}
-use Rattle.step.proofs.add_in_cycle.Tie as tie
+use Rattle.step.proofs.lending.add_in_cycle.Statement.{statement}
+use Rattle.step.proofs.lending.add_in_cycle.Tie as tie
 
 mul-from : tie.Need-mul-from
 mul-from c = search needs

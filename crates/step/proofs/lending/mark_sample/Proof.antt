@@ -1,8 +1,8 @@
--- `step::mark_sample` meets its contract, put together from what the two calls ensure.
+-- `step::lending::mark_sample` meets its contract, put together from what the two calls ensure.
 -- Assumes nothing.
 use borrow.Author.Needs.{needs}
-use Rattle.step.proofs.mark_sample.Statement.{statement}
-use Rattle.step.proofs.mark_sample.Tie as tie
+use Rattle.step.proofs.lending.mark_sample.Statement.{statement}
+use Rattle.step.proofs.lending.mark_sample.Tie as tie
 
 open-map-requires : tie.Need-open-map-requires
 open-map-requires c κs = search needs

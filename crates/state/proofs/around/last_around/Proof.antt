@@ -1,9 +1,9 @@
--- `state::last_around` meets its contract: each answer rewrites with the tests that led there.
+-- `state::around::last_around` meets its contract: each answer rewrites with the tests that led there.
 -- Assumes nothing.
 use borrow.Author.Needs.{needs}
 use borrow.Author.Tests.{lt-ltb, le-ltb}
-use Rattle.state.proofs.last_around.Statement.{statement}
-use Rattle.state.proofs.last_around.Tie as tie
+use Rattle.state.proofs.around.last_around.Statement.{statement}
+use Rattle.state.proofs.around.last_around.Tie as tie
 
 mul-if1 : tie.Need-mul-if1
 mul-if1 c = search needs

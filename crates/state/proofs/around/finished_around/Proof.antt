@@ -1,10 +1,10 @@
--- `state::finished_around` meets its contract: each answer rewrites with the tests that led there.
+-- `state::around::finished_around` meets its contract: each answer rewrites with the tests that led there.
 -- Assumes nothing.
 use mathlib.Core.Path.{_∙_}
 use borrow.Author.Needs.{needs}
 use borrow.Author.Tests.{lt-ltb, le-ltb}
-use Rattle.state.proofs.finished_around.Statement.{statement}
-use Rattle.state.proofs.finished_around.Tie as tie
+use Rattle.state.proofs.around.finished_around.Statement.{statement}
+use Rattle.state.proofs.around.finished_around.Tie as tie
 
 mul-if1 : tie.Need-mul-if1
 mul-if1 c = search needs

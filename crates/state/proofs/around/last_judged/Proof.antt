@@ -1,10 +1,10 @@
--- `state::last_judged` meets its contract: in each arm the end is known.
+-- `state::around::last_judged` meets its contract: in each arm the end is known.
 -- Assumes nothing.
 use mathlib.Core.Path.{_∙_}
 use native.Mathlib.Omega.{arith}
 use borrow.Author.Needs.{needs}
-use Rattle.state.proofs.last_judged.Statement.{statement}
-use Rattle.state.proofs.last_judged.Tie as tie
+use Rattle.state.proofs.around.last_judged.Statement.{statement}
+use Rattle.state.proofs.around.last_judged.Tie as tie
 
 enum-told : tie.Need-enum-told
 enum-told c = search needs

@@ -1,10 +1,10 @@
--- `step::count_in_cycle` meets its contract: what is done to the nine numbers that are lent on is done to the ledger at their places.
+-- `step::lending::count_in_cycle` meets its contract: what is done to the nine numbers that are lent on is done to the ledger at their places.
 -- Assumes nothing.
 use mathlib.Core.Path.{_∙_}
 use borrow.Author.Needs.{needs}
 use Rattle.ledger.proofs.Rows.{nine-length, nine-small, nine-over, nine-outside}
-use Rattle.step.proofs.count_in_cycle.Statement.{statement}
-use Rattle.step.proofs.count_in_cycle.Tie as tie
+use Rattle.step.proofs.lending.count_in_cycle.Statement.{statement}
+use Rattle.step.proofs.lending.count_in_cycle.Tie as tie
 
 mul-from : tie.Need-mul-from
 mul-from c = search needs
