@@ -1,14 +1,15 @@
 -- The stop in E, sample by sample, as a state can hold it.
 -- Assumes nothing.
-use mathlib.Core.Bool.{Bool, true, false, not, _&&_}
+use mathlib.Core.Bool.{Bool, true, false, not, _&&_, Bool·not-not}
 use mathlib.Core.Path.{_≡_, refl, sym, ap, _∙_}
 use Prim.Native.Nat.{ℕ, zero, suc, _+_, _-_, _≤_, _<_, zero-le}
 use native.Mathlib.Nat.{le-refl, suc-sub-suc, sub-zero, zero-sub}
 use native.Mathlib.Omega.{arith}
-use borrow.Author.Tests.{leb-true, leb-false, le-leb, lt-leb, lt-ltb, le-ltb, eq-eqb, ne-eqb}
+use borrow.Author.Tests.{leb-true, leb-false, le-leb, lt-leb, le-ltb, eq-eqb, ne-eqb}
 use lib.Dec.{T, leb, ltb, leb·suc-suc, leb→le}
 use Rattle.rules.specs.Words.{allBelow}
 use Rattle.numbers.proofs.Tests.{all-same, all-fails, both-T}
+use Rattle.numbers.proofs.Whole.{leb-not}
 use Rattle.rules.specs.Shortened.{hasReached, isBelow, mostBelow, stopsInE}
 use Rattle.laws.specs.Beside.{watchNext, watch}
 
@@ -48,13 +49,6 @@ one-more false false true z f e n h (suc k) =
     rw (ne-eqb z 0 (begun z (h 0))) (leb·suc-suc (suc k) z ∙ h k ∙ sym (all-front k f ∙ ap (λ (x : Bool). x && allBelow k (λ i. f (suc i))) e))
 one-more false false false z f e n h k = rw (ne-eqb z 0 (begun z (h 0))) (none-or-fails k f e)
 
-ltb-not : (a b : ℕ) → ltb a b ≡ not (leb b a)
-ltb-not a b = go (leb b a) refl
-  where
-    go : (x : Bool) → leb b a ≡ x → ltb a b ≡ not x
-    go true e = le-ltb a b (leb-true b a e)
-    go false e = lt-ltb a b (leb-false b a e)
-
 module _ (e u s : ℕ) (v : ℕ → ℕ) where
   -- sample n has reached the set speed in E
   abbrev reaches : ℕ → Bool
@@ -78,7 +72,7 @@ module _ (e u s : ℕ) (v : ℕ → ℕ) where
       go true h =
           let c : suc n - e ≡ suc (n - e) = omega (arith, leb-true e n h) in
           let d : e + (n - e) ≡ n = omega (arith, leb-true e n h) in
-          rw (c, d) (ap (λ (x : Bool). none n && x) (ltb-not (v n) u))
+          rw (c, d, leb-not (v n) u) (ap (λ (x : Bool). none n && x) (sym (Bool·not-not (ltb (v n) u))))
       go false h =
           let c : suc n - e ≡ 0 = omega (arith, leb-false e n h) in
           let d : n - e ≡ 0 = omega (arith, leb-false e n h) in

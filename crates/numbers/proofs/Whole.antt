@@ -77,7 +77,7 @@ pub up-le : (a b : ℤ) → up a + down b ≤ up b + down a → leZ a b ≡ true
 up-le a b h = le-is a b ∙ le-leb (up a + down b) (up b + down a) h
 
 -- the two tests of order
-leb-not : (a b : ℕ) → leb b a ≡ not (ltb a b)
+pub leb-not : (a b : ℕ) → leb b a ≡ not (ltb a b)
 leb-not a b = go (ltb a b) refl
   where
     go : (t : Bool) → ltb a b ≡ t → leb b a ≡ not t
