@@ -25,7 +25,7 @@ use Rattle.reading.specs.declared.Reading.{Reading}
 use Rattle.reading.specs.Answers.{passes, stepSaid, replySaid, ReadSaid, stageAt, readGround}
 use Rattle.reading.proofs.Taking.{from-start}
 use Rattle.reader.specs.Answers.{readBy, readLeft}
-use Rattle.demands.specs.Demand2.{ForeignChangesNothing, ReadPassesOver}
+use Rattle.demands.specs.Foreign.{ForeignChangesNothing, ReadPassesOver}
 use Rattle.demands.specs.Compared.{onePassed}
 use Rattle.demands.proofs.NoDoubt.{left-by}
 use Rattle.demands.proofs.Lines.{abovePassed, belowPassed, passed-lines}

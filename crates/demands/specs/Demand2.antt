@@ -1,7 +1,8 @@
 -- Demand 2: "Every figure equals the rules of document 01. Blocks of another vehicle change nothing but the passed-over count (and the field number of a later
 -- refusal). The ledger's energies add up to the energy of the samples counted." By document 02, L2 that is the energy of the intervals closed; by L5 stretches
 -- M and E have their share of it.
--- Stated here, over all that is known by the contracts, with the judges that it shuts out in ShutOut.antt; proved in proofs/ (`demand-2`).
+-- Stated here, over all that is known by the contracts; what blocks of another vehicle change in Foreign.antt, the judges that it shuts out in ShutOut.antt.
+-- Proved in proofs/ (`demand-2`).
 -- Assumes nothing.
 use mathlib.Core.Bool.{true, false, not}
 use mathlib.Core.List.{List, _++_}
@@ -29,12 +30,12 @@ use Rattle.rules.specs.Shown.{ledgerNumbers, mapWords, figure as figureAt, show
 use Rattle.rules.specs.Closing.{weight, weighing, rateOf, wholeEnergy, leastFinished, closingRefusal, closingFigures}
 use Rattle.rules.specs.Table.{tags}
 use Rattle.rules.specs.Machine.{run}
-use Rattle.rules.specs.Record.{Told, morePassed, takeField, untold, told, refusedAt, sheetOf}
-use Rattle.rules.specs.Figures.{energies, distances, cyclesIn, outsideTotal, closingIn, figuresBy, figuresTold}
+use Rattle.rules.specs.Record.{Told, takeField, untold, told, refusedAt, sheetOf}
+use Rattle.rules.specs.Figures.{energies, distances, cyclesIn, outsideTotal, closingIn, figuresBy}
 use Rattle.rules.specs.Text.{refusalText, printed}
 use Rattle.laws.specs.Answers.{refuses, numberOf}
 use Rattle.laws.specs.Beside.{Unrounded, standOf, placeOf}
-use Rattle.laws.specs.Claims.{ForeignBlock, oneMore}
+use Rattle.laws.specs.Claims.{ForeignBlock}
 use Rattle.values.specs.Limits.{isMethod, areAmounts}
 use Rattle.ledger.specs.Row.{at, energyAll}
 use Rattle.map.specs.Map.{isSet, onesOf}
@@ -53,14 +54,14 @@ use Rattle.desk.specs.Feeding.{wanted, outcomeSaid, Laid, Lent, laidOf, emptyDe
 use Rattle.prints.specs.Printed.{nextField}
 use Rattle.intake.specs.declared.Intake.{Intake}
 use Rattle.intake.specs.Turns.{Recorded, Unread}
-use Rattle.demands.specs.Calls.{left, SampleCall, BlockCall, ShownCall, TotalsCall, ClosingCall}
+use Rattle.demands.specs.Calls.{SampleCall, BlockCall, ShownCall, TotalsCall, ClosingCall}
 use Rattle.demands.specs.Calls.{FiguresCall, ReadCall, AllCall, FeedCall, CloseCall, RefuseCall, VerdictCall}
 use Rattle.demands.specs.Runs.{SampleOn, BlockOn, ShownOn, TotalsOn, ClosingOn, FiguresOn, ReadOn, AllOn}
 use Rattle.demands.specs.Runs.{sampleIn, closingAmounts, Driven, FeedOn, laidBy, FedIn, CloseOn}
 use Rattle.demands.specs.Runs.{RefuseOn, closedTo, refusedTo, AskedOn, SomeRun, SomeClose}
 use Rattle.demands.specs.Cases.{Neither1Nor2}
-use Rattle.demands.specs.Compared.{OneMorePassed, withPassed, onePassed}
 use Rattle.demands.specs.Rows.{momentsOf}
+use Rattle.demands.specs.Foreign.{ForeignChangesNothing, ReadPassesOver}
 use Rattle.demands.specs.ShutOut.{ShutsOut, ShutsOutAlways}
 
 -- ---- a whole run of the samples xs by the plan p, with the state r, the ledger l and the map m
@@ -191,24 +192,6 @@ pub record Speaks : Type 0 where
   pub some-part : (lent : Lent) {w rest : List ℕ} {x : Laid} → FedIn lent w x rest → (new : List ℕ) → (let y = feedOf x (rest ++ new) in
       y .outcome ≡ wanted → FedIn lent (w ++ new) (y .laid) (drop (y .used) (rest ++ new)))
   pub some-close : (x : Laid) (rest out : List ℕ) → mostSheet ≤ length out → SomeClose x rest
-
--- ---- "Blocks of another vehicle change nothing but the passed-over count (and the field number of a later refusal)."
-
--- between the fields p and the bytes q stands a whole field 5, f, of another valid number, where a block may stand and the count has room for it
-pub record ForeignChangesNothing (p f q : List ℕ) : Type 0 where
-  -- the record tells what it tells without f, with one block more passed over, or has the same refusal one field later
-  pub foreign-blocks-change-nothing : sheetOf (p ++ (f ++ q)) ≡ oneMore (sheetOf (p ++ q))
-  -- every figure is the same but `passed`
-  pub foreign-figures : (y : Told) → sheetOf (p ++ q) ≡ told y
-      → (sheetOf (p ++ (f ++ q)) ≡ told (morePassed y)) × (figuresTold (morePassed y) ≡ withPassed (figuresTold y) (y .passed + 1))
-  -- and every line
-  pub foreign-prints : (y : Told) → sheetOf (p ++ q) ≡ told y → OneMorePassed (printed (sheetOf (p ++ q))) (printed (sheetOf (p ++ (f ++ q))))
-  -- of a record that is refused, only the field's number changes
-  pub foreign-refusal-prints : (k j : ℕ) → sheetOf (p ++ q) ≡ refusedAt k j → printed (sheetOf (p ++ (f ++ q))) ≡ refusalText k (suc j)
-
--- of a single call of `read`: "only the passed-over count rises"
-abbrev pub ReadPassesOver : Type 0
-ReadPassesOver = (c : ReadCall) (n : ℕ) → c .answer .step ≡ step.Passed n → (c .answer .reading ≡ onePassed (c .args .0)) × (left c ≡ c .args)
 
 -- ---- the report: "Every figure equals the rules of document 01", to the bytes that are printed
 

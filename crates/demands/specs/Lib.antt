@@ -7,4 +7,5 @@ pub mod Runs
 pub mod Cases
 pub mod Compared
 pub mod Rows
+pub mod Foreign
 pub mod ShutOut

@@ -27,7 +27,7 @@ use Rattle.records.specs.Stage.{Stage, planOn, written, roomAfter, takeOn}
 use Rattle.records.proofs.After.{After, after-none, after-both, after-move}
 use Rattle.records.proofs.Came.{Moved, moved}
 use Rattle.records.proofs.Held.{Long}
-use Rattle.records.proofs.Joined.{Tells, tells-move}
+use Rattle.records.proofs.Tells.{Tells, tells-move}
 use Rattle.records.proofs.Limits.{InLimits, limits-move}
 use Rattle.opening.specs.declared.Opening.{Opening}
 use Rattle.opening.specs.Answers.{noTolerances, stageOf, openingOf, runOf, openGround}

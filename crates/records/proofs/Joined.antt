@@ -1,6 +1,6 @@
 -- The code's state is led through all bytes as lists are: it holds what they tell, and its run is that of their samples.
 -- Assumes nothing.
-use mathlib.Core.Bool.{true, false≢true}
+use mathlib.Core.Bool.{true}
 use mathlib.Core.List.{List, [], _∷_, _++_}
 use mathlib.Core.Path.{_≡_, refl, sym, ap, subst, subst⁻¹, _∙_}
 use Prim.Native.Nat.{ℕ, _+_, _≤_}
@@ -20,17 +20,15 @@ use Rattle.rules.specs.Cycle.{valid}
 use Rattle.rules.specs.Plan.{plan}
 use Rattle.rules.specs.Table.{Row, Matter, number, cycle, tolerances, stretches, block, energyBefore, energyAfter, recharge, among, lengthAllowed, tags}
 use Rattle.rules.specs.Table.{behindTolerances, behindBefore, behindAfter, behindRecharge}
-use Rattle.rules.specs.Front.{Field, Front, incomplete, impossible, field, bytesOf, frontOf}
-use Rattle.rules.specs.Machine.{Answer, on, moveBy, replyAt, moveAt, run}
+use Rattle.rules.specs.Front.{Field}
+use Rattle.rules.specs.Machine.{run}
 use Rattle.values.specs.Limits.{isMethod}
 use Rattle.laws.specs.Beside.{isBlock}
 use Rattle.rules.specs.Values.{samplesOf, momentAt, countIn, momentsIn}
 use Rattle.rules.specs.Record.{Told, Bring, nothing, aNumber, aCycle, theTolerances, theStretches, ownSamples, before, after, charged, wrong, contentOf, fieldContent, contentAt, holding, withBefore, withAfter, withCharge, bringAt, takeField}
-use Rattle.laws.proofs.Carried.{In, here, there, same-rows, Carries, step-alike, carried}
-use Rattle.laws.proofs.Fronts.{front-allowed}
-use Rattle.laws.proofs.Moves.{moveAs}
+use Rattle.laws.proofs.Carried.{In, here, there, same-rows, Carries, carried}
 use Rattle.laws.proofs.Places.{place-is, before-places, block-places, recharge-places}
-use Rattle.laws.proofs.Related.{Alike, both-taken, both-passed, both-refused, AlikeRan}
+use Rattle.laws.proofs.Related.{AlikeRan}
 use Rattle.laws.proofs.Says.{movesTo, Says, says}
 use Rattle.laws.proofs.Tags.{sizes}
 use Rattle.state.specs.State.{ground}
@@ -39,7 +37,7 @@ use Rattle.state.proofs.Checked.{start-passed, tolerable-by}
 use Rattle.step.specs.Step.{State, startOf, runTo}
 use Rattle.blocks.proofs.Accepted.{accepted-by}
 use Rattle.judge.proofs.Runs.{Reached, in-order, never-refused}
-use Rattle.records.specs.Stage.{Stage, planOn, withAmounts, isLong, contentOn, bringOn, passOn, takeOn, runOn, stageAs, takenOn}
+use Rattle.records.specs.Stage.{Stage, planOn, withAmounts, isLong, contentOn, bringOn, passOn, runOn, stageAs, takenOn}
 use Rattle.records.proofs.Later.{taken-list}
 use Rattle.records.proofs.Held.{Long, long-is, runAt, Holds as Holding, offered-is}
 
@@ -213,7 +211,7 @@ module _ (l₀ : List ℤ) (m₀ : List ℕ) (long : Long l₀ m₀) where
         let late = recharge-places (s .place) (z .1) .0 in
         with-amounts (withCharge (s .holding .amounts) w) (withCharge (x .amounts) w) behindRecharge (omega arith) (omega (arith, h .place)) (λ l. absurd (omega arith)) (ap (λ (y : Amounts). withCharge y w) (h .amounts))
 
-  carries : Carries (λ x. x .place) contentOn bringOn passOn Holds
+  pub carries : Carries (λ x. x .place) contentOn bringOn passOn Holds
   carries = record {
     same-place = λ s x h. h .place;
     same-content = λ s x h f a. same-content s x h f;
@@ -238,24 +236,3 @@ module _ (l₀ : List ℤ) (m₀ : List ℕ) (long : Long l₀ m₀) where
   -- all bytes lead it where they lead the lists
   pub joined : (s : Told) (x : Stage) (i : List ℕ) → Holds s x → AlikeRan Holds (run tags takeField s i) (runOn x i)
   joined s x i h = carried (λ y. y .place) contentOn bringOn passOn Holds carries s x i h
-
-  -- a state that holds what some lists tell: each accepted field keeps it so
-  pub record Tells (x : Stage) : Type 0 where
-    pub told : Told
-    pub holds : Holds told x
-
-  pub tells-move : (x : Stage) (i : List ℕ) (y : Stage) (m : ℕ) → moveAt tags takeOn x i ≡ on y m → Tells x → Tells y
-  unfolding replyAt
-  tells-move x i y m e h = go (frontOf tags i) refl e
-    where
-      by-answer : (a : Answer Told) (c : Answer Stage) (n : ℕ) → Alike Holds a c → moveBy c n ≡ on y m → Tells y
-      by-answer a c n (both-taken {s = s} {r = r} p) q = let d : r ≡ y = cc q in record { told = s; holds = subst (Holds s) d p }
-      by-answer a c n (both-passed {s = s} {r = r} p) q = let d : r ≡ y = cc q in record { told = s; holds = subst (Holds s) d p }
-      by-answer a c n (both-refused k) q = absurd (false≢true cc)
-
-      go : (w : Front) → frontOf tags i ≡ w → moveAs tags takeOn x w ≡ on y m → Tells y
-      go incomplete q g = absurd (false≢true cc)
-      go impossible q g = absurd (false≢true cc)
-      go (field f) q g =
-          by-answer (takeField (h .told) f) (takeOn x f) (bytesOf f)
-          (step-alike (λ y. y .place) contentOn bringOn passOn Holds carries (h .told) x (h .holds) f (front-allowed tags i f q)) g

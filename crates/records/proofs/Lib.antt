@@ -6,3 +6,4 @@ pub mod Limits
 pub mod After
 pub mod Held
 pub mod Joined
+pub mod Tells

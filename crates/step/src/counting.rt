@@ -19,6 +19,19 @@ ghost use Rattle.rules.specs.Cycle.{phaseAt, positions, valid};
 ghost use Rattle.step.specs.Step.{countedOne};
 ghost use Rattle.step.specs.Where.{standing, nextOf, movedOn, resumedOn, Counts};
 
+// The progress with a sample more, which counts and is held.
+fn counted_one(progress: Progress, x: Moment) -> Progress
+    requires { ⌜ (progress .offered < mostOffered) × (progress .counted ≤ progress .offered) ⌝ }
+    ensures { λ r. ⌜ r ≡ countedOne progress x ⌝ }
+{
+    Progress {
+        offered: progress.offered + 1,
+        counted: progress.counted + 1,
+        end: End::None,
+        held: x,
+    }
+}
+
 // The phase of a position, from that of the position before.
 fn next_phase(cycle: &[u8], phase: usize, position: u32) -> usize
     requires { ⌜ (valid (now cycle) ≡ true) × (position + 1 < positions (now cycle)) × (phase ≡ phaseAt (now cycle) position) ⌝ }
@@ -55,12 +68,7 @@ fn turned_by(cycle: &[u8], w: u32, y: Method, g: Going, x: Moment) -> Going
     let window = window_at(cycle, w, next.position);
     let progress = g.progress;
     Going {
-        progress: Progress {
-            offered: progress.offered + 1,
-            counted: progress.counted + 1,
-            end: End::None,
-            held: x,
-        },
+        progress: counted_one(progress, x),
         row: next.row,
         phase: next.phase,
         window,
@@ -84,12 +92,7 @@ pub fn resumed_by(cycle: &[u8], w: u32, g: Going, x: Moment) -> Going
     let window = window_at(cycle, w, 0);
     let progress = g.progress;
     Going {
-        progress: Progress {
-            offered: progress.offered + 1,
-            counted: progress.counted + 1,
-            end: End::None,
-            held: x,
-        },
+        progress: counted_one(progress, x),
         row: 2,
         phase: 0,
         window,
@@ -108,12 +111,7 @@ pub fn moved_by(g: Going, x: Moment) -> Going
     let window = g.window;
     let progress = g.progress;
     Going {
-        progress: Progress {
-            offered: progress.offered + 1,
-            counted: progress.counted + 1,
-            end: End::None,
-            held: x,
-        },
+        progress: counted_one(progress, x),
         row: g.row,
         phase: g.phase,
         window,
@@ -136,12 +134,7 @@ pub fn counted_by(cycle: &[u8], w: u32, y: Method, g: Going, x: Moment) -> Going
     let window = g.window;
     let progress = g.progress;
     Going {
-        progress: Progress {
-            offered: progress.offered + 1,
-            counted: progress.counted + 1,
-            end: End::None,
-            held: x,
-        },
+        progress: counted_one(progress, x),
         row: g.row,
         phase: g.phase,
         window: shift(cycle, w, position, window),

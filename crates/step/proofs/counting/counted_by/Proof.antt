@@ -32,8 +32,8 @@ module _ (c : tie.Start) where
       omega arith
 
 -- where only the ends of the window move
-abbrev entry : tie.After-struct-known3 → tie.Start
-entry c = c .before .before .before .before .before .before .before
+abbrev entry : tie.After-counted-one → tie.Start
+entry c = c .before .before .before .before .before .before
 
 add-if1 : tie.Need-add-if1
 add-if1 c = omega (arith, small-position (c .before))
@@ -44,11 +44,8 @@ turned-by-requires c κs = search needs
 returns : tie.Need-returns
 returns c = search needs
 
-add-t9 : tie.Need-add-t9
-add-t9 c = search needs
-
-add-t11 : tie.Need-add-t11
-add-t11 c = search needs
+counted-one-requires : tie.Need-counted-one-requires
+counted-one-requires c κs = search needs
 
 shift-requires : tie.Need-shift-requires
 shift-requires c κs =
@@ -56,16 +53,16 @@ shift-requires c κs =
     let near : start .args .g .position + 1 < start .args .g .until = omega arith in
     (start .pre .0 .sound, goes-on (start .args .cycle .now) (good start) (start .args .w) (start .args .y) (start .args .g) (start .pre .0 .stands) (start .pre .1) near, at-window start, later start near)
 
-add-t15 : tie.Need-add-t15
-add-t15 c = omega (arith, small-position (entry (c .before)))
+add-t9 : tie.Need-add-t9
+add-t9 c = omega (arith, small-position (entry (c .before)))
 
 returns-2 : tie.Need-returns-2
 returns-2 c =
     let start = entry (c .before) in
-    moved-is (start .args .cycle .now) (good start) (start .args .w) (start .args .y) (start .args .g) (start .pre .0 .stands) (start .pre .1) (omega arith)
-    (start .args .x) (c .shift .result) (c .shift .ensures)
+    rw (c .before .counted-one .ensures)
+    (moved-is (start .args .cycle .now) (good start) (start .args .w) (start .args .y) (start .args .g) (start .pre .0 .stands) (start .pre .1) (omega arith)
+    (start .args .x) (c .shift .result) (c .shift .ensures))
 
 pub counted-by-spec : {M : Type 1} → statement M
 counted-by-spec =
-    tie.close
-    (tie.spec add-if1 turned-by-requires returns add-t9 add-t11 shift-requires add-t15 returns-2)
+    tie.close (tie.spec add-if1 turned-by-requires returns counted-one-requires shift-requires add-t9 returns-2)

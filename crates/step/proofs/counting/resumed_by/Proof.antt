@@ -5,7 +5,6 @@ use native.Mathlib.Omega.{arith}
 use borrow.Author.Needs.{needs}
 use Rattle.rules.specs.Shortened.{beside}
 use Rattle.laws.proofs.Sound.{Sound, sound, real}
-use Rattle.step.specs.Step.{countedOne}
 use Rattle.step.proofs.Placing.{until-made}
 use Rattle.step.proofs.counting.resumed_by.Statement.{statement}
 use Rattle.step.proofs.counting.resumed_by.Tie as tie
@@ -18,25 +17,22 @@ window-at-requires c κs =
     let start = c .before in
     (start .pre .0, start .pre .1, real (good start))
 
-add-t7 : tie.Need-add-t7
-add-t7 c = search needs
-
-add-t8 : tie.Need-add-t8
-add-t8 c = search needs
+counted-one-requires : tie.Need-counted-one-requires
+counted-one-requires c κs = search needs
 
 until-in-requires : tie.Need-until-in-requires
-until-in-requires c κs = let s = good (c .before .before .before .before .before) in omega arith
+until-in-requires c κs = let s = good (c .before .before .before .before) in omega arith
 
 returns : tie.Need-returns
 returns c =
-    let at = c .before .before .before .before in
+    let at = c .before .before .before in
     let start = at .before .before in
     let b = start .args .cycle .now in
     let g = start .args .g in
     let e = at .window-at .ensures .0 in
     let u = until-made b (good start) (start .args .w) (at .window-at .result) (c .until-in .result) (beside 0) e 0 refl (c .until-in .ensures) in
     λ i. record {
-      progress = countedOne (g .progress) (start .args .x);
+      progress = c .before .counted-one .ensures i;
       row = 2;
       phase = 0;
       window = e i;
@@ -47,4 +43,4 @@ returns c =
     }
 
 pub resumed-by-spec : {M : Type 1} → statement M
-resumed-by-spec = tie.close (tie.spec window-at-requires add-t7 add-t8 until-in-requires returns)
+resumed-by-spec = tie.close (tie.spec window-at-requires counted-one-requires until-in-requires returns)

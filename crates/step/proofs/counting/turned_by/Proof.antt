@@ -45,27 +45,24 @@ window-at-requires c κs =
     let start = c .before .before in
     (start .pre .0 .sound, start .pre .0 .time, next-small c)
 
-add-t9 : tie.Need-add-t9
-add-t9 c = search needs
-
-add-t10 : tie.Need-add-t10
-add-t10 c = search needs
+counted-one-requires : tie.Need-counted-one-requires
+counted-one-requires c κs = search needs
 
 until-in-requires : tie.Need-until-in-requires
 until-in-requires c κs =
-    let s = good (c .before .before .before .before .before .before) in
-    omega (arith, phase-there (c .before .before .before .before))
+    let s = good (c .before .before .before .before .before) in
+    omega (arith, phase-there (c .before .before .before))
 
 returns : tie.Need-returns
 returns c =
-    let next = c .before .before .before .before .before in
+    let next = c .before .before .before .before in
     let s = start next in
     let b = s .args .cycle .now in
-    turned-is b (good s) (s .args .w) _ _ (s .args .y) (s .args .g .progress) (s .args .x) (next .next-place .result) (next .next-place .ensures)
-    (c .before .before .before .before .window-at .ensures .0) (c .until-in .ensures) _ _
-    (row-in b (good s) (s .args .w) (s .args .y) (s .args .g) (s .pre .0 .stands)) (phase-in b (good s) (s .args .w) (s .args .y) (s .args .g) (s .pre .0 .stands))
+    rw (c .before .counted-one .ensures)
+    (turned-is b (good s) (s .args .w) _ _ (s .args .y) (s .args .g .progress) (s .args .x) (next .next-place .result) (next .next-place .ensures)
+    (c .before .before .before .window-at .ensures .0) (c .until-in .ensures) _ _
+    (row-in b (good s) (s .args .w) (s .args .y) (s .args .g) (s .pre .0 .stands)) (phase-in b (good s) (s .args .w) (s .args .y) (s .args .g) (s .pre .0 .stands)))
 
 pub turned-by-spec : {M : Type 1} → statement M
 turned-by-spec =
-    tie.close
-    (tie.spec next-place-requires window-at-requires add-t9 add-t10 until-in-requires returns)
+    tie.close (tie.spec next-place-requires window-at-requires counted-one-requires until-in-requires returns)
