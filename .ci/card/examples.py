@@ -19,6 +19,9 @@ EXAMPLES = [
     ("empty", "no samples at all", HEAD, told("none 0")),
     ("one", "one sample: its interval is open and adds nothing", HEAD + block(0, GOOD), told("none 1")),
     ("joint", "joints of phases and of cycles, with other speeds and energies on both sides", JOINT + recharge(15), joined("ac 937500")),
+    # worked out in rows.py, `uneven` and the rows of L11: 864,000,000 / 51,710,688 = 16.70.., and 879,081,700 / 51,710,688 = 17.00..
+    ("not-above", "W is rounded down, and the range has the whole metres of the unrounded one", HEAD + block(0, *UNEVEN * 3, GOOD), uneven(16)),
+    ("above", "the same with energy before the test: the range is one metre above the whole metres of the unrounded one, 16.99..", HEAD + transfer(0, 1508170) + block(0, *UNEVEN * 3, GOOD), uneven(17)),
     ("stop", "every speed 131 where 130 is inside, allowance 3: the fourth sample stops the run", NAMED + LEVEL + tolerances(30, 20, 3) + block(0, *[(131, 6000, -120)] * 10), told("stop 3", 0, 4, 0, 4320000)),
     ("stop-at-once", "a stop by the first sample of the run, allowance 0: no interval was open", STRICT + block(0, STOPPING, GOOD, GOOD), told("stop 0", 0, 1)),
     # The stopping sample draws 1,440,000 at a speed of 131 and closes the third cycle: e_3 = 39 x 1,440,000 + 2,160,000 = 58,320,000, d_3 = 39 x 200 + 231 =

@@ -74,6 +74,8 @@ NUMBER_I = field(2, b"ITESTVEH000000001")
 # an allowance of 0, and a sample that stops the run then: it draws 1,440,000
 STRICT = NAMED + LEVEL + tolerances(30, 20, 0)
 STOPPING = (131, 6000, -240)
+# a cycle of T = 2 with one sample that is quicker and draws as much as GOOD: e = 57,600,000, d = 38 x 200 + 2 x 210 = 8,020, 100 e / d = 718,204.48..
+UNEVEN = [*[GOOD] * 10, (110, 6000, -120), *[GOOD] * 29]
 # the shortened method: M of 10 samples, a set speed of 140. With s = 30 a speed of 109 is below, 109 + 30 < 140, and one of 110 is not
 STRETCHES = stretches(10, 140)
 SHORTENED = HEAD + STRETCHES
@@ -109,6 +111,11 @@ def joined(ac):
     e_3 = 34,200,000 + 1,560,000 + 25,080,000 + 3,660,000 = 64,500,000; d_3 = 4,560 + 200 + 3,040 + 180 = 7,980; q_3 = 808,270 (.67)
     E is their sum; W = (q_1 e_1 + q_2 e_2 + q_3 e_3) / E = 142,322,809,980,000 / 184,680,000 = 770,645.49..; 923,400,000 / 55,486,440 = 16.64.. metres."""
     return told("none 121", 3, 0, 0, 184680000, ["weighted 770645", "range 16", ac])
+
+
+def uneven(metres):
+    """Three cycles UNEVEN and one sample more. q = 718,204 for each, so W = 718,204 and 72 W = 51,710,688; unrounded 72 W* = 51,710,723.19.."""
+    return closed("weighted 718204", f"range {metres}", "ac -")
 
 
 def four(end, drawn, metres, ac="ac -", passed=0):
@@ -251,6 +258,17 @@ ROWS = [
     (HEAD + block(0, GOOD) + block(0, FAR, number=OTHER) + block(1, (100, 6000, 0)), told("none 2", 0, 0, 1, 720000)),
     # joints of phases and of cycles
     (JOINT, joined("ac -")),
+    # document 02, L11: 17 x 51,710,688 = 879,081,696. With E = 172,800,000 + 2 x 1,508,170 = 175,816,340, 5E = 879,081,700 is not below it, but below
+    # 17 x 51,710,723.19.. = 879,082,294.26..: the exact range has 16 whole metres. With 2 units less, 5E = 879,081,690 is below both
+    (HEAD + transfer(0, 1508170) + block(0, *UNEVEN * 3, GOOD), uneven(17)),
+    (HEAD + transfer(0, 1508169) + block(0, *UNEVEN * 3, GOOD), uneven(16)),
+    # 5E = 879,082,300 with E = 175,816,460 is not below the unrounded one either: the exact range has 17; 879,082,290 with 2 units less is
+    (HEAD + transfer(0, 1508230) + block(0, *UNEVEN * 3, GOOD), uneven(17)),
+    (HEAD + transfer(0, 1508229) + block(0, *UNEVEN * 3, GOOD), uneven(17)),
+    # the shortened method, M of 10 GOOD: E = 244,800,000 + 2 x 1,705,652 = 248,211,304, 5E = 1,241,056,520, and 24 x 51,710,688 = 1,241,056,512;
+    # the exact range has 23 whole metres, as 24 x 51,710,723.19.. = 1,241,057,356.6... With 2 units less 5E = 1,241,056,510
+    (SHORTENED + transfer(0, 1705652) + drive(*UNEVEN * 2, *[GOOD] * 10, *UNEVEN * 2, GOOD), told("none 171", 4, 0, 0, 244800000, ["weighted 718204", "range 24", "ac -"])),
+    (SHORTENED + transfer(0, 1705651) + drive(*UNEVEN * 2, *[GOOD] * 10, *UNEVEN * 2, GOOD), told("none 171", 4, 0, 0, 244800000, ["weighted 718204", "range 23", "ac -"])),
     # a stop by a sample that draws 1,440,000. At the first position of the second cycle: 39 x 1,440,000 + 2,160,000, and the first cycle is finished.
     # At the last position of the first: 38 x 1,440,000 + 2,160,000, and it is not. What follows changes nothing
     (NAMED + LEVEL + tolerances(30, 20, 0) + block(0, *[GOOD] * 40, (131, 6000, -240), FAR), told("stop 40", 1, 1, 0, 58320000)),

@@ -161,25 +161,80 @@ fn open_cycle_gives_back() {
     assert!(back(1).ends_with("drawn 115199999\nrefused 11\n"));
 }
 
+/// A closing of small numbers, and W* as a fraction: the unrounded 100 e / d
+/// are over the common product of the distances.
+struct Exact {
+    cycles: Vec<Finished>,
+    energy: i128,
+    above: i128,
+    below: i128,
+}
+
+fn exact(chance: &mut Chance, most_energy: i64, most_distance: i64, most_rest: i64) -> Exact {
+    let n = chance.between(3, 5) as usize;
+    let e: Vec<i128> = (0..n).map(|_| chance.between(1, most_energy).into()).collect();
+    let d: Vec<i128> = (0..n).map(|_| chance.between(1, most_distance).into()).collect();
+    let energy = e[0] + e[1] + i128::from(chance.between(0, most_rest));
+    let product: i128 = d.iter().product();
+    let unrounded: Vec<i128> = (0..n).map(|c| 100 * e[c] * (product / d[c])).collect();
+    let others = n as i128 - 2;
+    let sum: i128 = unrounded[2..].iter().sum();
+    let above = others * (unrounded[0] * e[0] + unrounded[1] * e[1]) + (energy - e[0] - e[1]) * sum;
+    let pairs: Vec<(i128, i128)> = e.into_iter().zip(d).collect();
+    Exact { cycles: cycles(&pairs), energy, above, below: energy * others * product }
+}
+
 /// W is never above the weighting of the unrounded 100 e / d and less than 2
-/// below it. The unrounded values are fractions over the common product of
-/// the distances.
+/// below it.
 #[test]
 fn weighted_is_near_the_unrounded_weighting() {
     let chance = &mut Chance::new(1);
     for _ in 0..20_000 {
-        let n = chance.between(3, 5) as usize;
-        let e: Vec<i128> = (0..n).map(|_| chance.between(1, 5000).into()).collect();
-        let d: Vec<i128> = (0..n).map(|_| chance.between(1, 90).into()).collect();
-        let energy = e[0] + e[1] + i128::from(chance.between(0, 9000));
-        let q: Vec<i128> = (0..n).map(|c| 100 * e[c] / d[c]).collect();
-        let product: i128 = d.iter().product();
-        let exact: Vec<i128> = (0..n).map(|c| 100 * e[c] * (product / d[c])).collect();
-        let others = n as i128 - 2;
-        let sum: i128 = exact[2..].iter().sum();
-        let above = others * (exact[0] * e[0] + exact[1] * e[1]) + (energy - e[0] - e[1]) * sum;
-        let below = energy * others * product;
-        let w = weighted(e[0], e[1], energy, &q);
-        assert!(w * below <= above && above < (w + 2) * below);
+        let x = exact(chance, 5000, 90, 9000);
+        let q: Vec<i128> = x.cycles.iter().map(|c| 100 * c.energy / c.distance).collect();
+        let w = weighted(x.cycles[0].energy, x.cycles[1].energy, x.energy, &q);
+        assert!(w * x.below <= x.above && x.above < (w + 2) * x.below);
     }
+}
+
+/// Document 02, L11: with R* = 5E / (72W*) the range R is not below the whole
+/// metres of R*, R × W < R* × (W+2), R is at most k metres above them where
+/// 2R <= k(W+2), and W lies between the least and the greatest q. Both sides
+/// of each bound are reached, so none can be made tighter.
+#[test]
+fn range_is_near_the_exact_one() {
+    let chance = &mut Chance::new(2);
+    let mut reached = [0; 8];
+    for turn in 0..400_000 {
+        // in every second one the whole energy is that of the first two cycles
+        let x = if turn % 2 == 0 {
+            exact(chance, 12, 400, 4000)
+        } else {
+            exact(chance, 4000, 90_000, 0)
+        };
+        let Ok(Figures { weighted: w, range: r }) = close(&x.cycles, x.energy) else { continue };
+        let (top, bottom) = (5 * x.energy * x.below, 72 * x.above);
+        let whole = top / bottom;
+        assert!(whole <= r);
+        assert!(r * w * bottom < top * (w + 2));
+        let most = (2 * r + w + 1) / (w + 2);
+        assert!(r <= whole + most);
+        let q = x.cycles.iter().map(|c| 100 * c.energy / c.distance);
+        let (least, greatest) = (q.clone().min().unwrap(), q.max().unwrap());
+        assert!(least <= w && w <= greatest);
+        let sides = [
+            r == whole && r * bottom < top,
+            r == whole + 1 && 2 * r <= w + 2,
+            r == whole && 2 * r <= w + 2,
+            r == whole + 2 && 2 * r == w + 3,
+            r * w * bottom >= top * (w + 1),
+            r == whole + most && most > 2,
+            w == least && least < greatest,
+            w == greatest && least < greatest,
+        ];
+        for (count, side) in reached.iter_mut().zip(sides) {
+            *count += i32::from(side);
+        }
+    }
+    assert!(reached.iter().all(|&count| count > 0), "{reached:?}");
 }

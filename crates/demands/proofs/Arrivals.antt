@@ -4,11 +4,11 @@ use mathlib.Core.List.{List, _++_}
 use mathlib.Core.Path.{_≡_, refl, sym, ap, ap₂, subst, _∙_}
 use Prim.Native.Nat.{ℕ, suc}
 use lib.ListN.{length, drop}
-use Rattle.rules.specs.Record.{refusedAt}
+use Rattle.rules.specs.Record.{refusedAt, sheetOf}
 use Rattle.laws.specs.Answers.{Said, refuses, numberOf}
 use Rattle.desk.specs.Feeding.{outcomeSaid, Lent, Laid, Consumed, laidOf, stops, feedOf, deskGround}
 use Rattle.desk.proofs.Arriving.{Arrived, arrived-none, arrived-more}
-use Rattle.rules.specs.Text.{refusalText}
+use Rattle.rules.specs.Text.{refusalText, printed}
 use Rattle.desk.specs.declared.Outcome.the-variants.{Refused}
 use Rattle.desk.proofs.Grounds.{feed-refuses}
 use Rattle.desk.proofs.feed
@@ -17,9 +17,11 @@ use Rattle.prints.proofs.Texts.{text-is, desk-refused}
 use Rattle.prints.proofs.Printing as printing
 use Rattle.prints.proofs.refuse
 use Rattle.prints.proofs.close
-use Rattle.demands.specs.Calls.{FeedCall}
+use Rattle.demands.specs.Calls.{FeedCall, CloseCall}
 use Rattle.demands.specs.Demand2.{Prints, BeforeAll}
-use Rattle.demands.specs.Runs.{FeedOn, laidBy, FedIn, empty, more}
+use Rattle.demands.specs.Range.{PrintsNear}
+use Rattle.demands.specs.Runs.{FeedOn, laidBy, FedIn, empty, more, CloseOn, closedTo}
+use Rattle.demands.proofs.PrintsNear.{prints-near}
 
 -- as the contract has them
 fed-by : {x : Laid} {i : List ℕ} (c : FeedCall) → FeedOn x i c → record { laid = laidBy c; used = c .answer .used; outcome = outcomeSaid (c .answer .outcome) } ≡ feedOf x i
@@ -46,10 +48,8 @@ before-all x some = record {
 
 pub prints : (lent : Lent) {w rest : List ℕ} {x : Laid} → FedIn lent w x rest → Prints w rest x
 prints lent {w} {rest} {x} h = record {
-  report-prints = λ c on.
-      text-is _ _ (c .kept .0) (c .kept .1) (on .long)
-      ∙ (λ j. closeText (laidOf (on .desk j) (on .room j) (on .ledger j) (on .map j)) (on .left j))
-      ∙ printing.report-prints lent (fed-arrived lent h);
+  report-prints = reported;
+  report-near = λ c on. subst (PrintsNear w) (sym (reported c on)) (prints-near w);
   feed-number = λ new f fed k stops q.
       printing.refused-number lent (fed-arrived lent h) new k (outcome-is new f fed k stops) q
       ∙ ap₂ (λ (y : Consumed) (o : Said (Unit {0})). refusedAt (numberOf o) (suc (y .laid .desk .fields))) (sym (fed-by f fed)) (sym (ap outcomeSaid stops));
@@ -60,5 +60,11 @@ prints lent {w} {rest} {x} h = record {
       ∙ printing.refusal-prints lent (fed-arrived lent h) new k (outcome-is new f fed k stops) q;
 }
   where
+    reported : (c : CloseCall) → CloseOn x rest c → closedTo c ≡ printed (sheetOf w)
+    reported c on =
+        text-is _ _ (c .kept .0) (c .kept .1) (on .long)
+        ∙ (λ j. closeText (laidOf (on .desk j) (on .room j) (on .ledger j) (on .map j)) (on .left j))
+        ∙ printing.report-prints lent (fed-arrived lent h)
+
     outcome-is : (new : List ℕ) (f : FeedCall) → FeedOn x (rest ++ new) f → (k : ℕ) → f .answer .outcome ≡ Refused k → feedOf x (rest ++ new) .outcome ≡ refuses k
     outcome-is new f fed k stops = sym (ap (λ (y : Consumed). y .outcome) (fed-by f fed)) ∙ ap outcomeSaid stops

@@ -1,17 +1,19 @@
 -- The three demands: specs/Demand1.antt, Demand2.antt and Demand3.antt state them, and here each is proved from its parts.
 -- Assumes nothing.
 use mathlib.Core.List.{List}
-use mathlib.Core.Path.{_≡_}
+use mathlib.Core.Path.{_≡_, sym, subst}
 use lib.IntN.{ℤ}
 use Prim.Native.Nat.{ℕ}
 use Rattle.rules.specs.declared.Moment.{Moment}
 use Rattle.rules.specs.Plan.{Plan}
 use Rattle.state.specs.declared.Run.{Run}
+use Rattle.laws.proofs.NotClaimed.{not-claimed}
 use Rattle.judge.proofs.Runs as runs
 use Rattle.intake.proofs.Told as intake
 use Rattle.demands.specs.Demand1.{Demand1}
 use Rattle.demands.specs.Demand2.{Demand2, RunHolds}
 use Rattle.demands.specs.Demand3.{Demand3}
+use Rattle.demands.specs.Range.{PrintsNear}
 use Rattle.demands.specs.Runs.{Driven}
 use Rattle.demands.proofs.Takes.{takes-every-input}
 use Rattle.demands.proofs.HasItsNumber.{has-its-number}
@@ -25,6 +27,7 @@ use Rattle.demands.proofs.Verdict.{verdict-is-the-judges}
 use Rattle.demands.proofs.ShutOut.{shuts-out, shuts-out-always}
 use Rattle.demands.proofs.SomeRecord.{some-between, speaks}
 use Rattle.demands.proofs.ForeignBlocks.{foreign-changes-nothing, read-passes-over}
+use Rattle.demands.proofs.PrintsNear.{prints-near}
 use Rattle.demands.proofs.Arrivals.{before-all, prints}
 use Rattle.demands.proofs.WiderRuns.{wider-run, longer-run, E-never-finished}
 use Rattle.demands.proofs.Calls.{wider-calls, longer-calls}
@@ -60,7 +63,12 @@ demand-2 = record {
   read-passes-over = read-passes-over;
   prints = prints;
   before-all = before-all;
-  program = λ lent. record { take-record-prints = intake.take-record-prints lent; short-buffer-prints = intake.short-buffer-prints lent };
+  program = λ lent. record {
+    take-record-prints = intake.take-record-prints lent;
+    take-record-near = λ c e h. subst (PrintsNear (c .bytes)) (sym (intake.take-record-prints lent c e h)) (prints-near (c .bytes));
+    short-buffer-prints = intake.short-buffer-prints lent;
+  };
+  not-claimed = not-claimed;
 }
 
 pub demand-3 : Demand3

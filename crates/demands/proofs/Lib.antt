@@ -30,6 +30,8 @@ pub mod Blocked
 pub mod BlocksAdded
 pub mod Lines
 pub mod ForeignBlocks
+pub mod TextLines
+pub mod PrintsNear
 pub mod Arrivals
 pub mod SomeRecord
 pub mod WiderRuns

@@ -2,19 +2,15 @@
 -- Assumes nothing.
 use mathlib.Core.Bool.{Bool, true}
 use mathlib.Core.List.{List}
-use mathlib.Core.Path.{_≡_, refl, sym, ap, subst, _∙_}
-use Prim.Native.Nat.{ℕ, _*_, _+_, _≤_, _<_}
+use mathlib.Core.Path.{_≡_, refl, sym, ap, _∙_}
+use Prim.Native.Nat.{ℕ, _*_, _+_, _<_}
 use native.Mathlib.Omega.{arith}
 use borrow.Author.Tests.{eq-eqb}
 use lib.IntN.{ℤ, pos}
 use lib.ListN.{length}
-use Rattle.rules.specs.Words.{up, eqZ}
+use Rattle.rules.specs.Words.{eqZ}
 use Rattle.numbers.proofs.Tests.{pass, settled-taken}
-use Rattle.rules.specs.declared.Closing.{Closing}
-use Rattle.rules.specs.declared.ClosingAnswer.the-variants.{Closed}
 use Rattle.rules.specs.declared.Moment.{Moment}
-use Rattle.rules.specs.Closing.{weight, weighing, wholeEnergy, weightedFigure, leastFinished, closingRefusal, closingFigures}
-use Rattle.values.specs.Limits.{areAmounts}
 use Rattle.rules.specs.Course.{Course, outside, counted, judged, closed}
 use Rattle.rules.specs.Parts.{phasePart, partEnergy, partDistance}
 use Rattle.rules.specs.Regular.{momentIn}
@@ -22,11 +18,10 @@ use Rattle.rules.specs.Plan.{Plan, courseOf}
 use Rattle.rules.specs.Shown.{shownRow}
 use Rattle.laws.proofs.Plans.{planned-no-such-phase}
 use Rattle.laws.proofs.Total.{energy-none, distance-none}
-use Rattle.laws.proofs.Closes.{three-at-least, closes}
-use Rattle.laws.proofs.Closes as rule
+use Rattle.laws.proofs.RunNear.{run-near}
 use Rattle.ledger.specs.Row.{at, outsideIn}
-use Rattle.laws.specs.Answers.{gives, Figured, figuredSaid, closingSaid}
-use Rattle.laws.proofs.Answers.{was-given, given-is, closing-or, same-closing}
+use Rattle.laws.specs.Answers.{gives}
+use Rattle.laws.proofs.Answers.{same-closing}
 use Rattle.state.specs.declared.Run.{Run}
 use Rattle.state.specs.State.{ground}
 use Rattle.state.specs.Refusals.{lastCycle}
@@ -37,11 +32,10 @@ use Rattle.judge.proofs.Runs.{Reached, Shown}
 use Rattle.closing.proofs.Joined as closing
 use Rattle.reading.specs.declared.Reading.{Reading}
 use Rattle.reading.specs.Answers.{isReading, readGround}
-use Rattle.rules.specs.Figures.{energies, distances, cyclesIn}
 use Rattle.figures.proofs.OfRun as figures
-use Rattle.demands.specs.Calls.{ShownCall, ClosingCall}
+use Rattle.demands.specs.Calls.{ShownCall}
 use Rattle.demands.specs.Demand2.{RunShows, RunAnswers, ClosedHolds}
-use Rattle.demands.specs.Runs.{Driven, ShownOn, ClosingOn, closingAmounts, figuresReading}
+use Rattle.demands.specs.Runs.{Driven, ShownOn, closingAmounts, figuresReading}
 use Rattle.demands.proofs.Driven.{driven-reached}
 use Rattle.demands.proofs.LaterCalls.{shown-kept, totals-kept, closing-kept, figures-kept}
 use Rattle.laws.proofs.NineNumbers.{energy-figure, distance-figure}
@@ -131,38 +125,8 @@ module _ {p : Plan} {l₀ : List ℤ} {m₀ : List ℕ} {xs : List Moment} {r : 
 
   -- ---- a call of `close` that answers the figures
 
-  abbrev e : ℕ → ℤ
-  e = energies p xs
-
-  abbrev d : ℕ → ℤ
-  d = distances p xs
-
-  abbrev whole : ClosingCall → ℤ
-  whole c = wholeEnergy (closingAmounts c .before) y s n
-
-  -- how many cycles a closing asks for
-  abbrev asked : ℕ
-  asked = leastFinished (p .method)
-
-  answered : (c : ClosingCall) → ClosingOn r (p .cycle) l m c → areAmounts (closingAmounts c) ≡ true → (x : Closing) → c .answer ≡ Closed x
-      → (closingRefusal (whole c) (cyclesIn p xs) e d asked ≡ 0) × (weightedFigure (whole c) (cyclesIn p xs) e d ≡ x .weighted)
-  answered c on ok x is =
-      let a = closingAmounts c in
-      let refusal = closingRefusal (whole c) (cyclesIn p xs) e d asked in
-      let said = closing-or refusal (closingFigures (whole c) (cyclesIn p xs) e d (a .after) (a .charge)) in
-      let (none, same) = was-given refusal _ (figuredSaid x) (sym said ∙ ap closingSaid (sym (run-answers .closing-of-run c on ok) ∙ is)) in
-      (none, ap (λ (f : Figured). f .weighted) (given-is same))
-
   pub closed-holds : ClosedHolds p l₀ m₀ xs r l m
   closed-holds = record {
     recharge-aside = λ c on ok none. run-answers .closing-of-run c on ok ∙ settled-taken _ none;
-    weighted-between = λ c on ok x is a z g.
-        let (none, same) = answered c on ok x is in
-        subst (λ (w : ℕ). (a ≤ w) × (w ≤ z)) same (rule.weighted-between (whole c) (cyclesIn p xs) e d (closes (whole c) (cyclesIn p xs) e d asked (three-at-least (p .method)) none) a z g);
-    weighted-close = λ c on ok x is k u some g.
-        let (none, same) = answered c on ok x is in
-        let E = up (whole c) in
-        subst (λ (w : ℕ). (w * (k * weight E (cyclesIn p xs)) ≤ weighing E (cyclesIn p xs) (λ j. up (e j)) u)
-        × (weighing E (cyclesIn p xs) (λ j. up (e j)) u < (w + 2) * (k * weight E (cyclesIn p xs))))
-        same (rule.weighted-close (whole c) (cyclesIn p xs) e d (closes (whole c) (cyclesIn p xs) e d asked (three-at-least (p .method)) none) k u some g);
+    closed-near = λ c on ok x is. run-near p xs (closingAmounts c) x (sym (run-answers .closing-of-run c on ok) ∙ is);
   }

@@ -11,11 +11,12 @@ use Prim.Native.Nat.{ℕ, suc, _+_, _*_, _≤_, _<_}
 use lib.Dec.{eqb}
 use lib.IntN.{ℤ, pos, _+ℤ_}
 use lib.ListN.{length, take, drop}
-use Rattle.rules.specs.Words.{every, up}
+use Rattle.rules.specs.Words.{every}
 use Rattle.rules.specs.declared.End.the-variants.{None as none}
 use Rattle.rules.specs.declared.Figure.the-variants as figure
 use Rattle.rules.specs.declared.Closing.{Closing}
 use Rattle.rules.specs.declared.ClosingAnswer.the-variants as closings
+use Rattle.rules.specs.declared.Method.{Method}
 use Rattle.rules.specs.declared.Moment.{Moment}
 use Rattle.rules.specs.declared.Sample.{Sample}
 use Rattle.rules.specs.Bench.{isSample, tolerable, mostCycles, mostPhases, mostPositions, mostOffered, mostPassed}
@@ -27,15 +28,16 @@ use Rattle.rules.specs.Regular.{momentIn}
 use Rattle.rules.specs.Shortened.{rowOf}
 use Rattle.rules.specs.Plan.{Plan, courseOf}
 use Rattle.rules.specs.Shown.{ledgerNumbers, mapWords, figure as figureAt, shownRow, marked}
-use Rattle.rules.specs.Closing.{weight, weighing, rateOf, wholeEnergy, leastFinished, closingRefusal, closingFigures}
+use Rattle.rules.specs.Closing.{wholeEnergy, leastFinished, closingRefusal, closingFigures}
 use Rattle.rules.specs.Table.{tags}
 use Rattle.rules.specs.Machine.{run}
 use Rattle.rules.specs.Record.{Told, takeField, untold, told, refusedAt, sheetOf}
 use Rattle.rules.specs.Figures.{energies, distances, cyclesIn, outsideTotal, closingIn, figuresBy}
 use Rattle.rules.specs.Text.{refusalText, printed}
 use Rattle.laws.specs.Answers.{refuses, numberOf}
-use Rattle.laws.specs.Beside.{Unrounded, standOf, placeOf}
+use Rattle.laws.specs.Beside.{standOf, placeOf}
 use Rattle.laws.specs.Claims.{ForeignBlock}
+use Rattle.laws.specs.Near.{NearRun, NotClaimed}
 use Rattle.values.specs.Limits.{isMethod, areAmounts}
 use Rattle.ledger.specs.Row.{at, energyAll}
 use Rattle.map.specs.Map.{isSet, onesOf}
@@ -61,6 +63,7 @@ use Rattle.demands.specs.Runs.{sampleIn, closingAmounts, Driven, FeedOn,
 use Rattle.demands.specs.Runs.{RefuseOn, closedTo, refusedTo, AskedOn, SomeRun, SomeClose}
 use Rattle.demands.specs.Cases.{Neither1Nor2}
 use Rattle.demands.specs.Rows.{momentsOf}
+use Rattle.demands.specs.Range.{PrintsNear}
 use Rattle.demands.specs.Foreign.{ForeignChangesNothing, ReadPassesOver}
 use Rattle.demands.specs.ShutOut.{ShutsOut, ShutsOutAlways}
 
@@ -133,18 +136,9 @@ module _ (p : Plan) (l₀ : List ℤ) (m₀ : List ℕ) (xs : List Moment) (r : 
         → (let a = closingAmounts c in
         closingRefusal (E (a .before)) (cyclesIn p xs) (energies p xs) (distances p xs) (leastFinished (p .method)) ≡ 0
         → c .answer ≡ closings.Closed (closingFigures (E (a .before)) (cyclesIn p xs) (energies p xs) (distances p xs) (a .after) (a .charge)))
-    -- W lies between the least and the greatest q_c, so it is never 0
-    pub weighted-between : (c : ClosingCall) → ClosingOn r (p .cycle) l m c → areAmounts (closingAmounts c) ≡ true
-        → (x : Closing) → c .answer ≡ closings.Closed x → (a z : ℕ)
-        → ((k : ℕ) → k < cyclesIn p xs → (a ≤ rateOf (energies p xs) (distances p xs) k) × (rateOf (energies p xs) (distances p xs) k ≤ z))
-        → (a ≤ x .weighted) × (x .weighted ≤ z)
-    -- "It is never above the same weighting of the unrounded 100 e_c / d_c and less than 2 below it.": with the rates u c over the denominator k
-    pub weighted-close : (c : ClosingCall) → ClosingOn r (p .cycle) l m c → areAmounts (closingAmounts c) ≡ true
-        → (x : Closing) → c .answer ≡ closings.Closed x → (let whole = up (E (closingAmounts c .before)) in
-        let e : ℕ → ℕ = λ j. up (energies p xs j) in
-        (k : ℕ) (u : ℕ → ℕ) → 0 < k → Unrounded k (cyclesIn p xs) e (λ j. up (distances p xs j)) u
-        → (x .weighted * (k * weight whole (cyclesIn p xs)) ≤ weighing whole (cyclesIn p xs) e u)
-        × (weighing whole (cyclesIn p xs) e u < (x .weighted + 2) * (k * weight whole (cyclesIn p xs))))
+    -- document 02, L11: W and range lie near what is unrounded
+    pub closed-near : (c : ClosingCall) → ClosingOn r (p .cycle) l m c → areAmounts (closingAmounts c) ≡ true
+        → (x : Closing) → c .answer ≡ closings.Closed x → NearRun p xs (closingAmounts c .before) (x .weighted) (x .range)
 
   -- "such a call is never refused 1 or 2", of every later call
   pub record NeverRefused : Type 0 where
@@ -199,6 +193,8 @@ pub record Speaks : Type 0 where
 pub record Prints (w rest : List ℕ) (x : Laid) : Type 0 where
   -- where the input ends, the bytes printed are those that the rules give for the bytes read
   pub report-prints : (c : CloseCall) → CloseOn x rest c → closedTo c ≡ printed (sheetOf w)
+  -- document 02, L11: the weighted consumption and the range printed lie near what is unrounded
+  pub report-near : (c : CloseCall) → CloseOn x rest c → PrintsNear w (closedTo c)
   -- new bytes, of which a field is refused: its number is the record's, with the number of its field, whatever would follow
   pub feed-number : (new : List ℕ) (f : FeedCall) → FeedOn x (rest ++ new) f → (k : ℕ) → f .answer .outcome ≡ outcome.Refused k → (q : List ℕ)
       → sheetOf ((w ++ new) ++ q) ≡ refusedAt (numberOf (outcomeSaid (f .answer .outcome))) (suc (f .answer .desk .fields))
@@ -218,6 +214,9 @@ pub record ProgramPrints (lent : Lent) : Type 0 where
   pub take-record-prints : {most : ℕ} {out room after : List ℕ} {l : List ℤ} {m : List ℕ} {r : Intake}
       (c : Recorded (laidOf emptyDesk (lent .room₀) (lent .l₀) (lent .m₀)) most out r room l m after)
       → r .failed ≡ false → mostSheet ≤ length out → take (r .printed) after ≡ printed (sheetOf (c .bytes))
+  pub take-record-near : {most : ℕ} {out room after : List ℕ} {l : List ℤ} {m : List ℕ} {r : Intake}
+      (c : Recorded (laidOf emptyDesk (lent .room₀) (lent .l₀) (lent .m₀)) most out r room l m after)
+      → r .failed ≡ false → mostSheet ≤ length out → PrintsNear (c .bytes) (take (r .printed) after)
   pub short-buffer-prints : {most : ℕ} {out room after : List ℕ} {l : List ℤ} {m : List ℕ} {r : Intake}
       → Unread (laidOf emptyDesk (lent .room₀) (lent .l₀) (lent .m₀)) most out r room l m after → mostSheet ≤ length out
       → take (r .printed) after ≡ printed (refusedAt 1 1)
@@ -238,3 +237,5 @@ pub record Demand2 : Type 0 where
   pub prints : (lent : Lent) {w rest : List ℕ} {x : Laid} → FedIn lent w x rest → Prints w rest x
   pub before-all : (x : Laid) → (deskGround x ≡ 0 → ⊥) → BeforeAll x
   pub program : (lent : Lent) → ProgramPrints lent
+  -- document 02, L11: what must not be answered a maker, of either method
+  pub not-claimed : (y : Method) → NotClaimed y

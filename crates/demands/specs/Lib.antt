@@ -8,4 +8,5 @@ pub mod Cases
 pub mod Compared
 pub mod Rows
 pub mod Foreign
+pub mod Range
 pub mod ShutOut

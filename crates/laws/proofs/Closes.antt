@@ -1,9 +1,8 @@
--- What it says that the closing refuses nothing, and what W then is: between the least and the greatest rate, never above the same weighting of the
--- unrounded rates and less than 2 below it.
+-- What it says that the closing refuses nothing; W is then between the least and the greatest rate, and W and the range are near what is unrounded.
 -- Assumes nothing.
 use mathlib.Core.Bool.{true, false≢true}
 use mathlib.Core.Path.{_≡_, refl, sym, subst}
-use Prim.Native.Nat.{ℕ, _+_, _*_, _≤_, _<_}
+use Prim.Native.Nat.{ℕ, _+_, _≤_, _<_}
 use native.Mathlib.Omega.{arith}
 use lib.Dec.{leb}
 use lib.IntN.{ℤ, pos, negsuc, _+ℤ_}
@@ -13,10 +12,10 @@ use Rattle.rules.specs.Words.{allBelow, up}
 use Rattle.numbers.proofs.Tests.{both, all-at, not-refused}
 use Rattle.rules.specs.declared.Method.{Method}
 use Rattle.rules.specs.declared.Method.the-variants.{Regular as byCycles, Shortened as withStretches}
-use Rattle.rules.specs.Closing.{weight, weighing, isRate, rateOf, leastFinished, weightedFigure, rangeFigure, closingRefusal, mostRate}
-use Rattle.laws.specs.Beside.{Unrounded}
-use Rattle.laws.proofs.Closeness.{never-above, two-below}
+use Rattle.rules.specs.Closing.{isRate, rateOf, leastFinished, weightedFigure, rangeFigure, closingRefusal, mostRate}
+use Rattle.laws.specs.Near.{NearExact}
 use Rattle.laws.proofs.Weighing.{least-rate, greatest-rate}
+use Rattle.laws.proofs.NearExact.{near-exact}
 
 -- an integer that is at least k, and one above 0, as natural numbers
 at-least : (k : ℕ) (z : ℤ) → leZ (pos k) z ≡ true → (pos (up z) ≡ z) × (k ≤ up z)
@@ -36,7 +35,8 @@ module _ (E : ℤ) (n : ℕ) (e d : ℕ → ℤ) where
   pub record Closes : Type 0 where
     pub three : 3 ≤ n
     pub drawn : (c : ℕ) → c < n → 1 ≤ up (e c)
-    pub natural : (c : ℕ) → c < n → pos (up (e c)) ≡ e c
+    pub natural : (c : ℕ) → c < n → e c ≡ pos (up (e c))
+    pub whole : E ≡ pos (up E)
     pub fits : up (e 0) + up (e 1) ≤ up E
     pub moved : (c : ℕ) → c < n → 0 < up (d c)
     pub rated : (c : ℕ) → c < n → (1 ≤ rateOf e d c) × (rateOf e d c ≤ mostRate)
@@ -55,11 +55,13 @@ module _ (E : ℤ) (n : ℕ) (e d : ℕ → ℤ) where
       let three : 3 ≤ n = omega (arith, leb-true asked n t₁) in
       let one : (c : ℕ) → c < n → (pos (up (e c)) ≡ e c) × (1 ≤ up (e c)) = λ c l. at-least 1 (e c) (all-at n _ t₂ c l) in
       let sum : pos (up (e 0) + up (e 1)) ≡ e 0 +ℤ e 1 = λ i. one 0 (omega arith) .0 i +ℤ one 1 (omega arith) .0 i in
+      let all = at-least _ E (subst (λ (z : ℤ). leZ z E ≡ true) (sym sum) t₃) in
       record {
         three = three;
         drawn = λ c l. one c l .1;
-        natural = λ c l. one c l .0;
-        fits = at-least _ E (subst (λ (z : ℤ). leZ z E ≡ true) (sym sum) t₃) .1;
+        natural = λ c l. sym (one c l .0);
+        whole = sym (all .0);
+        fits = all .1;
         moved = λ c l. above-zero (d c) (all-at n _ t₄ c l);
         rated = λ c l.
             let (lo, hi) = both (leb 1 (rateOf e d c)) _ (all-at n _ t₅ c l) in
@@ -84,11 +86,6 @@ module _ (E : ℤ) (n : ℕ) (e d : ℕ → ℤ) where
     pub weighted-within : (1 ≤ W) × (W ≤ mostRate)
     weighted-within = weighted-between 1 mostRate (k .rated)
 
-    -- "It is never above the same weighting of the unrounded 100 e_c / d_c and less than 2 below it.": with the rates u c over the denominator g
-    pub weighted-close : (g : ℕ) (u : ℕ → ℕ) → 0 < g → Unrounded g n (λ c. up (e c)) (λ c. up (d c)) u
-        → (W * (g * weight (up E) n) ≤ weighing (up E) n (λ c. up (e c)) u)
-        × (weighing (up E) n (λ c. up (e c)) u < (W + 2) * (g * weight (up E) n))
-    weighted-close g u p x = (
-      never-above (up E) n g (λ c. up (e c)) (λ c. up (d c)) u (k .fits) some-energy (k .three) p (k .moved) x,
-      two-below (up E) n g (λ c. up (e c)) (λ c. up (d c)) u (k .fits) some-energy (k .three) p (k .moved) x,
-    )
+    -- and the range is near the one from unrounded consumptions (document 02, L11)
+    pub closes-near : NearExact (up E) n (λ c. up (e c)) (λ c. up (d c)) W (rangeFigure E n e d)
+    closes-near = near-exact (up E) n (λ c. up (e c)) (λ c. up (d c)) (k .fits) some-energy (k .three) (k .moved) (λ c l. k .rated c l .0)

@@ -20,9 +20,12 @@ pub mod Plans
 pub mod Limit
 pub mod Weighing
 pub mod Closeness
+pub mod NearExact
+pub mod NotClaimed
 pub mod Recharge
 pub mod Same
 pub mod Closes
+pub mod RunNear
 pub mod Ended
 pub mod NineNumbers
 pub mod Samples

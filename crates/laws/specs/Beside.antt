@@ -2,8 +2,7 @@
 -- Assumes nothing.
 use mathlib.Core.Bool.{Bool, true, false, not, cond, _&&_}
 use mathlib.Core.List.{List}
-use mathlib.Core.Path.{_≡_}
-use Prim.Native.Nat.{ℕ, zero, suc, _+_, _-_, _*_, _<_}
+use Prim.Native.Nat.{ℕ, zero, suc, _+_, _-_, _*_}
 use lib.Dec.{leb, ltb, eqb}
 use lib.IntN.{ℤ, pos, negℤ}
 use Rattle.rules.specs.Words.{between}
@@ -96,10 +95,6 @@ rates e d c = rate (e c) (d c)
 -- "Weights by 000, formula 9: e_1/E, e_2/E, and (1 - K_1 - K_2)/(n-2) for the others": the weight of a cycle, over E (n-2)
 abbrev pub weightOf : ℕ → ℕ → (ℕ → ℕ) → ℕ → ℕ
 weightOf E n e c = cond (ltb c 2) (e c * (n - 2)) (E - e 0 - e 1)
-
--- "the unrounded 100 e_c / d_c" over one denominator: u c / k is 100 e_c / d_c
-unfoldable pub Unrounded : ℕ → ℕ → (ℕ → ℕ) → (ℕ → ℕ) → (ℕ → ℕ) → Type 0
-Unrounded k n e d u = (c : ℕ) → c < n → u c * d c ≡ k * (100 * e c)
 
 -- ---- fields
 

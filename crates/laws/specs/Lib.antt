@@ -2,3 +2,4 @@
 pub mod Beside
 pub mod Answers
 pub mod Claims
+pub mod Near

@@ -10,7 +10,7 @@ use Rattle.rules.specs.declared.Figure.the-variants.{Is, Absent}
 use Rattle.rules.specs.declared.Figure.the-variants as figure
 use Rattle.rules.specs.declared.ClosingAnswer.the-variants.{Closed, Refused}
 use Rattle.rules.specs.Closing.{together}
-use Rattle.rules.specs.Rows.{points, bytes, moment, leg, Row, band, drive, draws, joins, weighs, closes, shuts, gathers, short, asks}
+use Rattle.rules.specs.Rows.{points, bytes, moment, leg, Row, band, drive, draws, joins, weighs, closes, exact, shuts, gathers, short, asks}
 
 -- a cycle of one speed
 flat : ℕ → List ℕ
@@ -82,6 +82,21 @@ card =
     -- document 02, L5: the shortened method asks for four
     ∷ closes 4 (pos 15) ones hundreds (pos 0) absent (Refused 10)
     ∷ closes 4 (pos 15) (pos 1 ∷ ones) (pos 100 ∷ hundreds) (pos 0) absent (Closed (together 1 1 Absent))
+    -- document 02, L11: W at the least rate and at the greatest, where cycle 3 has no weight; the rates are not the same
+    ∷ weighs 100 30 20 3 (10 ∷ 10 ∷ 11 ∷ []) 10
+    ∷ weighs 50 30 20 3 (10 ∷ 10 ∷ 5 ∷ []) 10
+    -- R is R*; it is below R*, with rates that are whole and with rates of 100.5, and is the whole metres; it is above R*, by one metre more than they are
+    ∷ exact 3 72 (1 ∷ 1 ∷ 1 ∷ []) (100 ∷ 100 ∷ 100 ∷ []) 1 5 5 1 5 1
+    ∷ exact 3 80 (1 ∷ 1 ∷ 1 ∷ []) (100 ∷ 100 ∷ 100 ∷ []) 1 5 50 9 5 0
+    ∷ exact 3 15_120 (201 ∷ 201 ∷ 201 ∷ []) (200 ∷ 200 ∷ 200 ∷ []) 100 10 700 67 10 0
+    ∷ exact 3 14_400 (201 ∷ 201 ∷ 201 ∷ []) (200 ∷ 200 ∷ 200 ∷ []) 100 10 2000 201 9 1
+    -- W* is 6.8, so W+1 is not enough; 2R = W+2 and one metre more; 2R = W+3 and two metres more
+    ∷ exact 3 1180 (59 ∷ 59 ∷ 69 ∷ []) (1000 ∷ 1000 ∷ 1000 ∷ []) 5 16 7375 612 12 2
+    ∷ exact 3 576 (2 ∷ 2 ∷ 10 ∷ []) (23 ∷ 23 ∷ 101 ∷ []) 8 5 167_256 41_365 4 2
+    ∷ exact 3 288 (1 ∷ 1 ∷ 2 ∷ []) (17 ∷ 17 ∷ 29 ∷ []) 5 4 70_992 24_455 2 2
+    -- four cycles, as the shortened method asks for
+    ∷ exact 4 15_120 (201 ∷ 201 ∷ 201 ∷ 201 ∷ []) (200 ∷ 200 ∷ 200 ∷ 200 ∷ []) 100 10 700 67 10 0
+    ∷ exact 4 14_400 (1009 ∷ 1009 ∷ 1019 ∷ 1019 ∷ []) (1000 ∷ 1000 ∷ 1000 ∷ 1000 ∷ []) 100 10 7_200_000 732_671 9 2
     -- not on the card: an interval counts when it is closed, and the limit is reached when all are
     ∷ shuts 40 0 0 0 none
     ∷ shuts 40 1 1 0 none

@@ -16,8 +16,9 @@ pub mod Regular
 pub mod Shortened
 pub mod Plan
 pub mod Shown
--- 'Closing figures'
+-- 'Closing figures'; the range from unrounded consumptions (document 02, L11)
 pub mod Closing
+pub mod Exact
 -- 'Record layout': the table of tags and the order; what stands at the front of bytes; the machine that takes fields; the values of fields;
 -- what each field brings, with the 'Numbered answers', and what a record tells
 pub mod Table

@@ -6,7 +6,7 @@ use Prim.Native.Nat.{ℕ, _+_, _-_, _*_}
 use lib.Dec.{ltb, eqb}
 use lib.IntN.{ℤ, pos}
 use lib.ListN.{length, getD}
-use Rattle.rules.specs.Words.{bit, every, eqZ, sameBytes}
+use Rattle.rules.specs.Words.{bit, every, first, eqZ, sameBytes}
 use Rattle.rules.specs.Bench.{Moment, Tolerances, withStretches, End, none, stop, limit, drawn}
 use Rattle.rules.specs.Cycle.{valid}
 use Rattle.rules.specs.Band.{inside}
@@ -17,12 +17,14 @@ use Rattle.rules.specs.Regular.{interval, positionOf, regularLayout, reg
 use Rattle.rules.specs.Plan.{plan, courseOf}
 use Rattle.rules.specs.Shown.{shownRow}
 use Rattle.rules.specs.declared.Charge.{Charge}
+use Rattle.rules.specs.declared.Charge.the-variants.{Absent as absent}
 use Rattle.rules.specs.declared.Figure.{Figure}
 use Rattle.rules.specs.declared.Figure.the-variants.{Is, Absent}
 use Rattle.rules.specs.declared.Figure.the-variants as figure
 use Rattle.rules.specs.declared.ClosingAnswer.{ClosingAnswer}
 use Rattle.rules.specs.declared.ClosingAnswer.the-variants.{Closed, Refused}
-use Rattle.rules.specs.Closing.{weighted, closingBy}
+use Rattle.rules.specs.Closing.{weighted, together, closingBy}
+use Rattle.rules.specs.Exact.{exactRange, rangeDenominator, exactMetres}
 
 abbrev pub sameEnd : End → End → Bool
 sameEnd none none = true
@@ -90,6 +92,9 @@ pub data Row : Type 0 where
   weighs : ℕ → ℕ → ℕ → ℕ → List ℕ → ℕ → Row
   -- how many finished cycles the method asks for, E, the energies and the distances of those finished, F, the recharge: the closing
   closes : ℕ → ℤ → List ℤ → List ℤ → ℤ → Charge → ClosingAnswer → Row
+  -- how many finished cycles the method asks for, E, the energies and the distances of those finished: W and R as the closing has them; R*, a numerator and
+  -- a denominator; its whole metres; the least a for which R × W < R* × (W+a)
+  exact : ℕ → ℕ → List ℕ → List ℕ → ℕ → ℕ → ℕ → ℕ → ℕ → ℕ → Row
   -- how many samples can count, n offered, m counted: the intervals closed, the end
   shuts : ℕ → ℕ → ℕ → ℕ → End → Row
   -- a cycle of two phases, one second each; sample j draws j at the speed 10 j, so that k intervals bring k² and 10 k² in all:
@@ -144,6 +149,14 @@ holds (weighs E e₁ e₂ n qs W) = eqb (weighted E n (λ c. getD (e₁ ∷ e₂
 holds (closes asked E es ds F charge x) =
     let answer = closingBy E (length es) (λ c. getD es c (pos 0)) (λ c. getD ds c (pos 0)) F asked charge in
     sameBytes 5 (numbersOf answer) (numbersOf x)
+holds (exact asked E es ds W R top bottom metres a) =
+    let n = length es in
+    let e : ℕ → ℕ = λ c. getD es c 0 in
+    let d : ℕ → ℕ = λ c. getD ds c 0 in
+    let answer = closingBy (pos E) n (λ c. pos (e c)) (λ c. pos (d c)) (pos 0) asked absent in
+    let isAbove : ℕ → Bool = λ b. ltb (R * W * rangeDenominator E n e d) (exactRange E n e d * (W + b)) in
+    sameBytes 5 (numbersOf answer) (numbersOf (Closed (together W R Absent)))
+    && eqb (exactRange E n e d * bottom) (top * rangeDenominator E n e d) && eqb (exactMetres E n e d) metres && eqb (first isAbove 3) a
 holds (shuts most n m k e) = let c = limited most in eqb (closedWhere c n m) k && sameEnd (endingWhere c n m) e
 holds (gathers c k m e done) =
     let p = phasePart twoPhases c k in
