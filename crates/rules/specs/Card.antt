@@ -85,7 +85,7 @@ card =
     -- document 02, L11: W at the least rate and at the greatest, where cycle 3 has no weight; the rates are not the same
     ∷ weighs 100 30 20 3 (10 ∷ 10 ∷ 11 ∷ []) 10
     ∷ weighs 50 30 20 3 (10 ∷ 10 ∷ 5 ∷ []) 10
-    -- R is R*; it is below R*, with rates that are whole and with rates of 100.5, and is the whole metres; it is above R*, by one metre more than they are
+    -- R is R*; R is below R* and has its whole metres, with rates that are whole and with rates of 100.5; R is above R*, one above its whole metres
     ∷ exact 3 72 (1 ∷ 1 ∷ 1 ∷ []) (100 ∷ 100 ∷ 100 ∷ []) 1 5 5 1 5 1
     ∷ exact 3 80 (1 ∷ 1 ∷ 1 ∷ []) (100 ∷ 100 ∷ 100 ∷ []) 1 5 50 9 5 0
     ∷ exact 3 15_120 (201 ∷ 201 ∷ 201 ∷ []) (200 ∷ 200 ∷ 200 ∷ []) 100 10 700 67 10 0

@@ -154,9 +154,9 @@ holds (exact asked E es ds W R top bottom metres a) =
     let e : ℕ → ℕ = λ c. getD es c 0 in
     let d : ℕ → ℕ = λ c. getD ds c 0 in
     let answer = closingBy (pos E) n (λ c. pos (e c)) (λ c. pos (d c)) (pos 0) asked absent in
-    let isAbove : ℕ → Bool = λ b. ltb (R * W * rangeDenominator E n e d) (exactRange E n e d * (W + b)) in
+    let isUnder : ℕ → Bool = λ b. ltb (R * W * rangeDenominator E n e d) (exactRange E n e d * (W + b)) in
     sameBytes 5 (numbersOf answer) (numbersOf (Closed (together W R Absent)))
-    && eqb (exactRange E n e d * bottom) (top * rangeDenominator E n e d) && eqb (exactMetres E n e d) metres && eqb (first isAbove 3) a
+    && eqb (exactRange E n e d * bottom) (top * rangeDenominator E n e d) && eqb (exactMetres E n e d) metres && eqb (first isUnder 3) a
 holds (shuts most n m k e) = let c = limited most in eqb (closedWhere c n m) k && sameEnd (endingWhere c n m) e
 holds (gathers c k m e done) =
     let p = phasePart twoPhases c k in
