@@ -69,7 +69,9 @@ DRIVEN = HEAD + block(0, *[GOOD] * 121)
 FAR = (1500, 15000, -10000)
 # T = 2 again, of two phases with 20 positions each, driven with three kinds of samples; three cycles, and one sample more
 MIDDLE, QUICK, SLACK = [GOOD] * 20, [(120, 6000, -150)] * 20, [(80, 6000, -110)] * 20
-JOINT = NAMED + cycle([1, 2], [100] * 3) + DRAFT + block(0, *MIDDLE, *QUICK, *SLACK, *MIDDLE, *QUICK, *SLACK, (100, 6000, -500))
+JOINT_HEAD = NAMED + cycle([1, 2], [100] * 3) + DRAFT
+JOINT_DRIVE = block(0, *MIDDLE, *QUICK, *SLACK, *MIDDLE, *QUICK, *SLACK, (100, 6000, -500))
+JOINT = JOINT_HEAD + JOINT_DRIVE
 NUMBER_I = field(2, b"ITESTVEH000000001")
 # an allowance of 0, and a sample that stops the run then: it draws 1,440,000
 STRICT = NAMED + LEVEL + tolerances(30, 20, 0)
@@ -265,6 +267,10 @@ ROWS = [
     # 5E = 879,082,300 with E = 175,816,460 is not below the unrounded one either: the exact range has 17; 879,082,290 with 2 units less is
     (HEAD + transfer(0, 1508230) + block(0, *UNEVEN * 3, GOOD), uneven(17)),
     (HEAD + transfer(0, 1508229) + block(0, *UNEVEN * 3, GOOD), uneven(17)),
+    # JOINT with energy before it: E = 184,680,000 + 2 x 2,088,785 = 188,857,570; W = 145,699,414,483,900 / 188,857,570 = 771,477.75.., and W* = 771,478.47..;
+    # 944,287,850 / 55,546,344 = 17.00..: R x W is above R* x (W+1). With 2 units less W is the same, and 944,287,840 is below 17 x 55,546,344 = 944,287,848
+    (JOINT_HEAD + transfer(0, 2088785) + JOINT_DRIVE, told("none 121", 3, 0, 0, 184680000, ["weighted 771477", "range 17", "ac -"])),
+    (JOINT_HEAD + transfer(0, 2088784) + JOINT_DRIVE, told("none 121", 3, 0, 0, 184680000, ["weighted 771477", "range 16", "ac -"])),
     # the shortened method, M of 10 GOOD: E = 244,800,000 + 2 x 1,705,652 = 248,211,304, 5E = 1,241,056,520, and 24 x 51,710,688 = 1,241,056,512;
     # the exact range has 23 whole metres, as 24 x 51,710,723.19.. = 1,241,057,356.6... With 2 units less 5E = 1,241,056,510
     (SHORTENED + transfer(0, 1705652) + drive(*UNEVEN * 2, *[GOOD] * 10, *UNEVEN * 2, GOOD), told("none 171", 4, 0, 0, 244800000, ["weighted 718204", "range 24", "ac -"])),

@@ -2,7 +2,7 @@
 -- Assumes nothing.
 use mathlib.Core.Bool.{true}
 use mathlib.Core.List.{List}
-use mathlib.Core.Path.{_≡_, refl, ap, subst, _∙_}
+use mathlib.Core.Path.{_≡_, refl, ap, _∙_}
 use Prim.Native.Nat.{ℕ, _-_, _≤_}
 use native.Mathlib.Omega.{arith}
 use lib.IntN.{ℤ}
@@ -19,7 +19,7 @@ use Rattle.laws.proofs.Prefixes.{kept}
 use Rattle.laws.proofs.Samples.{block-of}
 use Rattle.laws.proofs.Says.{movesTo}
 use Rattle.laws.proofs.Tags.{sizes}
-use Rattle.demands.proofs.ToldCame.{SaysAt, Moved, took, went, moved}
+use Rattle.demands.proofs.ToldCame.{SaysAt, moved-holds}
 
 -- ---- what is brought where a 6 before or a block stands
 
@@ -61,11 +61,8 @@ module _ (s t : Told) (h : Blocked s t) where
   blocked-brought f b w (charged-late k) = record { place = omega arith; amounts = λ l. absurd (omega arith) }
 
   pub blocked-move : (i : List ℕ) (t′ : Told) (m : ℕ) → moveAt tags takeField t i ≡ on t′ m → Blocked s t′
-  blocked-move i t′ m e = go (moved t i t′ m e)
-    where
-      go : Moved t i t′ → Blocked s t′
-      go (took f _ _ c) = subst (Blocked s) (c .is) (blocked-brought f (c .brings) (c .says) (late t f (c .brings) (c .says) (h .place)))
-      go (went d) = subst (Blocked s) d (record { place = h .place; amounts = h .amounts })
+  blocked-move =
+      moved-holds (Blocked s) t (λ f b _ w. blocked-brought f b w (late t f b w (h .place))) (record { place = h .place; amounts = h .amounts })
 
 pub blocked-none : (s : Told) → behindBefore ≤ s .place → Blocked s s
 blocked-none s l = record { place = l; amounts = λ _. refl }

@@ -3,7 +3,7 @@
 -- Assumes nothing.
 use mathlib.Core.Bool.{true, false≢true}
 use mathlib.Core.List.{List, [], _∷_, _++_, append-assoc, append-nil}
-use mathlib.Core.Path.{_≡_, refl, sym, ap, subst, _∙_}
+use mathlib.Core.Path.{_≡_, refl, sym, ap, _∙_}
 use Prim.Native.Nat.{ℕ}
 use lib.Dec.{eqb}
 use lib.ListN.{length, getD, drop}
@@ -17,18 +17,17 @@ use Rattle.rules.specs.declared.ClosingAnswer.the-variants.{Closed, Refused}
 use Rattle.rules.specs.declared.Figures.{Figures}
 use Rattle.rules.specs.Table.{lengthAllowed, tags}
 use Rattle.rules.specs.Front.{Field}
-use Rattle.rules.specs.Machine.{Ran, on, moveAt}
-use Rattle.rules.specs.Record.{Told, Bring, nothing, aNumber, aCycle, theTolerances, theStretches, ownSamples, before, after, charged, bringAt, takeField, untold, Sheet, told, refusedAt, sheetOf}
+use Rattle.rules.specs.Machine.{on, moveAt}
+use Rattle.rules.specs.Record.{Told, Bring, nothing, aNumber, aCycle, theTolerances, theStretches, ownSamples, before, after, charged, bringAt, takeField, Sheet, told, refusedAt, sheetOf}
 use Rattle.rules.specs.Figures.{planTold, figuresTold}
 use Rattle.rules.specs.Text.{digits, signed, spaced, line, endWord, endLine, refusedWord, refusedLine, headLines, outsideWord, passedWord, drawnWord, countLines, weightedWord, rangeWord, rechargeLine, closedLines, closingLines, sheetText, refusalText, printed}
-use Rattle.laws.proofs.Prefixes.{kept}
 use Rattle.laws.proofs.RunNear.{run-near}
 use Rattle.laws.proofs.Says.{movesTo}
-use Rattle.laws.proofs.Sheets.{told-leads}
 use Rattle.laws.proofs.Tags.{sizes}
 use Rattle.demands.specs.Range.{firstLine, behindLine, behindLines, Shows, Near, PrintsNear}
 use Rattle.demands.proofs.TextLines.{isPlain, plain-number, plain-digits, plain-signed, digits-tell, first-of-line, behind-of-line, words-line}
-use Rattle.demands.proofs.ToldCame.{SaysAt, Moved, took, went, moved}
+use Rattle.demands.proofs.ToldCame.{SaysAt, moved-holds}
+use Rattle.demands.proofs.ToldLaws.{told-keeps}
 
 -- ---- the vehicle number of a record has no newline
 
@@ -49,14 +48,10 @@ named-brought s h f (after e) a w = h
 named-brought s h f (charged k) a w = h
 
 named-moved : (s : Told) (i : List ℕ) (s′ : Told) (m : ℕ) → moveAt tags takeField s i ≡ on s′ m → Named s → Named s′
-named-moved s i s′ m e h = go (moved s i s′ m e)
-  where
-    go : Moved s i s′ → Named s′
-    go (took f _ a c) = subst Named (c .is) (named-brought s h f (c .brings) a (c .says))
-    go (went d) = subst Named d h
+named-moved s i s′ m e h = moved-holds Named s (named-brought s h) h i s′ m e
 
 named : (w : List ℕ) (x : Told) → sheetOf w ≡ told x → Named x
-named w x e = subst Named (ap (λ (y : Ran Told). y .state) (told-leads w x e .leads)) (kept tags takeField Named named-moved (length w) untold w refl)
+named = told-keeps Named named-moved refl
 
 -- ---- a sheet, line by line
 

@@ -1,19 +1,19 @@
 -- The lines of a text, one by one; and digits, which tell their number.
 -- Assumes nothing.
-use mathlib.Core.Bool.{Bool, true, false, not, false≢true}
+use mathlib.Core.Bool.{Bool, true, not, false≢true}
 use mathlib.Core.List.{List, [], _∷_, _++_, append-assoc}
 use mathlib.Core.Logic.{⊎-elim}
 use mathlib.Core.Path.{_≡_, refl, sym, ap, subst, _∙_}
 use Prim.Native.Nat.{ℕ, zero, suc, _+_, _-_, _*_, _/_, _%_, _≤_, _<_}
 use native.Mathlib.Nat.{div-add-mod', le-refl, not-suc-le-zero}
 use native.Mathlib.Omega.{arith}
-use borrow.Author.Tests.{eqb-true, ne-eqb}
+use borrow.Author.Tests.{ne-eqb, not-true}
 use lib.Dec.{eqb}
 use lib.IntN.{ℤ, pos, negsuc}
 use lib.ListN.{length, getD}
 use Rattle.rules.specs.Words.{every}
 use Rattle.numbers.proofs.Order.{side}
-use Rattle.numbers.proofs.Tests.{both, all-at, every-append}
+use Rattle.numbers.proofs.Tests.{both, all-at, every-by, every-append}
 use Rattle.rules.specs.Text.{digits, signed, spaced, line}
 use Rattle.rules.specs.Values.{isCharacter, isNumber}
 use Rattle.sheet.proofs.Digits.{tenth, digits-small, digits-more}
@@ -24,29 +24,15 @@ use Rattle.demands.specs.Range.{firstLine, behindLine}
 abbrev pub isPlain : ℕ → Bool
 isPlain b = not (eqb b 10)
 
-no-newline : (b : ℕ) → isPlain b ≡ true → eqb b 10 ≡ false
-no-newline b = go (eqb b 10)
-  where
-    go : (t : Bool) → not t ≡ true → t ≡ false
-    go true h = absurd (false≢true h)
-    go false h = refl
-
-plain-by : (v : List ℕ) → ((k : ℕ) → k < length v → isPlain (getD v k 0) ≡ true) → every isPlain v ≡ true
-plain-by [] h = refl
-plain-by (b ∷ v) h = rw (h 0 (omega arith), plain-by v (λ k l. h (suc k) (omega arith)))
-
+-- 10 is no character
 plain-character : (b : ℕ) → isCharacter b ≡ true → isPlain b ≡ true
 unfolding isCharacter
-plain-character b h = go (eqb b 10) refl
-  where
-    go : (t : Bool) → eqb b 10 ≡ t → not t ≡ true
-    go true e = absurd (false≢true (subst (λ (c : ℕ). isCharacter c ≡ true) (eqb-true b 10 e) h))
-    go false e = refl
+plain-character b h = ap not (ne-eqb b 10 (λ e. false≢true (subst (λ (c : ℕ). isCharacter c ≡ true) e h)))
 
 -- a vehicle number is
 pub plain-number : (v : List ℕ) → isNumber v ≡ true → length v ≡ 17 → every isPlain v ≡ true
 unfolding isNumber
-plain-number v h n = plain-by v (λ k l. plain-character _ (all-at 17 (λ j. isCharacter (getD v j 0)) h k (omega (arith, n))))
+plain-number v h n = every-by isPlain v 0 (λ k l. plain-character _ (all-at 17 (λ j. isCharacter (getD v j 0)) h k (omega (arith, n))))
 
 -- ---- digits
 
@@ -99,12 +85,12 @@ digits-tell m n e = sym (value-below (suc m) m (le-refl (suc m))) ∙ ap (value 
 first-line : (a t : List ℕ) → every isPlain a ≡ true → firstLine (a ++ 10 ∷ t) ≡ a
 unfolding firstLine
 first-line [] t h = refl
-first-line (b ∷ a) t h = let (p, q) = both (isPlain b) _ h in rw (no-newline b p) (ap (λ (r : List ℕ). b ∷ r) (first-line a t q))
+first-line (b ∷ a) t h = let (p, q) = both (isPlain b) _ h in rw (not-true (eqb b 10) p) (ap (λ (r : List ℕ). b ∷ r) (first-line a t q))
 
 behind-line : (a t : List ℕ) → every isPlain a ≡ true → behindLine (a ++ 10 ∷ t) ≡ t
 unfolding behindLine
 behind-line [] t h = refl
-behind-line (b ∷ a) t h = let (p, q) = both (isPlain b) _ h in rw (no-newline b p) (behind-line a t q)
+behind-line (b ∷ a) t h = let (p, q) = both (isPlain b) _ h in rw (not-true (eqb b 10) p) (behind-line a t q)
 
 -- a word and a value
 module _ (word value t : List ℕ) (w : every isPlain word ≡ true) (v : every isPlain value ≡ true) where

@@ -2,7 +2,7 @@
 -- Assumes nothing.
 use mathlib.Core.Bool.{true, false≢true}
 use mathlib.Core.List.{List}
-use mathlib.Core.Path.{_≡_, refl, sym, ap, _∙_}
+use mathlib.Core.Path.{_≡_, refl, sym, ap, subst, _∙_}
 use Prim.Native.Nat.{ℕ}
 use lib.ListN.{length}
 use Rattle.rules.specs.Table.{lengthAllowed, placeAfter, tags}
@@ -87,3 +87,13 @@ moved s i s′ m = go (frontOf tags i) refl
     go incomplete e h = absurd (false≢true cc)
     go impossible e h = absurd (false≢true cc)
     go (field f) e h = by-answer f e (takeField s f) refl h
+
+-- so what holds with a field taken, and with one passed over, holds behind every field
+pub moved-holds : (P : Told → Type 0) (s : Told)
+    → ((f : Field) (b : Bring) → lengthAllowed tags (f .tag) (length (f .value)) ≡ true → SaysAt s f b → P (bringAt s (movesTo b) b))
+    → P (morePassed s) → (i : List ℕ) (s′ : Told) (m : ℕ) → moveAt tags takeField s i ≡ on s′ m → P s′
+moved-holds P s brings over i s′ m e = go (moved s i s′ m e)
+  where
+    go : Moved s i s′ → P s′
+    go (took f _ a c) = subst P (c .is) (brings f (c .brings) a (c .says))
+    go (went d) = subst P d over

@@ -2,7 +2,7 @@
 -- tolerances, the method.
 -- Assumes nothing.
 use mathlib.Core.List.{List, [], _++_, append-nil, append-assoc}
-use mathlib.Core.Path.{_≡_, refl, sym, ap, subst, _∙_}
+use mathlib.Core.Path.{_≡_, refl, sym, ap, _∙_}
 use Prim.Native.Nat.{ℕ, _+_, _≤_, _<_}
 use native.Mathlib.Omega.{arith}
 use lib.ListN.{length, length-append}
@@ -16,7 +16,7 @@ use Rattle.laws.proofs.Places.{place-is}
 use Rattle.laws.proofs.Prefixes.{kept}
 use Rattle.laws.proofs.Says.{movesTo}
 use Rattle.demands.specs.Compared.{Appends}
-use Rattle.demands.proofs.ToldCame.{SaysAt, Moved, took, went, moved}
+use Rattle.demands.proofs.ToldCame.{SaysAt, moved-holds}
 
 -- y came after x, where the run is started
 pub record Later (x y : Told) : Type 0 where
@@ -70,11 +70,9 @@ module _ (x s : Told) (h : Later x s) where
   later-brought f (charged k) w = later-with behindRecharge (s .passed) (withCharge (s .holding .amounts) k) _ (omega arith) (λ _. omega arith) (h .samples)
 
   later-move : (i : List ℕ) (s′ : Told) (m : ℕ) → moveAt tags takeField s i ≡ on s′ m → Later x s′
-  later-move i s′ m e = go (moved s i s′ m e)
-    where
-      go : Moved s i s′ → Later x s′
-      go (took f _ _ c) = subst (Later x) (c .is) (later-brought f (c .brings) (c .says))
-      go (went d) = subst (Later x) d (later-with (s .place) (s .passed + 1) (s .holding .amounts) _ (h .late) (h .past) (h .samples))
+  later-move =
+      moved-holds (Later x) s (λ f b _ w. later-brought f b w)
+      (later-with (s .place) (s .passed + 1) (s .holding .amounts) _ (h .late) (h .past) (h .samples))
 
 -- over one field, at most n, and all of them
 pub later-first : (x : Told) (i : List ℕ) (s′ : Told) (m : ℕ) → moveAt tags takeField x i ≡ on s′ m → behindTolerances ≤ x .place → Later x s′

@@ -18,11 +18,16 @@ use Rattle.laws.proofs.Prefixes.{kept}
 use Rattle.laws.proofs.Says.{movesTo}
 use Rattle.laws.proofs.Sheets.{told-leads}
 use Rattle.demands.specs.Compared.{withFour, Grown}
-use Rattle.demands.proofs.ToldCame.{SaysAt, Moved, took, went, moved}
+use Rattle.demands.proofs.ToldCame.{SaysAt, moved-holds}
 use Rattle.demands.proofs.ToldLater.{Later, later-run}
 use Rattle.demands.proofs.ToldLed.{told-led}
 use Rattle.demands.proofs.FieldFour.{told-four, valid-four, tolerable-four}
 use Rattle.demands.proofs.Splits.{told-has-four}
+
+-- what every field keeps
+pub told-keeps : (P : Told → Type 0) → ((s : Told) (i : List ℕ) (s′ : Told) (m : ℕ) → moveAt tags takeField s i ≡ on s′ m → P s → P s′) → P untold
+    → (w : List ℕ) (x : Told) → sheetOf w ≡ told x → P x
+told-keeps P keeps h w x e = subst P (ap (λ (y : Ran Told). y .state) (told-leads w x e .leads)) (kept tags takeField P keeps (length w) untold w h)
 
 -- its start tested cycle and tolerances, and no field after it changes them
 pub told-valid : (i : List ℕ) (x : Told) → sheetOf i ≡ told x → (valid (x .holding .cycle) ≡ true) × (tolerable (x .holding .tolerances) ≡ true)
@@ -59,12 +64,7 @@ none-brought s h f (after e) w = λ l. absurd (omega arith)
 none-brought s h f (charged k) w = λ l. absurd (omega arith)
 
 none-moved : (s : Told) (i : List ℕ) (s′ : Told) (m : ℕ) → moveAt tags takeField s i ≡ on s′ m → NoneYet s → NoneYet s′
-none-moved s i s′ m e h = go (moved s i s′ m e)
-  where
-    go : Moved s i s′ → NoneYet s′
-    go (took f _ _ c) = subst NoneYet (c .is) (none-brought s h f (c .brings) (c .says))
-    go (went d) = subst NoneYet d h
+none-moved s i s′ m e h = moved-holds NoneYet s (λ f b _ w. none-brought s h f b w) h i s′ m e
 
 pub none-behind-four : (p : List ℕ) (x : Told) → sheetOf p ≡ told x → x .place ≤ behindTolerances → x .holding .samples ≡ []
-none-behind-four p x e =
-    subst NoneYet (ap (λ (y : Ran Told). y .state) (told-leads p x e .leads)) (kept tags takeField NoneYet none-moved (length p) untold p (λ _. refl))
+none-behind-four p x e = told-keeps NoneYet none-moved (λ _. refl) p x e

@@ -1,4 +1,4 @@
--- What it says that the closing refuses nothing; W is then between the least and the greatest rate, and W and the range are near what is unrounded.
+-- What it says that the closing refuses nothing: W is then within the limits of a rate, and W and the range are near what is unrounded.
 -- Assumes nothing.
 use mathlib.Core.Bool.{true, false≢true}
 use mathlib.Core.Path.{_≡_, refl, sym, subst}
@@ -76,15 +76,12 @@ module _ (E : ℤ) (n : ℕ) (e d : ℕ → ℤ) where
     abbrev W : ℕ
     W = weightedFigure E n e d
 
-    -- W lies between the least and the greatest rate, so it is never 0 and at most 10,000,000
-    pub weighted-between : (a z : ℕ) → ((c : ℕ) → c < n → (a ≤ rateOf e d c) × (rateOf e d c ≤ z)) → (a ≤ W) × (W ≤ z)
-    weighted-between a z h = (
-      least-rate (up E) n (λ c. up (e c)) (rateOf e d) (k .fits) some-energy (k .three) a (λ c l. h c l .0),
-      greatest-rate (up E) n (λ c. up (e c)) (rateOf e d) (k .fits) some-energy (k .three) z (λ c l. h c l .1),
-    )
-
+    -- W is never 0 and at most 10,000,000, as no rate is
     pub weighted-within : (1 ≤ W) × (W ≤ mostRate)
-    weighted-within = weighted-between 1 mostRate (k .rated)
+    weighted-within = (
+      least-rate (up E) n (λ c. up (e c)) (rateOf e d) (k .fits) some-energy (k .three) 1 (λ c l. k .rated c l .0),
+      greatest-rate (up E) n (λ c. up (e c)) (rateOf e d) (k .fits) some-energy (k .three) mostRate (λ c l. k .rated c l .1),
+    )
 
     -- and the range is near the one from unrounded consumptions (document 02, L11)
     pub closes-near : NearExact (up E) n (λ c. up (e c)) (λ c. up (d c)) W (rangeFigure E n e d)

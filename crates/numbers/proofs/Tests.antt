@@ -117,6 +117,11 @@ module _ {A : Type 0} (p : A → Bool) where
   every-at (x ∷ a) d e zero h = both (p x) (every p a) e .0
   every-at (x ∷ a) d e (suc i) h = every-at a d (both (p x) (every p a) e .1) i (le-of-suc-le-suc h)
 
+  pub every-by : (a : List A) (d : A) → ((i : ℕ) → i < length a → p (getD a i d) ≡ true) → every p a ≡ true
+  every-by [] d h = refl
+  every-by (x ∷ a) d h =
+      ap (λ (y : Bool). y && every p a) (h 0 (suc-le-suc zero-le)) ∙ every-by a d (λ i l. h (suc i) (suc-le-suc l))
+
   pub every-append : (a c : List A) → every p a ≡ true → every p c ≡ true → every p (a ++ c) ≡ true
   every-append [] c e f = f
   every-append (x ∷ a) c e f =
