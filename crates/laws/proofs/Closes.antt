@@ -76,7 +76,7 @@ module _ (E : ℤ) (n : ℕ) (e d : ℕ → ℤ) where
     abbrev W : ℕ
     W = weightedFigure E n e d
 
-    -- W is never 0 and at most 10,000,000, as no rate is
+    -- W is at least 1 and at most 10,000,000, as every rate is
     pub weighted-within : (1 ≤ W) × (W ≤ mostRate)
     weighted-within = (
       least-rate (up E) n (λ c. up (e c)) (rateOf e d) (k .fits) some-energy (k .three) 1 (λ c l. k .rated c l .0),
