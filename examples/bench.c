@@ -1,5 +1,5 @@
 /* A bench controller's drive: one question for each sample, and what was answered.
- * Built and run by `.ci/bench/run`, which compares what it prints with examples/bench.stdout. */
+ * Built and run by `.ci/c/run`, which compares what it prints with examples/bench.stdout. */
 #include <stdio.h>
 
 #include "paperwhelk.h"

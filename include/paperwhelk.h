@@ -2,8 +2,8 @@
  *
  * The library is proved and built from the project's folder, for x86-64, by the Rattle kit's command rt:
  *
- *     rt staticlib bench
- *     gcc -std=c11 -Iinclude CALLER.c target/staticlib/libbench.a -o CALLER
+ *     rt staticlib paperwhelk
+ *     gcc -std=c11 -Iinclude CALLER.c target/staticlib/libpaperwhelk.a -o CALLER
  *
  * It needs nothing else: no C library, no memory of its own, no thread.
  *

@@ -7,7 +7,7 @@ pub mod OfNumbers
 pub mod OfValues
 pub mod OfCycle
 pub mod OfWindow
-pub mod OfBench
+pub mod OfPaperwhelk
 pub mod OfMap
 pub mod OfLedger
 pub mod OfState

@@ -20,7 +20,7 @@ use Rattle.desk.proofs.desk_refusal
 use Rattle.desk.proofs.feed
 use Rattle.prints.proofs.refuse
 use Rattle.prints.proofs.close
-use Rattle.bench.proofs.paperwhelk_verdict
+use Rattle.paperwhelk.proofs.verdict.paperwhelk_verdict
 use Rattle.demands.specs.Demand1.{TakesEveryInput}
 use Rattle.demands.proofs.NoDoubt.OfJudge as ofJudge
 use Rattle.demands.proofs.NoDoubt.OfClosing as ofClosing
@@ -29,7 +29,7 @@ use Rattle.demands.proofs.NoDoubt.OfFigures as ofFigures
 use Rattle.demands.proofs.NoDoubt.OfSheet as ofSheet
 use Rattle.demands.proofs.NoDoubt.OfDesk as ofDesk
 use Rattle.demands.proofs.NoDoubt.OfPrints as ofPrints
-use Rattle.demands.proofs.NoDoubt.OfBench as ofBench
+use Rattle.demands.proofs.NoDoubt.OfPaperwhelk as ofPaperwhelk
 
 pub takes-every-input : {M : Type 1} → TakesEveryInput M
 takes-every-input = record {
@@ -53,5 +53,5 @@ takes-every-input = record {
   feed-takes-every-input = (feed.Met.met, ofDesk.feed-asks-nothing);
   refuse-takes-every-input = (refuse.Met.met, ofPrints.refuse-asks-nothing);
   close-takes-every-input = (close.Met.met, ofPrints.close-asks-nothing);
-  verdict-takes-every-input = (paperwhelk_verdict.Met.met, ofBench.paperwhelk-verdict-asks-nothing);
+  verdict-takes-every-input = (paperwhelk_verdict.Met.met, ofPaperwhelk.paperwhelk-verdict-asks-nothing);
 }

@@ -24,7 +24,7 @@ use Rattle.sheet.proofs.refusal_line
 use Rattle.desk.proofs.feed
 use Rattle.prints.proofs.close
 use Rattle.prints.proofs.refuse
-use Rattle.bench.proofs.paperwhelk_verdict
+use Rattle.paperwhelk.proofs.verdict.paperwhelk_verdict
 
 -- Of each function f the kit makes `f.ended`, its parameters and result, `f.Reads.Asked`, what its `requires` asks of a caller,
 -- and `f.Reads.Learnt`, what a caller learns by its `ensures`: all that is known of a program that keeps the contract, ours or a second one.

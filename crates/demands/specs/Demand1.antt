@@ -54,7 +54,7 @@ use Rattle.desk.proofs.desk_refusal
 use Rattle.desk.proofs.feed
 use Rattle.prints.proofs.refuse
 use Rattle.prints.proofs.close
-use Rattle.bench.proofs.paperwhelk_verdict
+use Rattle.paperwhelk.proofs.verdict.paperwhelk_verdict
 use Rattle.demands.specs.Calls.{AsksNothing, left, StartCall, SampleCall, BlockCall, ShownCall, TotalsCall, ClosingCall}
 use Rattle.demands.specs.Calls.{FrontCall, ContentCall, OpenCall, ReadCall, AllCall, EndedCall, FiguresCall}
 use Rattle.demands.specs.Calls.{SheetCall, RefusalCall, FeedCall, CloseCall, RefuseCall, startLent, startLeaves, sampleLent, sampleLeaves}

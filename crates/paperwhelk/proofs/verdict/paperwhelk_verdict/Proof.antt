@@ -1,4 +1,4 @@
--- `bench::paperwhelk_verdict` meets its contract: each answer passes the tests before it. A verdict is at most 2, so that the cast keeps it.
+-- `paperwhelk::verdict::paperwhelk_verdict` meets its contract: each answer passes the tests before it. A verdict is at most 2, so that the cast keeps it.
 -- Assumes nothing.
 use mathlib.Core.Bool.{true}
 use mathlib.Core.Path.{_≡_, sym, ap, _∙_}
@@ -16,8 +16,8 @@ use Rattle.rules.specs.Cycle.{valid}
 use Rattle.laws.proofs.Band.{tolerated, verdict-most}
 use Rattle.laws.proofs.Sound.{sound}
 use Rattle.rules.specs.Question.{question}
-use Rattle.bench.proofs.paperwhelk_verdict.Statement.{statement}
-use Rattle.bench.proofs.paperwhelk_verdict.Tie as tie
+use Rattle.paperwhelk.proofs.verdict.paperwhelk_verdict.Statement.{statement}
+use Rattle.paperwhelk.proofs.verdict.paperwhelk_verdict.Tie as tie
 
 -- what is asked about, and what the tests that passed say of it
 abbrev given : tie.Start → Tolerances

@@ -1,7 +1,7 @@
--- No doubt about `bench`: each contract has one answer, and those of the operations ask nothing.
+-- No doubt about `paperwhelk`: each contract has one answer, and those of the operations ask nothing.
 -- Assumes nothing.
 use mathlib.Core.Path.{refl}
-use Rattle.bench.proofs.paperwhelk_verdict
+use Rattle.paperwhelk.proofs.verdict.paperwhelk_verdict
 use Rattle.demands.specs.Calls.{AsksNothing, OneAnswer}
 use Rattle.demands.proofs.NoDoubt.{same}
 
