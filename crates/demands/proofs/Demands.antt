@@ -4,14 +4,19 @@ use mathlib.Core.List.{List}
 use mathlib.Core.Path.{_≡_, sym, subst}
 use lib.IntN.{ℤ}
 use Prim.Native.Nat.{ℕ}
+use native.Mathlib.Omega.{arith}
+use denote.Ref.{now}
 use Rattle.rules.specs.declared.Moment.{Moment}
 use Rattle.rules.specs.Plan.{Plan}
+use Rattle.rules.specs.Record.{sheetOf}
+use Rattle.rules.specs.Text.{printed}
 use Rattle.state.specs.declared.Run.{Run}
 use Rattle.laws.proofs.NotClaimed.{not-claimed}
 use Rattle.judge.proofs.Runs as runs
 use Rattle.intake.proofs.Told as intake
+use Rattle.paperwhelk.proofs.Fitting.{at-front}
 use Rattle.demands.specs.Demand1.{Demand1}
-use Rattle.demands.specs.Demand2.{Demand2, RunHolds}
+use Rattle.demands.specs.Demand2.{Demand2, RunHolds, FromC}
 use Rattle.demands.specs.Demand3.{Demand3}
 use Rattle.demands.specs.Range.{PrintsNear}
 use Rattle.demands.specs.Runs.{Driven}
@@ -53,6 +58,14 @@ same-run : {p : Plan} {l₀ : List ℤ} {m₀ : List ℕ} {xs : List Moment} {r 
     → Driven p l₀ m₀ xs r l m → Driven p l₀ m₀ xs r′ l′ m′ → (r ≡ r′) × (l ≡ l′) × (m ≡ m′)
 same-run {p} {l₀} {m₀} h g = runs.cut-otherwise-same-run p l₀ m₀ (driven-reached p l₀ m₀ h) (driven-reached p l₀ m₀ g)
 
+-- a record that is lent whole from C
+from-c : FromC
+from-c = record {
+  sheet-from-c = λ c h. at-front (printed (sheetOf (now (c .args .0)))) (now (c .args .1 .0)) (c .kept .0) (c .kept .1 .0) h;
+  sheet-from-c-fits = λ c h.
+      at-front (printed (sheetOf (now (c .args .0)))) (now (c .args .1 .0)) (c .kept .0) (c .kept .1 .0) (omega (arith, c .kept .1 .1)) .0;
+}
+
 pub demand-2 : Demand2
 demand-2 = record {
   runs = run-holds;
@@ -68,6 +81,7 @@ demand-2 = record {
     take-record-near = λ c e h. subst (PrintsNear (c .bytes)) (sym (intake.take-record-prints lent c e h)) (prints-near (c .bytes));
     short-buffer-prints = intake.short-buffer-prints lent;
   };
+  from-c = from-c;
   not-claimed = not-claimed;
 }
 

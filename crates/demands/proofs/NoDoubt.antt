@@ -7,7 +7,6 @@ pub mod OfNumbers
 pub mod OfValues
 pub mod OfCycle
 pub mod OfWindow
-pub mod OfPaperwhelk
 pub mod OfMap
 pub mod OfLedger
 pub mod OfState
@@ -26,6 +25,7 @@ pub mod OfSheet
 pub mod OfFigures
 pub mod OfDesk
 pub mod OfPrints
+pub mod OfPaperwhelk
 
 pub left-by : {T : Ended} {P : Promise T} (c : Call T P) {w : Lasts T (c .κs) (c .args)} → c .lasts ≡ w → left c ≡ atExit T (c .κs) (c .args) w
 left-by {T} c e = ap (atExit T (c .κs) (c .args)) e

@@ -21,6 +21,7 @@ use Rattle.desk.proofs.feed
 use Rattle.prints.proofs.refuse
 use Rattle.prints.proofs.close
 use Rattle.paperwhelk.proofs.verdict.paperwhelk_verdict
+use Rattle.paperwhelk.proofs.sheets.paperwhelk_sheet
 use Rattle.demands.specs.Demand1.{TakesEveryInput}
 use Rattle.demands.proofs.NoDoubt.OfJudge as ofJudge
 use Rattle.demands.proofs.NoDoubt.OfClosing as ofClosing
@@ -54,4 +55,5 @@ takes-every-input = record {
   refuse-takes-every-input = (refuse.Met.met, ofPrints.refuse-asks-nothing);
   close-takes-every-input = (close.Met.met, ofPrints.close-asks-nothing);
   verdict-takes-every-input = (paperwhelk_verdict.Met.met, ofPaperwhelk.paperwhelk-verdict-asks-nothing);
+  sheet-takes-every-input = (paperwhelk_sheet.Met.met, ofPaperwhelk.paperwhelk-sheet-asks-nothing);
 }

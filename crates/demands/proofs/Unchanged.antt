@@ -2,7 +2,7 @@
 -- Assumes nothing.
 use mathlib.Core.Bool.{Bool, true, false}
 use mathlib.Core.List.{List}
-use mathlib.Core.Path.{_≡_, sym, ap, ap₂, subst, _∙_}
+use mathlib.Core.Path.{_≡_, sym, ap, subst, _∙_}
 use Prim.Native.Nat.{ℕ, _+_, _<_}
 use native.Mathlib.Nat.{zero-add}
 use lib.Dec.{leb}
@@ -10,6 +10,8 @@ use lib.ListN.{length, take, drop}
 use lib.Seq.{drop-append-seam}
 use denote.Ref.{now}
 use Rattle.rules.specs.Words.{unless}
+use Rattle.rules.specs.Record.{sheetOf}
+use Rattle.rules.specs.Text.{printed}
 use Rattle.judge.specs.declared.Answer.the-variants.{Refused}
 use Rattle.state.specs.State.{Left}
 use Rattle.numbers.proofs.Tests.{settled-refused}
@@ -29,6 +31,7 @@ use Rattle.figures.specs.declared.Found.{Found}
 use Rattle.figures.specs.Figured.{blank as noFigures}
 use Rattle.desk.specs.Feeding.{Laid, Consumed, laidOf, feedOf}
 use Rattle.desk.proofs.LeftOver as desk
+use Rattle.paperwhelk.proofs.Fitting.{does-not-fit}
 use Rattle.demands.specs.Calls.{left, OpenCall, ReadCall}
 use Rattle.demands.specs.Demand1.{RefusedChangesNothing, LinesStay}
 use Rattle.demands.proofs.NoDoubt.{left-by}
@@ -98,18 +101,25 @@ refused-changes-nothing = record {
 
 -- ---- lines
 
--- a text was overlaid over out: r is the result, and o are the lines then
+-- a text was overlaid over out, or nothing was written
+beyond-text : (text out : List ℕ) {o : List ℕ} (t : Bool) → o ≡ unless out t (overlaid out 0 text) → drop (length text) o ≡ drop (length text) out
+unfolding unless overlaid
+beyond-text text out true v =
+    ap (drop (length text)) v ∙ drop-append-seam text (drop (0 + length text) out) ∙ ap (λ (k : ℕ). drop k out) (zero-add (length text))
+beyond-text text out false v = ap (drop (length text)) v
+
+-- r is the result, and o are the lines then
 module _ (text out : List ℕ) {r : ℕ} {o : List ℕ}
     (p : r ≡ unless 0 (leb mostSheet (length out)) (length text)) (q : o ≡ unless out (leb mostSheet (length out)) (overlaid out 0 text)) where
   short : length out < mostSheet → (r ≡ 0) × (o ≡ out)
   short h = let s = too-short out text h in (p ∙ sym (s .0), q ∙ sym (s .1))
 
   beyond : drop r o ≡ drop r out
-  unfolding unless overlaid
+  unfolding unless
   beyond = go (leb mostSheet (length out)) p q
     where
       go : (t : Bool) → r ≡ unless 0 t (length text) → o ≡ unless out t (overlaid out 0 text) → drop r o ≡ drop r out
-      go true u v = ap₂ drop u v ∙ drop-append-seam text (drop (0 + length text) out) ∙ ap (λ (k : ℕ). drop k out) (zero-add (length text) ∙ sym u)
+      go true u v = ap (λ (k : ℕ). drop k o) u ∙ beyond-text text out true v ∙ ap (λ (k : ℕ). drop k out) (sym u)
       go false u v = ap (drop r) v
 
 pub lines-stay : LinesStay
@@ -122,4 +132,8 @@ lines-stay = record {
   refuse-beyond-stays = λ c. beyond _ _ (c .kept .0) (c .kept .1);
   close-short-changes-nothing = λ c h. let s = short _ _ (c .kept .0) (c .kept .1) h in (s .0, left-by c (λ i. (tt, (tt, (tt, (tt, (tt, (s .1 i, tt))))))));
   close-beyond-stays = λ c. beyond _ _ (c .kept .0) (c .kept .1);
+  sheet-short-changes-nothing = λ c h.
+      let s = does-not-fit (printed (sheetOf (now (c .args .0)))) (now (c .args .1 .0)) h in
+      (c .kept .0 ∙ sym (s .0), left-by c (λ i. (tt, ((c .kept .1 .0 ∙ sym (s .1)) i, tt))));
+  sheet-beyond-stays = λ c. beyond-text (printed (sheetOf (now (c .args .0)))) (now (c .args .1 .0)) _ (c .kept .1 .0);
 }

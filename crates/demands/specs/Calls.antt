@@ -25,6 +25,7 @@ use Rattle.desk.proofs.feed
 use Rattle.prints.proofs.close
 use Rattle.prints.proofs.refuse
 use Rattle.paperwhelk.proofs.verdict.paperwhelk_verdict
+use Rattle.paperwhelk.proofs.sheets.paperwhelk_sheet
 
 -- Of each function f the kit makes `f.ended`, its parameters and result, `f.Reads.Asked`, what its `requires` asks of a caller,
 -- and `f.Reads.Learnt`, what a caller learns by its `ensures`: all that is known of a program that keeps the contract, ours or a second one.
@@ -116,6 +117,9 @@ RefuseCall = Call refuse.ended refuse.Reads.Learnt
 
 abbrev pub VerdictCall : Type 0
 VerdictCall = Call paperwhelk_verdict.ended paperwhelk_verdict.Reads.Learnt
+
+abbrev pub RecordSheetCall : Type 0
+RecordSheetCall = Call paperwhelk_sheet.ended paperwhelk_sheet.Reads.Learnt
 
 -- ---- the memory that it is lent and leaves: ledger and map together
 

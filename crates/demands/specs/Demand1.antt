@@ -14,6 +14,8 @@ use Rattle.rules.specs.declared.ClosingAnswer.the-variants as closings
 use Rattle.rules.specs.Record.{refusedAt, sheetOf}
 use Rattle.rules.specs.Table.{tags}
 use Rattle.rules.specs.Front.{frontOf}
+use Rattle.rules.specs.Question.{minus}
+use Rattle.rules.specs.Text.{printed}
 use Rattle.laws.specs.Answers.{numberOf, figureSaid, closingSaid}
 use Rattle.state.specs.State.{ground}
 use Rattle.state.specs.Refusals.{startRefusal, sampleRefusal}
@@ -55,9 +57,10 @@ use Rattle.desk.proofs.feed
 use Rattle.prints.proofs.refuse
 use Rattle.prints.proofs.close
 use Rattle.paperwhelk.proofs.verdict.paperwhelk_verdict
+use Rattle.paperwhelk.proofs.sheets.paperwhelk_sheet
 use Rattle.demands.specs.Calls.{AsksNothing, left, StartCall, SampleCall, BlockCall, ShownCall, TotalsCall, ClosingCall}
 use Rattle.demands.specs.Calls.{FrontCall, ContentCall, OpenCall, ReadCall, AllCall, EndedCall, FiguresCall}
-use Rattle.demands.specs.Calls.{SheetCall, RefusalCall, FeedCall, CloseCall, RefuseCall, startLent, startLeaves, sampleLent, sampleLeaves}
+use Rattle.demands.specs.Calls.{SheetCall, RefusalCall, FeedCall, CloseCall, RefuseCall, RecordSheetCall, startLent, startLeaves, sampleLent, sampleLeaves}
 use Rattle.demands.specs.Calls.{blockLent, blockLeaves, openLent, openLeaves, readLent, readLeaves, allLent, allLeaves, feedLent, feedLeaves}
 use Rattle.demands.specs.Calls.{OpenStayed, ReadStayed, AllStayed, FeedStayed}
 use Rattle.demands.specs.Runs.{Beyond, Shorter}
@@ -89,6 +92,7 @@ pub record TakesEveryInput (M : Type 1) : Type 2 where
   pub refuse-takes-every-input : refuse.Statement.statement M × AsksNothing refuse.ended refuse.Reads.Asked
   pub close-takes-every-input : close.Statement.statement M × AsksNothing close.ended close.Reads.Asked
   pub verdict-takes-every-input : paperwhelk_verdict.Statement.statement M × AsksNothing paperwhelk_verdict.ended paperwhelk_verdict.Reads.Asked
+  pub sheet-takes-every-input : paperwhelk_sheet.Statement.statement M × AsksNothing paperwhelk_sheet.ended paperwhelk_sheet.Reads.Asked
 
 -- ---- "Each refusal has a number": that of document 01's order for the call, and one of its list
 
@@ -185,6 +189,11 @@ pub record LinesStay : Type 0 where
   pub refuse-beyond-stays : (c : RefuseCall) → drop (c .answer) (c .lasts .1 .1 .0) ≡ drop (c .answer) (now (c .args .1 .1 .0))
   pub close-short-changes-nothing : (c : CloseCall) → length (now (c .args .1 .1 .1 .1 .1 .0)) < mostSheet → (c .answer ≡ 0) × (left c ≡ c .args)
   pub close-beyond-stays : (c : CloseCall) → drop (c .answer) (c .lasts .1 .1 .1 .1 .1 .0) ≡ drop (c .answer) (now (c .args .1 .1 .1 .1 .1 .0))
+  -- from C: bytes that are fewer than the sheet has stay as they were, and the answer is minus 16
+  pub sheet-short-changes-nothing : (c : RecordSheetCall) → length (now (c .args .1 .0)) < length (printed (sheetOf (now (c .args .0))))
+      → (c .answer ≡ minus 16) × (left c ≡ c .args)
+  pub sheet-beyond-stays : (c : RecordSheetCall) → (let n = length (printed (sheetOf (now (c .args .0)))) in
+      drop n (c .lasts .1 .0) ≡ drop n (now (c .args .1 .0)))
 
 -- ---- "what lies beyond is never touched": of every single call, on any state and memory
 

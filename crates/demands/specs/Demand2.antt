@@ -11,6 +11,7 @@ use Prim.Native.Nat.{ℕ, suc, _+_, _*_, _≤_, _<_}
 use lib.Dec.{eqb}
 use lib.IntN.{ℤ, pos, _+ℤ_}
 use lib.ListN.{length, take, drop}
+use denote.Ref.{now}
 use Rattle.rules.specs.Words.{every}
 use Rattle.rules.specs.declared.End.the-variants.{None as none}
 use Rattle.rules.specs.declared.Figure.the-variants as figure
@@ -57,7 +58,7 @@ use Rattle.prints.specs.Printed.{nextField}
 use Rattle.intake.specs.declared.Intake.{Intake}
 use Rattle.intake.specs.Turns.{Recorded, Unread}
 use Rattle.demands.specs.Calls.{SampleCall, BlockCall, ShownCall, TotalsCall, ClosingCall}
-use Rattle.demands.specs.Calls.{FiguresCall, ReadCall, AllCall, FeedCall, CloseCall, RefuseCall, VerdictCall}
+use Rattle.demands.specs.Calls.{FiguresCall, ReadCall, AllCall, FeedCall, CloseCall, RefuseCall, VerdictCall, RecordSheetCall}
 use Rattle.demands.specs.Runs.{SampleOn, BlockOn, ShownOn, TotalsOn, ClosingOn, FiguresOn, ReadOn, AllOn}
 use Rattle.demands.specs.Runs.{sampleIn, closingAmounts, Driven, FeedOn, laidBy, FedIn, CloseOn}
 use Rattle.demands.specs.Runs.{RefuseOn, closedTo, refusedTo, AskedOn, SomeRun, SomeClose}
@@ -221,6 +222,14 @@ pub record ProgramPrints (lent : Lent) : Type 0 where
       → Unread (laidOf emptyDesk (lent .room₀) (lent .l₀) (lent .m₀)) most out r room l m after → mostSheet ≤ length out
       → take (r .printed) after ≡ printed (refusedAt 1 1)
 
+-- from C, of a record that is lent whole with the bytes out: what the rules give for it stands at the front of out, where it fits
+pub record FromC : Type 0 where
+  pub sheet-from-c : (c : RecordSheetCall) → (let text = printed (sheetOf (now (c .args .0))) in
+      length text ≤ length (now (c .args .1 .0)) → (c .answer ≡ pos (length text)) × (take (length text) (c .lasts .1 .0) ≡ text))
+  -- 512 bytes are always enough
+  pub sheet-from-c-fits : (c : RecordSheetCall) → mostSheet ≤ length (now (c .args .1 .0))
+      → c .answer ≡ pos (length (printed (sheetOf (now (c .args .0)))))
+
 -- ---- together
 
 pub record Demand2 : Type 0 where
@@ -237,5 +246,6 @@ pub record Demand2 : Type 0 where
   pub prints : (lent : Lent) {w rest : List ℕ} {x : Laid} → FedIn lent w x rest → Prints w rest x
   pub before-all : (x : Laid) → (deskGround x ≡ 0 → ⊥) → BeforeAll x
   pub program : (lent : Lent) → ProgramPrints lent
+  pub from-c : FromC
   -- document 02, L11: what must not be answered a maker, of either method
   pub not-claimed : (y : Method) → NotClaimed y

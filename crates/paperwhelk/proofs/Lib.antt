@@ -1,0 +1,3 @@
+-- Laws of what is exported to C.
+pub mod Whole
+pub mod Fitting
