@@ -115,7 +115,7 @@ def main(folder):
                 out.write(record)
             with open(f"{folder}/{name}.sheet", "w") as out:
                 out.write("\n".join(lines) + "\n")
-        readme.write("\n`bench.c` is a C caller of the bench controller's question.\n")
+        readme.write("\n`bench.c` is a C caller of the bench controller's question, `sheet.c` one that prints a record's sheet.\n")
 
 
 if __name__ == "__main__":
