@@ -1,8 +1,10 @@
 #!/usr/bin/env python3
-"""examples.py FOLDER writes to FOLDER the example records, what the report prints of each, worked out by hand, and their README.md.
+"""examples.py FOLDER writes to FOLDER the example records and their README.md, and of each record what the programs print: the sheet, worked out by hand, the
+trace and the field list, worked out by desk.py. It fails where the three do not agree.
 examples.py refused-7 writes to standard output the record of refusal 7, which is too long to be stored."""
 import sys
 
+import desk
 from rows import *
 
 SLOW = NAMED + cycle([2], [0] * 3) + DRAFT
@@ -13,12 +15,22 @@ TWENTY = HEAD + stretches(20, 140)
 LATER, IN_M, IN_E, FALLING = (100, 6000, -110), (140, 6000, -200), (140, 6000, -220), (100, 6000, -150)
 IN_TURN = [*[GOOD] * 80, *[IN_M] * 20, *[LATER] * 80, *[IN_E] * 30, *[FALLING] * 85]
 
+# T = 4, so that a cycle has 80 positions, in phases of 20, 20 and 40; tops at positions 20 and 60. Both kinds of samples draw 720,000
+TOPS = NAMED + cycle([1, 2, 4], [0, 100, 0, 100, 0]) + tolerances(30, 5, 1)
+STEADY, SLOWER = (45, 6000, -120), (44, 6000, -120)
+
 EXAMPLES = [
     ("first", "document 01's example: of 120 samples the last interval is open, so two cycles are finished", EXAMPLE + recharge(15), told("none 120", 2, 0, 0, 171360000)),
     ("closed", "document 01's example with one sample more, which closes the third cycle", DRIVEN + recharge(15), driven("ac 937500")),
     ("empty", "no samples at all", HEAD, told("none 0")),
     ("one", "one sample: its interval is open and adds nothing", HEAD + block(0, GOOD), told("none 1")),
     ("joint", "joints of phases and of cycles, with other speeds and energies on both sides", JOINT + recharge(15), joined("ac 937500")),
+    # A speed of 45 is inside at every position: lo is never above 20 x 45 + 20 x 30 = 1500, nor hi below 500, and 20 x 45 <= 500 + 600. At a top lo is 1500, five
+    # places from it, and 20 x 44 + 600 = 1480: SLOWER is outside there. Such are sample 100, position 20 of cycle 2, and samples 260 and 300, positions 20 and 60
+    # of cycle 4. Sample 300 brings the count to 2, above 1, and closes the 300th interval. Each has 1,440,000 and 90, or 89 where SLOWER is one of its ends.
+    # e = 80 x 1,440,000 = 115,200,000 in each cycle; d_1 = d_3 = 80 x 90 = 7,200, q_1 = q_3 = 1,600,000; d_2 = 78 x 90 + 2 x 89 = 7,198, q_2 = 1,600,444 (.56)
+    # E = 432,000,000; W = 1,600,000 + 444 x 115,200,000 / 432,000,000 = 1,600,118.4; 2,160,000,000 / 115,208,496 = 18.74.. metres; 15,000,000 / 18 = 833,333.33..
+    ("phases", "a stop inside the third phase of the fourth cycle, by the window at a top: 45 is inside there, 44 is not", TOPS + drive(*[STEADY] * 100, SLOWER, *[STEADY] * 159, SLOWER, *[STEADY] * 39, SLOWER, FAR, FAR) + recharge(15), told("stop 300", 3, 3, 0, 432000000, ["weighted 1600118", "range 18", "ac 833333"])),
     # worked out in rows.py, `uneven` and the rows of L11: 864,000,000 / 51,710,688 = 16.70.., and 879,081,700 / 51,710,688 = 17.00..
     ("not-above", "W is rounded down, and the range has the whole metres of the unrounded one", HEAD + block(0, *UNEVEN * 3, GOOD), uneven(16)),
     ("above", "the same with energy before the test: the range is one metre above the whole metres of the unrounded one, 16.99..", HEAD + transfer(0, 1508170) + block(0, *UNEVEN * 3, GOOD), uneven(17)),
@@ -64,6 +76,8 @@ EXAMPLES = [
     ("refused-3", "a time tolerance of 41 positions", NAMED + LEVEL + tolerances(30, 41, 300), refused(3, 4)),
     ("refused-4", "a vehicle number with an I", MARK + NUMBER_I, refused(4, 2)),
     ("refused-5", "a speed of 150.1 km/h, in the third sample of a block", HEAD + block(0, GOOD, GOOD, (1501, 0, 0)), refused(5, 5)),
+    # Fields 5, 6 and 7 are blocks. Of the last, samples 3 to 6 of the run, the second and the fourth are wrong
+    ("refused-5-late", "a current of -1000.1 A in a later block, behind another vehicle's, and a speed of 150.1 km/h behind it", HEAD + block(0, GOOD, GOOD, GOOD) + block(0, (9000, 0, 0), number=OTHER) + block(3, GOOD, (100, 6000, -10001), GOOD, (1501, 0, 0)), refused(5, 7)),
     ("refused-6", "a block that begins at sample 0 again", HEAD + block(0, GOOD) + block(0, GOOD), refused(6, 6)),
     ("refused-8", "the mark RUN2", field(1, b"RUN2"), refused(8, 1)),
     ("refused-9", "an energy before the test that stands after the first own block", HEAD + block(0, GOOD) + transfer(0, 0), refused(9, 6)),
@@ -73,6 +87,8 @@ EXAMPLES = [
     ("refused-10-shortened", "three finished cycles of the shortened method, which asks for four", TWENTY + drive(*IN_TURN[:180]), told("none 180", 3, 0, 0, 267420000)),
     ("refused-11", "a battery that is charged all along", HEAD + block(0, *[(100, 6000, 120)] * 121), closed("refused 11", drawn=-172800000)),
     ("refused-12", "a vehicle that stands", SLOW + block(0, *[(0, 6000, -120)] * 121), closed("refused 12")),
+    # e = 57,600,000, d = 40 x 2 = 80, q = 72,000,000
+    ("refused-12-rate", "a vehicle that creeps at 0.1 km/h: the rate of its cycles is above 10,000,000", SLOW + block(0, *[(1, 6000, -120)] * 121), closed("refused 12")),
     ("refused-12-late", "a recharge of 161 Wh for 16 metres: the recharge figure is above its limit", DRIVEN + recharge(161), driven("refused 12")),
     ("refused-13", "a range below one metre", SLOW + block(0, *[(1, 1, -1)] * 121), closed("refused 13", drawn=240)),
     ("refused-14", "a transfer energy beyond 10^13", HEAD + transfer(0, 10**13 + 1), refused(14, 5)),
@@ -93,7 +109,16 @@ def too_long(out):
 
 HEADING = """# Records to try
 
-`bin/paperwhelk sheet examples/closed.rec` prints the sheet of a record. Each record here, and what is printed of it, was made by `.ci/card/examples.py`; what is printed was worked out by hand from documents 01 and 02, and the gate compares it.
+Each record is here with what the programs print of it:
+
+| file | what it is | what prints it |
+|---|---|---|
+| `NAME.rec` | the record, in document 01's layout | |
+| `NAME.sheet` | the sheet | `bin/paperwhelk sheet examples/NAME.rec` |
+| `NAME.trace` | the trace: the lines of the sheet, and with them every number that they came from | `bin/paperwhelk trace examples/NAME.rec` |
+| `NAME.fields` | the field list: each field of the record, with its number and the byte at which it begins | `bin/paperwhelk fields examples/NAME.rec` |
+
+The sheets were worked out by hand from documents 01 and 02. The traces and field lists were worked out by `.ci/card/desk.py`, a script that was made from the papers and uses neither our programs nor `second`. `.ci/card/examples.py` makes all four files of each record, and fails where sheet, trace and field list do not agree or a trace does not add up. The gate compares what the programs print with these files.
 
 There is a record for every refusal that a record can bring, but for 7: that takes more than 4,000,000 samples or blocks passed over. This makes such a record, of 24 megabytes, and prints `refused 7 field 20005`:
 
@@ -109,12 +134,16 @@ Refusal 1 is for lent memory and state, which no record reaches; the program `re
 def main(folder):
     with open(folder + "/README.md", "w") as readme:
         readme.write(HEADING)
-        for name, what, record, lines in EXAMPLES:
+        for name, what, record, sheet in EXAMPLES:
             readme.write(f"| `{name}.rec` | {what} |\n")
             with open(f"{folder}/{name}.rec", "wb") as out:
                 out.write(record)
-            with open(f"{folder}/{name}.sheet", "w") as out:
-                out.write("\n".join(lines) + "\n")
+            traced, listed = desk.trace(record), desk.field_list(record)
+            for claim, holds in desk.claims(record, sheet, traced, listed):
+                assert holds, f"{name}: {claim}: not so"
+            for ending, lines in ("sheet", sheet), ("trace", traced), ("fields", listed):
+                with open(f"{folder}/{name}.{ending}", "w") as out:
+                    out.write("\n".join(lines) + "\n")
         readme.write("\n`bench.c` is a C caller of the bench controller's question, `sheet.c` one that prints a record's sheet.\n")
 
 

@@ -37,8 +37,8 @@ pub fn close(finished: &[Finished], energy: i128) -> Result<Figures, u8> {
     }
 }
 
-/// q_c = floor(100 e_c / d_c). Both are above 0 here.
-fn consumption(cycle: &Finished) -> i128 {
+/// q_c = floor(100 e_c / d_c), where both are above 0.
+pub fn consumption(cycle: &Finished) -> i128 {
     100 * cycle.energy / cycle.distance
 }
 
@@ -48,6 +48,16 @@ pub fn weighted(e1: i128, e2: i128, energy: i128, q: &[i128]) -> i128 {
     let sum_of_others: i128 = q[2..].iter().sum();
     let above = others * (q[0] * e1 + q[1] * e2) + (energy - e1 - e2) * sum_of_others;
     above / (energy * others)
+}
+
+/// The weight of each finished cycle by 000, formula 9, as a fraction over
+/// E (n-2): what stands above, and E (n-2). There are three cycles or more.
+pub fn weights(finished: &[Finished], energy: i128) -> (Vec<i128>, i128) {
+    let others = finished.len() as i128 - 2;
+    let (first_two, rest) = finished.split_at(2);
+    let other = energy - first_two[0].energy - first_two[1].energy;
+    let above = first_two.iter().map(|cycle| others * cycle.energy);
+    (above.chain(rest.iter().map(|_| other)).collect(), energy * others)
 }
 
 /// Range = floor(5E / (72W)) metres.

@@ -4,22 +4,23 @@ use crate::ask::questions;
 use crate::bench::answers;
 use crate::compare::{compare, Comparison, Outcome};
 use crate::make::make;
-use crate::sheet::sheet;
-use crate::stream::{agree, sheets, stream};
+use crate::stream::{agree, stream, texts};
 use crate::survey::survey;
+use crate::what::What;
 use std::io::{self, Read, Write};
 use std::process::ExitCode;
 
-const USAGE: &str = "second sheet < RECORD
+const USAGE: &str = "second WHAT < RECORD
 second make KIND SEED [OPTION..] > RECORD
 second survey KIND COUNT [OPTION..]
 second questions COUNT SEED > FILE
 second answers < FILE
-second compare REPORT KIND COUNT FIRST_SEED [OPTION..]
+second compare WHAT PROGRAM KIND COUNT FIRST_SEED [OPTION..]
 second stream KIND COUNT FIRST_SEED [OPTION..] > STREAM
 second sheets < STREAM > SHEETS
-second agree KIND COUNT FIRST_SEED [OPTION..] < SHEETS
+second agree WHAT KIND COUNT FIRST_SEED [OPTION..] < TEXTS
 
+what is printed or compared: sheet, trace, fields, desk (the trace, and behind it the fields)
 kinds and options: small, long, full, prefix, change, million [BLOCK_SIZE [SAMPLES [TIME_TOLERANCE]]],
 foreign [BLOCKS]
 ";
@@ -59,7 +60,6 @@ pub fn obey(words: &[String]) -> ExitCode {
 
 fn act(words: &[&str]) -> Result<ExitCode, Failure> {
     match words {
-        ["sheet"] => print(sheet(&read_all()?).as_bytes()),
         ["make", kind, seed, options @ ..] => {
             let record = make(kind, number(seed)?, &numbers(options)?).ok_or(Failure::Words)?;
             print(&record)
@@ -73,10 +73,10 @@ fn act(words: &[&str]) -> Result<ExitCode, Failure> {
             let ended = || Failure::Said("the file ends inside a question\n".to_string());
             print(answers(&read_all()?).ok_or_else(ended)?.as_bytes())
         }
-        ["compare", report, kind, count, first_seed, options @ ..] => {
-            let (count, first_seed) = (number(count)?, number(first_seed)?);
+        ["compare", what, program, kind, count, first_seed, options @ ..] => {
+            let (what, count, first_seed) = (meant(what)?, number(count)?, number(first_seed)?);
             let options = &numbers(options)?;
-            answer_compare(&Comparison { report, kind, count, first_seed, options })
+            answer_compare(&Comparison { what, program, kind, count, first_seed, options })
         }
         ["stream", kind, count, first_seed, options @ ..] => {
             let made = stream(kind, number(count)?, number(first_seed)?, &numbers(options)?);
@@ -84,13 +84,16 @@ fn act(words: &[&str]) -> Result<ExitCode, Failure> {
         }
         ["sheets"] => {
             let ended = || Failure::Said("the stream ends inside a record\n".to_string());
-            print(sheets(&read_all()?).ok_or_else(ended)?.as_bytes())
+            print(texts(What::Sheet, &read_all()?).ok_or_else(ended)?.as_bytes())
         }
-        ["agree", kind, count, first_seed, options @ ..] => {
-            let text = String::from_utf8_lossy(&read_all()?).into_owned();
-            let found = agree(&text, kind, number(count)?, number(first_seed)?, &numbers(options)?);
+        ["agree", what, kind, count, first_seed, options @ ..] => {
+            let (what, count, first_seed) = (meant(what)?, number(count)?, number(first_seed)?);
+            let (options, bytes) = (numbers(options)?, read_all()?);
+            let text = String::from_utf8_lossy(&bytes);
+            let found = agree(what, &text, kind, count, first_seed, &options);
             answer_agree(found.ok_or(Failure::Words)?)
         }
+        [what] => print(meant(what)?.of(&read_all()?).as_bytes()),
         _ => Err(Failure::Words),
     }
 }
@@ -114,6 +117,10 @@ fn answer_compare(comparison: &Comparison) -> Result<ExitCode, Failure> {
         }
         Outcome::Impossible(text) => Err(Failure::Said(text)),
     }
+}
+
+fn meant(word: &str) -> Result<What, Failure> {
+    What::meant(word).ok_or(Failure::Words)
 }
 
 fn number(word: &str) -> Result<u64, Failure> {

@@ -1,11 +1,13 @@
 //! An independent second program, written from the papers alone: document 01,
-//! the rules, and document 02, the requests, of which L2 and L5 are in it.
+//! the rules, and document 02, the requests, of which L2 and L5 are in it; and
+//! the desk's programs, trace and field list, by the page of the requests.
 //!
 //! It holds the whole record in memory, collects all accepted samples first
 //! and only then drives the run over them, cycle by cycle.
 //!
-//! The rules:      `cycle`, `run`, `shortened`, `method`, `closing`, `record`,
-//!                 `field`, `sheet`, `bench`.
+//! The rules:      `cycle`, `run`, `shortened`, `phase`, `method`, `closing`,
+//!                 `record`, `field`, `bench`.
+//! The texts:      `sheet`, `trace`, `listing`, `line`, `what`.
 //! Made records:   `make` and the modules it calls.
 //! The comparison: `compare`, `survey`.
 
@@ -14,10 +16,16 @@ pub mod closing;
 pub mod cycle;
 pub mod field;
 pub mod method;
+pub mod phase;
 pub mod record;
 pub mod run;
-pub mod sheet;
 pub mod shortened;
+
+pub mod line;
+pub mod listing;
+pub mod sheet;
+pub mod trace;
+pub mod what;
 
 pub mod ask;
 pub mod breakage;

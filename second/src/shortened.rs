@@ -6,7 +6,7 @@
 //! limit.
 
 use crate::cycle::Cycle;
-use crate::run::{End, Lap, Run, Sample, Tolerances};
+use crate::run::{between, Begun, End, Lap, Part, Run, Sample, Tolerances};
 
 /// The cycles of a shortened run.
 pub const SHORTENED_CYCLES: usize = 4;
@@ -22,14 +22,6 @@ pub struct Stretches {
     pub set_speed: i16,
 }
 
-/// What a shortened run is made of.
-#[derive(Clone, Copy)]
-enum Part {
-    Cycle,
-    M,
-    E,
-}
-
 impl Stretches {
     /// `None` is refusal 19.
     pub fn within_limits(length: i128, set_speed: i128) -> Option<Stretches> {
@@ -41,11 +33,11 @@ impl Stretches {
     fn parts(&self, positions: usize) -> [(usize, Part); 6] {
         let behind = 2 * positions + self.length;
         [
-            (0, Part::Cycle),
-            (positions, Part::Cycle),
+            (0, Part::Cycle(1)),
+            (positions, Part::Cycle(2)),
             (2 * positions, Part::M),
-            (behind, Part::Cycle),
-            (behind + positions, Part::Cycle),
+            (behind, Part::Cycle(3)),
+            (behind + positions, Part::Cycle(4)),
             (behind + 2 * positions, Part::E),
         ]
     }
@@ -82,16 +74,12 @@ impl Run {
                 break;
             }
             let rest = &samples[first..];
-            match part {
-                Part::Cycle => {
-                    let lap = Lap::drive(&gates, with_next(rest, positions), allowance);
-                    run.add_cycle(&lap, positions);
-                }
-                Part::M => run.add(&Lap::m(rest, stretches.length)),
-                Part::E => {
-                    run.add(&Lap::e(rest, stretches.stop_in_e(rest, tolerances.speed as i16)))
-                }
-            }
+            let lap = match part {
+                Part::Cycle(_) => Lap::drive(&gates, with_next(rest, positions), allowance),
+                Part::M => Lap::m(rest, stretches.length),
+                Part::E => Lap::e(rest, stretches.stop_in_e(rest, tolerances.speed as i16)),
+            };
+            run.add(Begun { part, first, lap });
         }
         run
     }
@@ -100,11 +88,13 @@ impl Run {
 impl Lap {
     /// Stretch M, from its first sample on.
     fn m(samples: &[Sample], length: usize) -> Lap {
-        Lap::unjudged(with_next(samples, length), samples.len().min(length))
+        let lap = Lap::unjudged(with_next(samples, length), samples.len().min(length));
+        Lap { finished: lap.closed == length, ..lap }
     }
 
     /// Stretch E, from its first sample on. The sample that stops the run closes
-    /// the last interval; it is not counted, and it is not outside.
+    /// the last interval; it is not counted, and it is not outside. E is never
+    /// finished.
     fn e(samples: &[Sample], stop: Option<usize>) -> Lap {
         match stop {
             Some(at) => Lap { stopped: true, ..Lap::unjudged(&samples[..=at], at) },
@@ -114,13 +104,9 @@ impl Lap {
 
     /// The intervals between these samples; none of them is judged.
     fn unjudged(samples: &[Sample], counted: usize) -> Lap {
-        let (mut energy, mut distance) = (0, 0);
-        for pair in samples.windows(2) {
-            energy += pair[0].drawn() + pair[1].drawn();
-            distance += i64::from(pair[0].speed) + i64::from(pair[1].speed);
-        }
-        let closed = samples.len() - 1;
-        Lap { energy, distance, outside: 0, counted, closed, stopped: false }
+        let (energy, distance) = between(samples);
+        let (outside, closed) = (0, samples.len() - 1);
+        Lap { energy, distance, outside, counted, closed, stopped: false, finished: false }
     }
 }
 

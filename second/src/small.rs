@@ -7,7 +7,7 @@ use crate::brink::{brink, limit, stop_at_joint};
 use crate::chance::Chance;
 use crate::corners::corner;
 use crate::draft::{sprinkle_foreign, Draft};
-use crate::drive::{drive_inside, drive_mixed, some_power, Power};
+use crate::drive::{drive_inside, drive_mixed, outside, some_power, Power};
 use crate::faults::{crowd, plant_some};
 use crate::shortened::{Stretches, MOST_OF_M, SHORTENED_CYCLES};
 use crate::slowing::slowing;
@@ -45,14 +45,26 @@ fn plain(chance: &mut Chance) -> Vec<Vec<u8>> {
 }
 
 /// The samples end at a joint: with the last sample before it or the first one
-/// after it, or beside these.
+/// after it, or beside these. Now and then the last sample is outside.
 fn joint(chance: &mut Chance) -> Vec<Vec<u8>> {
     let (joint, mut draft) =
         if chance.below(5) < 2 { regular_joint(chance) } else { shortened_joint(chance) };
     let count = (joint + chance.pick(&[0, 0, 1, 1, 1, 2, 2, 2, 3, 3])).saturating_sub(1);
     let power = some_power(chance);
     draft.samples = drive_inside(chance, &draft, count, power);
+    perhaps_last_outside(chance, &mut draft);
     written(chance, draft)
+}
+
+/// Puts the last sample outside once in three times, if it stands in a cycle.
+fn perhaps_last_outside(chance: &mut Chance, draft: &mut Draft) {
+    let last = draft.samples.len().checked_sub(1);
+    let position = last.and_then(|last| draft.position_of(last));
+    if let (Some(last), Some(position)) = (last, position) {
+        if chance.one_in(3) {
+            draft.samples[last].speed = outside(chance, &draft.gates()[position]);
+        }
+    }
 }
 
 /// A joint of two phases or two cycles. The first one is the start.

@@ -10,7 +10,7 @@ use second::cycle::{Cycle, Verdict};
 use second::field::{cut, Cut};
 use second::make::make;
 use second::record::{read, Record};
-use second::run::{End, Finished, Run, Sample};
+use second::run::{Begun, End, Finished, Part, Run, Sample};
 use second::sheet::sheet;
 
 /// Where a sample stands: in a cycle, counted from 0, at a position; or in M or E.
@@ -152,7 +152,7 @@ impl Judge {
         self.ledger[row][8] > tolerances.allowance
     }
 
-    /// The same run in the form of `Run`.
+    /// The same run in the form of `Run`, but for its parts.
     fn run(&self) -> Run {
         let energy = |nine: &[i128; 9]| nine[..4].iter().sum::<i128>();
         let [m, e] = self.stretches;
@@ -166,7 +166,25 @@ impl Judge {
             outside: self.ledger.iter().map(|nine| nine[8]).sum(),
             drawn: self.ledger.iter().map(energy).sum::<i128>() + m[0] + e[0],
             finished: finished.collect(),
+            begun: Vec::new(),
         }
+    }
+
+    /// Does a part of the run have the ledger's numbers of its cycle, phase by
+    /// phase and all together, or those of its stretch?
+    fn knows(&self, record: &Record, begun: &Begun) -> bool {
+        let lap = &begun.lap;
+        let whole = [lap.energy, lap.distance].map(i128::from);
+        let Part::Cycle(number) = begun.part else {
+            return whole == self.stretches[usize::from(begun.part == Part::E)];
+        };
+        let nine = &self.ledger[number - 1];
+        let mut ours = [0; 9];
+        for (at, phase) in record.phases(begun).iter().enumerate() {
+            (ours[at], ours[4 + at]) = (phase.energy.into(), phase.distance.into());
+        }
+        ours[8] = lap.outside.into();
+        ours == *nine && whole == [nine[..4].iter().sum(), nine[4..8].iter().sum()]
     }
 }
 
@@ -189,7 +207,11 @@ fn the_naive_judge_agrees() {
             let ones = judge.map.iter().filter(|outside| **outside).count() as i128;
             assert_eq!(ones, judge.ledger.last().unwrap()[8], "seed {seed}");
         }
-        assert_eq!(record.run(), judge.run(), "seed {seed}");
+        let run = record.run();
+        for begun in &run.begun {
+            assert!(judge.knows(&record, begun), "seed {seed}: {begun:?}");
+        }
+        assert_eq!(Run { begun: Vec::new(), ..run }, judge.run(), "seed {seed}");
     }
 }
 

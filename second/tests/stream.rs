@@ -1,34 +1,71 @@
 //! Streams of records, and the records near a small one.
 
+use second::compare::difference;
 use second::make::make;
 use second::nearby::{driven, whole};
 use second::sheet::sheet;
-use second::stream::{agree, sheets, stream};
+use second::stream::{agree, stream, texts};
+use second::what::What;
 
 #[test]
-fn a_stream_gives_each_record_its_sheet() {
+fn a_stream_gives_each_record_its_text() {
     let bytes = stream("prefix", 197, 0, &[]).unwrap();
-    let text = sheets(&bytes).unwrap();
-    assert!(text.starts_with("refused 15 field 1\n\n"));
-    assert_eq!(text.matches("\n\n").count(), 197);
-    assert!(agree(&text, "prefix", 197, 0, &[]).unwrap().is_ok());
+    for what in What::ALL {
+        let text = texts(what, &bytes).unwrap();
+        assert_eq!(text.matches("\n\n").count(), 197);
+        assert!(agree(what, &text, "prefix", 197, 0, &[]).unwrap().is_ok());
+    }
+    assert!(texts(What::Sheet, &bytes).unwrap().starts_with("refused 15 field 1\n\n"));
+    assert!(texts(What::Trace, &bytes).unwrap().starts_with("refused 15 field 1\n\n"));
+    assert!(texts(What::Fields, &bytes).unwrap().starts_with("1 0 refused 15\n\n"));
+    let desk = "refused 15 field 1\n1 0 refused 15\n\n";
+    assert!(texts(What::Desk, &bytes).unwrap().starts_with(desk));
 }
 
 #[test]
-fn a_stream_that_ends_inside_a_record_has_no_sheets() {
+fn a_stream_that_ends_inside_a_record_has_no_texts() {
     let bytes = stream("prefix", 2, 100, &[]).unwrap();
-    assert_eq!(sheets(&bytes[..bytes.len() - 1]), None);
-    assert_eq!(sheets(&bytes[..3]), None);
+    assert_eq!(texts(What::Sheet, &bytes[..bytes.len() - 1]), None);
+    assert_eq!(texts(What::Desk, &bytes[..3]), None);
 }
 
 #[test]
-fn another_sheet_is_found_and_its_seed_named() {
-    let text = sheets(&stream("prefix", 9, 0, &[]).unwrap()).unwrap();
-    let other = text.replacen("refused 15 field 2", "refused 15 field 3", 1);
-    let said = agree(&other, "prefix", 9, 0, &[]).unwrap().unwrap_err();
-    assert!(said.starts_with("prefix seed 7 differs"), "{said}");
-    let more = format!("{text}\n");
-    assert!(agree(&more, "prefix", 9, 0, &[]).unwrap().is_err());
+fn another_text_is_found_and_its_seed_named() {
+    for (what, is, other) in [
+        (What::Sheet, "refused 15 field 2", "refused 15 field 3"),
+        (What::Trace, "refused 15 field 2", "refused 15 field 3"),
+        (What::Fields, "2 7 refused 15", "2 8 refused 15"),
+        (What::Desk, "2 7 refused 15", "2 8 refused 15"),
+    ] {
+        let text = texts(what, &stream("prefix", 9, 0, &[]).unwrap()).unwrap();
+        let changed = text.replacen(is, other, 1);
+        let said = agree(what, &changed, "prefix", 9, 0, &[]).unwrap().unwrap_err();
+        assert!(said.starts_with("prefix seed 7 differs in line "), "{said}");
+        assert!(said.contains(&format!("ours \"{is}\\n\", theirs \"{other}\\n\"")), "{said}");
+        assert!(said.contains(&format!("\nour {}:\n", what.word())), "{said}");
+        let more = format!("{text}\n");
+        assert!(agree(what, &more, "prefix", 9, 0, &[]).unwrap().is_err());
+        let less = &text[..text.len() - 1];
+        let said = agree(what, less, "prefix", 9, 0, &[]).unwrap().unwrap_err();
+        assert!(said.starts_with("prefix seed 8 differs in line "), "{said}");
+    }
+}
+
+/// Of texts of millions of lines only those about the difference are shown.
+#[test]
+fn a_difference_in_long_texts() {
+    let ours: String = (0..9000).map(|at| format!("{at}\n")).collect();
+    let theirs = ours.replacen("4000\n", "x\n", 1);
+    let said = difference(What::Fields, &ours, &theirs);
+    assert!(
+        said.starts_with("in line 4001: ours \"4000\\n\", theirs \"x\\n\"\nour fields:\n3500\n")
+    );
+    assert_eq!(said.lines().count(), 1 + 1 + 1000 + 1 + 1000);
+    let cut = difference(What::Fields, "1\n2\n", "1\n2");
+    assert!(cut.starts_with("in line 2: ours \"2\\n\", theirs \"2\"\n"));
+    assert!(
+        difference(What::Fields, "1\n", "").starts_with("in line 1: ours \"1\\n\", theirs \"\"\n")
+    );
 }
 
 #[test]

@@ -2,6 +2,7 @@
 #![allow(dead_code)]
 
 use second::sheet::sheet;
+use second::trace::trace;
 use second::write::{block, cycle, mark, recharge, tolerances, vehicle, Raw, Vehicle};
 
 pub const OWN: &Vehicle = b"LTESTVEH000000001";
@@ -58,6 +59,19 @@ pub fn sheet_of(fields: &[Vec<u8>]) -> String {
     sheet(&fields.concat())
 }
 
+/// The trace of these fields.
+pub fn trace_of(fields: &[Vec<u8>]) -> String {
+    trace(&fields.concat())
+}
+
+/// Fields 1 to 4 of the example with other tolerances, one own block, and no more.
+pub fn with_samples(three: [u16; 3], samples: &[Raw]) -> Vec<Vec<u8>> {
+    let mut fields = start();
+    fields[3] = tolerances(three);
+    fields.push(block(OWN, 0, samples));
+    fields
+}
+
 /// The sheet of the example with one field put in another's place.
 pub fn with(at: usize, field: Vec<u8>) -> String {
     let mut fields = example();
@@ -75,6 +89,24 @@ pub fn with_also(at: usize, field: Vec<u8>) -> String {
 /// The line of a refused field.
 pub fn refused(number: u8, field: usize) -> String {
     format!("refused {number} field {field}\n")
+}
+
+/// The lines from the first one that begins with `first` to the next one that
+/// begins with `last`, each with its line end.
+pub fn from_to(text: &str, first: &str, last: &str) -> String {
+    let (mut found, rest) = (String::new(), from(text, first));
+    for line in rest.split_inclusive('\n') {
+        found.push_str(line);
+        if line.starts_with(last) {
+            return found;
+        }
+    }
+    panic!("no lines from {first} to {last}: {text}")
+}
+
+/// The lines from the first one that begins with `first` on.
+pub fn from(text: &str, first: &str) -> String {
+    text.split_inclusive('\n').skip_while(|line| !line.starts_with(first)).collect()
 }
 
 /// The line of the sheet that starts with this word.
