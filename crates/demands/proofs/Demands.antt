@@ -14,6 +14,8 @@ use Rattle.state.specs.declared.Run.{Run}
 use Rattle.laws.proofs.NotClaimed.{not-claimed}
 use Rattle.judge.proofs.Runs as runs
 use Rattle.intake.proofs.Told as intake
+use Rattle.walk.proofs.Printed as walk
+use Rattle.traced.proofs.Printed as traced
 use Rattle.paperwhelk.proofs.Fitting.{at-front}
 use Rattle.demands.specs.Demand1.{Demand1}
 use Rattle.demands.specs.Demand2.{Demand2, RunHolds, FromC}
@@ -81,6 +83,7 @@ demand-2 = record {
     take-record-near = λ c e h. subst (PrintsNear (c .bytes)) (sym (intake.take-record-prints lent c e h)) (prints-near (c .bytes));
     short-buffer-prints = intake.short-buffer-prints lent;
   };
+  desk = λ lent. record { trace-record-prints = traced.trace-record-prints lent; fields-print = walk.fields-print lent };
   from-c = from-c;
   not-claimed = not-claimed;
 }

@@ -4,8 +4,9 @@ use mathlib.Core.List.{List, _++_, append-assoc}
 use mathlib.Core.Path.{_≡_}
 use Prim.Native.Nat.{ℕ}
 use lib.IntN.{ℤ, pos}
+use Rattle.rules.specs.Words.{spell}
 use Rattle.rules.specs.declared.Figures.{Figures}
-use Rattle.rules.specs.Text.{signed, line, outsideWord, drawnWord, headLines, countLines, closingLines, sheetText}
+use Rattle.rules.specs.Text.{signed, line, headLines, countLines, closingLines, sheetText}
 use Rattle.figures.specs.Compared.{withOutside}
 use Rattle.demands.specs.Compared.{outsideLine, passedLine, withPassed}
 
@@ -17,7 +18,7 @@ signedLine word z = line word (signed z)
 
 -- `passed`, `drawn`, and the closing figures
 abbrev pub belowOutside : Figures → List ℕ
-belowOutside f = passedLine (f .passed) ++ signedLine drawnWord (f .drawn) ++ closingLines (f .closing)
+belowOutside f = passedLine (f .passed) ++ signedLine (spell "drawn") (f .drawn) ++ closingLines (f .closing)
 
 regroup : (a b c d e : List ℕ) → a ++ (b ++ c ++ d) ++ e ≡ a ++ (b ++ (c ++ d ++ e))
 regroup a b c d e = simp append-assoc
@@ -30,14 +31,14 @@ sheet-lines f n = regroup (headLines f) (outsideLine n) _ _ (closingLines (f .cl
 
 -- `run`, `end`, `cycles` and `outside`; `drawn`, and the closing figures
 abbrev pub abovePassed : Figures → List ℕ
-abovePassed f = headLines f ++ signedLine outsideWord (f .outside)
+abovePassed f = headLines f ++ signedLine (spell "outside") (f .outside)
 
 abbrev pub belowPassed : Figures → List ℕ
-belowPassed f = signedLine drawnWord (f .drawn) ++ closingLines (f .closing)
+belowPassed f = signedLine (spell "drawn") (f .drawn) ++ closingLines (f .closing)
 
 regroup-third : (a b c d e : List ℕ) → a ++ (b ++ c ++ d) ++ e ≡ (a ++ b) ++ (c ++ (d ++ e))
 regroup-third a b c d e = simp append-assoc
 
 pub passed-lines : (f : Figures) (n : ℕ) → sheetText (withPassed f n) ≡ abovePassed f ++ (passedLine n ++ belowPassed f)
 unfolding headLines countLines
-passed-lines f n = regroup-third (headLines f) (signedLine outsideWord (f .outside)) (passedLine n) (signedLine drawnWord (f .drawn)) (closingLines (f .closing))
+passed-lines f n = regroup-third (headLines f) (signedLine (spell "outside") (f .outside)) (passedLine n) (signedLine (spell "drawn") (f .drawn)) (closingLines (f .closing))

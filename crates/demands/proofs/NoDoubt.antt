@@ -22,9 +22,15 @@ pub mod OfOpening
 pub mod OfReading
 pub mod OfReader
 pub mod OfSheet
+pub mod OfListing
+pub mod OfTraces
 pub mod OfFigures
+pub mod OfSources
 pub mod OfDesk
 pub mod OfPrints
+pub mod OfTracing
+pub mod OfIntake
+pub mod OfWalk
 pub mod OfPaperwhelk
 
 pub left-by : {T : Ended} {P : Promise T} (c : Call T P) {w : Lasts T (c .κs) (c .args)} → c .lasts ≡ w → left c ≡ atExit T (c .κs) (c .args) w

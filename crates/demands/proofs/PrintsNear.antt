@@ -7,7 +7,7 @@ use mathlib.Core.Path.{_≡_, refl, sym, ap, _∙_}
 use Prim.Native.Nat.{ℕ}
 use lib.Dec.{eqb}
 use lib.ListN.{length, getD, drop}
-use Rattle.rules.specs.Words.{every}
+use Rattle.rules.specs.Words.{every, spell}
 use Rattle.numbers.proofs.Tests.{every-append}
 use Rattle.rules.specs.declared.End.{End}
 use Rattle.rules.specs.declared.End.the-variants.{None as none, Stop as stop, Limit as limit}
@@ -20,7 +20,7 @@ use Rattle.rules.specs.Front.{Field}
 use Rattle.rules.specs.Machine.{on, moveAt}
 use Rattle.rules.specs.Record.{Told, Bring, nothing, aNumber, aCycle, theTolerances, theStretches, ownSamples, before, after, charged, bringAt, takeField, Sheet, told, refusedAt, sheetOf}
 use Rattle.rules.specs.Figures.{planTold, figuresTold}
-use Rattle.rules.specs.Text.{digits, signed, spaced, line, endWord, endLine, refusedWord, refusedLine, headLines, outsideWord, passedWord, drawnWord, countLines, weightedWord, rangeWord, rechargeLine, closedLines, closingLines, sheetText, refusalText, printed}
+use Rattle.rules.specs.Text.{digits, signed, spaced, line, endWord, endLine, refusedWord, refusedLine, headLines, countLines, rechargeLine, closedLines, closingLines, sheetText, refusalText, printed}
 use Rattle.laws.proofs.RunNear.{run-near}
 use Rattle.laws.proofs.Says.{movesTo}
 use Rattle.laws.proofs.Tags.{sizes}
@@ -55,20 +55,7 @@ named = told-keeps Named named-moved refl
 
 -- ---- a sheet, line by line
 
--- run, end, cycles, field
-abbrev runWord : List ℕ
-runWord = 114 ∷ 117 ∷ 110 ∷ []
-
-abbrev endName : List ℕ
-endName = 101 ∷ 110 ∷ 100 ∷ []
-
-abbrev cyclesWord : List ℕ
-cyclesWord = 99 ∷ 121 ∷ 99 ∷ 108 ∷ 101 ∷ 115 ∷ []
-
-abbrev fieldWord : List ℕ
-fieldWord = 102 ∷ 105 ∷ 101 ∷ 108 ∷ 100 ∷ []
-
-end-plain : (e : End) → every isPlain (spaced endName ++ endWord e) ≡ true
+end-plain : (e : End) → every isPlain (spaced (spell "end") ++ endWord e) ≡ true
 end-plain none = refl
 end-plain stop = refl
 end-plain limit = refl
@@ -76,53 +63,53 @@ end-plain limit = refl
 module _ (f : Figures) (v : every isPlain (f .vehicle) ≡ true) where
   -- what stands from each line on
   abbrev drawn : List ℕ
-  drawn = line drawnWord (signed (f .drawn)) ++ closingLines (f .closing)
+  drawn = line (spell "drawn") (signed (f .drawn)) ++ closingLines (f .closing)
 
   abbrev passed : List ℕ
-  passed = line passedWord (digits (f .passed)) ++ drawn
+  passed = line (spell "passed") (digits (f .passed)) ++ drawn
 
   abbrev outside : List ℕ
-  outside = line outsideWord (signed (f .outside)) ++ passed
+  outside = line (spell "outside") (signed (f .outside)) ++ passed
 
   abbrev cycles : List ℕ
-  cycles = line cyclesWord (digits (f .cycles)) ++ outside
+  cycles = line (spell "cycles") (digits (f .cycles)) ++ outside
 
-  end-is : endLine (f .end) (f .counted) ++ cycles ≡ line (spaced endName ++ endWord (f .end)) (digits (f .counted)) ++ cycles
+  end-is : endLine (f .end) (f .counted) ++ cycles ≡ line (spaced (spell "end") ++ endWord (f .end)) (digits (f .counted)) ++ cycles
   unfolding endLine
-  end-is = words-line endName (endWord (f .end)) (digits (f .counted)) cycles
+  end-is = words-line (spell "end") (endWord (f .end)) (digits (f .counted)) cycles
 
-  run-first : sheetText f ≡ line runWord (f .vehicle) ++ (endLine (f .end) (f .counted) ++ cycles)
+  run-first : sheetText f ≡ line (spell "run") (f .vehicle) ++ (endLine (f .end) (f .counted) ++ cycles)
   unfolding headLines countLines
   run-first = simp append-assoc
 
   behind-six : behindLines 6 (sheetText f) ≡ closingLines (f .closing)
   unfolding behindLines
   behind-six =
-      let one = ap behindLine run-first ∙ behind-of-line runWord (f .vehicle) (endLine (f .end) (f .counted) ++ cycles) refl v in
+      let one = ap behindLine run-first ∙ behind-of-line (spell "run") (f .vehicle) (endLine (f .end) (f .counted) ++ cycles) refl v in
       let two = ap behindLine (one ∙ end-is)
-      ∙ behind-of-line (spaced endName ++ endWord (f .end)) (digits (f .counted)) cycles (end-plain (f .end)) (plain-digits (f .counted)) in
-      let three = ap behindLine two ∙ behind-of-line cyclesWord (digits (f .cycles)) outside refl (plain-digits (f .cycles)) in
-      let four = ap behindLine three ∙ behind-of-line outsideWord (signed (f .outside)) passed refl (plain-signed (f .outside)) in
-      let five = ap behindLine four ∙ behind-of-line passedWord (digits (f .passed)) drawn refl (plain-digits (f .passed)) in
-      ap behindLine five ∙ behind-of-line drawnWord (signed (f .drawn)) (closingLines (f .closing)) refl (plain-signed (f .drawn))
+      ∙ behind-of-line (spaced (spell "end") ++ endWord (f .end)) (digits (f .counted)) cycles (end-plain (f .end)) (plain-digits (f .counted)) in
+      let three = ap behindLine two ∙ behind-of-line (spell "cycles") (digits (f .cycles)) outside refl (plain-digits (f .cycles)) in
+      let four = ap behindLine three ∙ behind-of-line (spell "outside") (signed (f .outside)) passed refl (plain-signed (f .outside)) in
+      let five = ap behindLine four ∙ behind-of-line (spell "passed") (digits (f .passed)) drawn refl (plain-digits (f .passed)) in
+      ap behindLine five ∙ behind-of-line (spell "drawn") (signed (f .drawn)) (closingLines (f .closing)) refl (plain-signed (f .drawn))
 
 -- the closing's lines, in a text behind whose sixth line they stand
 module _ (t : List ℕ) (y : Closing) (six : behindLines 6 t ≡ closedLines y) where
   abbrev behind : List ℕ
-  behind = line rangeWord (digits (y .range)) ++ rechargeLine (y .recharge)
+  behind = line (spell "range") (digits (y .range)) ++ rechargeLine (y .recharge)
 
-  closed-is : behindLines 6 t ≡ line weightedWord (digits (y .weighted)) ++ behind
+  closed-is : behindLines 6 t ≡ line (spell "weighted") (digits (y .weighted)) ++ behind
   unfolding closedLines
-  closed-is = six ∙ append-assoc (line weightedWord (digits (y .weighted))) (line rangeWord (digits (y .range))) (rechargeLine (y .recharge))
+  closed-is = six ∙ append-assoc (line (spell "weighted") (digits (y .weighted))) (line (spell "range") (digits (y .range))) (rechargeLine (y .recharge))
 
-  weighted-line : firstLine (behindLines 6 t) ≡ spaced weightedWord ++ digits (y .weighted)
-  weighted-line = ap firstLine closed-is ∙ first-of-line weightedWord (digits (y .weighted)) behind refl (plain-digits (y .weighted))
+  weighted-line : firstLine (behindLines 6 t) ≡ spaced (spell "weighted") ++ digits (y .weighted)
+  weighted-line = ap firstLine closed-is ∙ first-of-line (spell "weighted") (digits (y .weighted)) behind refl (plain-digits (y .weighted))
 
-  range-line : firstLine (behindLines 7 t) ≡ spaced rangeWord ++ digits (y .range)
+  range-line : firstLine (behindLines 7 t) ≡ spaced (spell "range") ++ digits (y .range)
   unfolding behindLines
   range-line =
-      ap firstLine (ap behindLine closed-is ∙ behind-of-line weightedWord (digits (y .weighted)) behind refl (plain-digits (y .weighted)))
-      ∙ first-of-line rangeWord (digits (y .range)) (rechargeLine (y .recharge)) refl (plain-digits (y .range))
+      ap firstLine (ap behindLine closed-is ∙ behind-of-line (spell "weighted") (digits (y .weighted)) behind refl (plain-digits (y .weighted)))
+      ∙ first-of-line (spell "range") (digits (y .range)) (rechargeLine (y .recharge)) refl (plain-digits (y .range))
 
   closing-shown : Shows t (y .weighted) (y .range)
   closing-shown = record { weighted = weighted-line; range = range-line }
@@ -141,7 +128,7 @@ not-shown t W R s l e = ap (λ (u : List ℕ). eqb (getD u 0 0) 119) (sym e ∙ 
 -- a refused field's text has one line
 module _ (number k : ℕ) where
   abbrev words : List ℕ
-  words = spaced refusedWord ++ (spaced (digits number) ++ fieldWord)
+  words = spaced refusedWord ++ (spaced (digits number) ++ (spell "field"))
 
   refusal-is : refusalText number k ≡ line words (digits k) ++ []
   unfolding refusalText line
@@ -149,8 +136,8 @@ module _ (number k : ℕ) where
 
   words-plain : every isPlain words ≡ true
   words-plain =
-      every-append isPlain (spaced refusedWord) (spaced (digits number) ++ fieldWord) refl
-      (every-append isPlain (spaced (digits number)) fieldWord (every-append isPlain (digits number) (32 ∷ []) (plain-digits number) refl) refl)
+      every-append isPlain (spaced refusedWord) (spaced (digits number) ++ (spell "field")) refl
+      (every-append isPlain (spaced (digits number)) (spell "field") (every-append isPlain (digits number) (32 ∷ []) (plain-digits number) refl) refl)
 
   refusal-alone : behindLine (refusalText number k) ≡ []
   refusal-alone = ap behindLine refusal-is ∙ behind-of-line words (digits k) [] words-plain (plain-digits k)

@@ -12,6 +12,7 @@ use Rattle.opening.specs.declared.Opening.{Opening}
 use Rattle.opening.specs.declared.OpenStep.the-variants as step
 use Rattle.opening.specs.Answers.{openStepSaid, OpenSaid}
 use Rattle.opening.proofs.refused_at
+use Rattle.opening.proofs.characters_of
 use Rattle.reading.specs.declared.Reading.{Reading}
 use Rattle.reader.specs.declared.Ending.the-variants.{Whole}
 use Rattle.reader.specs.Answers.{endingSaid}
@@ -54,3 +55,8 @@ module _ (c : Call ended.ended ended.Reads.Learnt) where
 
   pub ended-with-bytes-left-breaks : (n : ℕ) → c .args .1 .0 ≡ suc n → c .answer ≡ Whole → ⊥
   ended-with-bytes-left-breaks n s e = let z = only-whole (c .args .0) (c .args .1 .0) (sym (c .kept) ∙ ap endingSaid e) .1 in omega arith
+
+-- seventeen characters that are not those of the value
+module _ (c : Call characters_of.ended characters_of.Reads.Learnt) where
+  pub characters-of-another-breaks : (v : List ℕ) → (v ≡ c .args .0 .now → ⊥) → c .answer ≡ v → ⊥
+  characters-of-another-breaks v h e = h (sym e ∙ c .kept)

@@ -4,6 +4,7 @@ use mathlib.Core.List.{List, _∷_, _++_}
 use mathlib.Core.Path.{_≡_}
 use Prim.Native.Nat.{ℕ, _+_, _≤_, max}
 use lib.ListN.{length}
+use Rattle.rules.specs.Words.{spell}
 use Rattle.rules.specs.declared.Figures.{Figures}
 use Rattle.rules.specs.declared.Moment.{Moment}
 use Rattle.rules.specs.declared.Tolerances.{Tolerances}
@@ -14,7 +15,7 @@ use Rattle.rules.specs.Table.{behindCycle, tags}
 use Rattle.rules.specs.Machine.{waiting, run}
 use Rattle.rules.specs.Record.{Told, holding, takeField, untold, Sheet, told, refusedAt}
 use Rattle.rules.specs.Figures.{planTold, closedIn}
-use Rattle.rules.specs.Text.{digits, line, outsideWord, passedWord}
+use Rattle.rules.specs.Text.{digits, line}
 use Rattle.reading.specs.declared.Reading.{Reading}
 use Rattle.figures.specs.Compared.{withCounts}
 
@@ -94,11 +95,11 @@ outsideTold x c = let y = courseOf (planTold x) in outside y (momentsTold x) c (
 
 -- `outside` and a number
 abbrev pub outsideLine : ℕ → List ℕ
-outsideLine n = line outsideWord (digits n)
+outsideLine n = line (spell "outside") (digits n)
 
 -- `passed` and a number
 abbrev pub passedLine : ℕ → List ℕ
-passedLine n = line passedWord (digits n)
+passedLine n = line (spell "passed") (digits n)
 
 -- two sheets with the same lines but for `outside`, whose number is no higher on the second
 pub record NoMoreOutside (text text′ : List ℕ) : Type 0 where

@@ -35,6 +35,9 @@ use Rattle.rules.specs.Machine.{run}
 use Rattle.rules.specs.Record.{Told, takeField, untold, told, refusedAt, sheetOf}
 use Rattle.rules.specs.Figures.{energies, distances, cyclesIn, outsideTotal, closingIn, figuresBy}
 use Rattle.rules.specs.Text.{refusalText, printed}
+use Rattle.rules.specs.Listing.{fieldsText}
+use Rattle.rules.specs.Trace.{traced}
+use Rattle.rules.specs.declared.Spot.{Spot}
 use Rattle.laws.specs.Answers.{refuses, numberOf}
 use Rattle.laws.specs.Beside.{standOf, placeOf}
 use Rattle.laws.specs.Claims.{ForeignBlock}
@@ -56,7 +59,9 @@ use Rattle.desk.specs.declared.Outcome.the-variants as outcome
 use Rattle.desk.specs.Feeding.{wanted, outcomeSaid, Laid, Lent, laidOf, emptyDesk, stops, deskGround, feedOf}
 use Rattle.prints.specs.Printed.{nextField}
 use Rattle.intake.specs.declared.Intake.{Intake}
-use Rattle.intake.specs.Turns.{Recorded, Unread}
+use Rattle.intake.specs.Turns.{Round, Recorded, Unread}
+use Rattle.walk.specs.Walks.{Shows, lastOf}
+use Rattle.traced.specs.Recorded.{Recorded as Traced}
 use Rattle.demands.specs.Calls.{SampleCall, BlockCall, ShownCall, TotalsCall, ClosingCall}
 use Rattle.demands.specs.Calls.{FiguresCall, ReadCall, AllCall, FeedCall, CloseCall, RefuseCall, VerdictCall, RecordSheetCall}
 use Rattle.demands.specs.Runs.{SampleOn, BlockOn, ShownOn, TotalsOn, ClosingOn, FiguresOn, ReadOn, AllOn}
@@ -230,6 +235,16 @@ pub record FromC : Type 0 where
   pub sheet-from-c-fits : (c : RecordSheetCall) → mostSheet ≤ length (now (c .args .1 .0))
       → c .answer ≡ pos (length (printed (sheetOf (now (c .args .0)))))
 
+-- the desk's programs: on memory that is long enough, the trace written is what the rules give for the bytes that came; and so is the field list, of which
+-- the lines of each turn go out behind those before it, and a last line behind them all
+pub record DeskPrints (lent : Lent) : Type 0 where
+  pub trace-record-prints : {most : ℕ} {r : Intake} {buffer room : List ℕ} {l : List ℤ} {m after : List ℕ}
+      (c : Traced (laidOf emptyDesk (lent .room₀) (lent .l₀) (lent .m₀)) most r buffer room l m after)
+      → r .failed ≡ false → take (r .printed) after ≡ traced (c .walked .shows .stood .bytes)
+  pub fields-print : {most : ℕ} {text : List ℕ} {p : Round} {spot : Spot}
+      (s : Shows (laidOf emptyDesk (lent .room₀) (lent .l₀) (lent .m₀)) most text p spot)
+      → text ++ lastOf (p .turn) spot (p .buffer) ≡ fieldsText (s .stood .bytes)
+
 -- ---- together
 
 pub record Demand2 : Type 0 where
@@ -246,6 +261,7 @@ pub record Demand2 : Type 0 where
   pub prints : (lent : Lent) {w rest : List ℕ} {x : Laid} → FedIn lent w x rest → Prints w rest x
   pub before-all : (x : Laid) → (deskGround x ≡ 0 → ⊥) → BeforeAll x
   pub program : (lent : Lent) → ProgramPrints lent
+  pub desk : (lent : Lent) → DeskPrints lent
   pub from-c : FromC
   -- document 02, L11: what must not be answered a maker, of either method
   pub not-claimed : (y : Method) → NotClaimed y

@@ -6,11 +6,12 @@ use mathlib.Core.List.{List, [], _∷_, _++_}
 use mathlib.Core.Path.{_≡_}
 use Prim.Native.Nat.{ℕ, zero, suc}
 use lib.Dec.{eqb}
+use Rattle.rules.specs.Words.{spell}
 use Rattle.rules.specs.declared.Closing.{Closing}
 use Rattle.rules.specs.declared.ClosingAnswer.the-variants.{Closed}
 use Rattle.rules.specs.Record.{Told, told, sheetOf}
 use Rattle.rules.specs.Figures.{planTold, figuresTold}
-use Rattle.rules.specs.Text.{digits, spaced, weightedWord, rangeWord}
+use Rattle.rules.specs.Text.{digits, spaced}
 use Rattle.laws.specs.Near.{NearRun}
 
 -- ---- the lines of a text: 10 is the newline
@@ -30,8 +31,8 @@ behindLines (suc k) t = behindLine (behindLines k t)
 
 -- the seventh line of the text t is `weighted W`, and the eighth `range R`
 pub record Shows (t : List ℕ) (W R : ℕ) : Type 0 where
-  pub weighted : firstLine (behindLines 6 t) ≡ spaced weightedWord ++ digits W
-  pub range : firstLine (behindLines 7 t) ≡ spaced rangeWord ++ digits R
+  pub weighted : firstLine (behindLines 6 t) ≡ spaced (spell "weighted") ++ digits W
+  pub range : firstLine (behindLines 7 t) ≡ spaced (spell "range") ++ digits R
 
 -- ---- the record w, of which the text t is printed
 

@@ -162,18 +162,20 @@ module _ (room : List ℕ) (l : List ℤ) (m : List ℕ) (long : mostBytes ≤ l
           })
           ∙ (λ j. record { laid = laidAfter begin (sym all-is j); used = more .used; outcome = endSaid tt (sym all-is j .end) })
 
+      -- what is left, whatever became of it
+      pub left-is : drop (worked (w ++ new) .used) (w ++ new) ≡ drop (feedOf x (rest ++ new) .used) (rest ++ new)
+      left-is =
+          ap (λ (y : Ran Stage). drop (y .used) (w ++ new)) all-is
+          ∙ sym (drop-drop (more .used) (worked w .used) (w ++ new))
+          ∙ ap (drop (more .used)) (drop-append-le (worked w .used) w new (used-most tags takeOn first w) ∙ ap (λ (r : List ℕ). r ++ new) (h .bytes))
+          ∙ ap (λ (y : Consumed). drop (y .used) (rest ++ new)) (sym fed-is)
+
       pub arrived-more : feedOf x (rest ++ new) .outcome ≡ wanted → Arrived (w ++ new) (feedOf x (rest ++ new) .laid) (drop (feedOf x (rest ++ new) .used) (rest ++ new))
-      arrived-more e =
-          let used-is = ap (λ (y : Consumed). y .used) fed-is in
-          record {
-            laid = ap (λ (y : Consumed). y .laid) (sym fed-is);
-            bytes =
-                ap (λ (y : Ran Stage). drop (y .used) (w ++ new)) all-is
-                ∙ sym (drop-drop (more .used) (worked w .used) (w ++ new))
-                ∙ ap (drop (more .used)) (drop-append-le (worked w .used) w new (used-most tags takeOn first w) ∙ ap (λ (r : List ℕ). r ++ new) (h .bytes))
-                ∙ ap (λ (n : ℕ). drop n (rest ++ new)) (sym used-is);
-            waits = only-waiting tt (worked (w ++ new) .end) (ap (λ (y : Consumed). y .outcome) (sym fed-is) ∙ e);
-          }
+      arrived-more e = record {
+        laid = ap (λ (y : Consumed). y .laid) (sym fed-is);
+        bytes = left-is;
+        waits = only-waiting tt (worked (w ++ new) .end) (ap (λ (y : Consumed). y .outcome) (sym fed-is) ∙ e);
+      }
 
   -- ---- beside the lists
   module _ (enough : Long l m) where

@@ -8,10 +8,9 @@ use native.Mathlib.Numerals.{add-one}
 use native.Mathlib.Omega.{arith}
 use lib.ListN.{length, getD, set, drop}
 use lib.Seq.{paste, paste-suc, drop-paste, getD-drop}
-use Rattle.laws.specs.Answers.{Said}
-use Rattle.desk.specs.Feeding.{wanted, Consumed}
-use Rattle.intake.specs.declared.Turned.the-variants.{On}
-use Rattle.intake.specs.Turns.{roundAfter}
+use Rattle.desk.specs.Feeding.{Consumed}
+use Rattle.intake.specs.declared.Turned.{Turned}
+use Rattle.intake.specs.Turns.{turnedBy, roundAfter}
 
 -- the bytes from place `from` on are copied to the front, k of them so far: the next one is still as it was
 pub moved : (d : List ℕ) (from k : ℕ) → k ≤ length d → k ≤ length (drop from d) → getD (paste d 0 (drop from d) k) (from + k) 0 ≡ getD (drop from d) k 0
@@ -33,18 +32,10 @@ moved-more d from k h g =
     ∙ paste-suc d 0 (drop from d) k 0 (omega arith) g
     ∙ ap (paste d 0 (drop from d)) (sym (add-one k))
 
--- ---- the desk took what y says, which is z
-module _ {y z : Consumed} (e : y ≡ z) (upto left : ℕ) (buffer : List ℕ) where
-  -- by what became of it: with a refusal nothing is held, and nothing moves
-  pub fed-turn : (o : Said (Unit {0})) → y .outcome ≡ o → roundAfter (record { laid = y .laid; used = y .used; outcome = o }) upto left buffer ≡ roundAfter z upto left buffer
-  fed-turn o p =
-      ap (λ (o : Said (Unit {0})). roundAfter (record { laid = y .laid; used = y .used; outcome = o }) upto left buffer) (sym p)
-      ∙ ap (λ (x : Consumed). roundAfter x upto left buffer) e
-
-  -- else the rest is held, at the front
-  pub more-turn : {h : ℕ} {b : List ℕ} → y .outcome ≡ wanted → h ≡ upto - y .used → b ≡ paste buffer 0 (drop (y .used) buffer) (upto - y .used)
-      → record { turn = record { turned = On; desk = y .laid .desk; held = h; left = left }; buffer = b; room = y .laid .room; memory = y .laid .memory }
-      ≡ roundAfter z upto left buffer
-  more-turn p q r =
-      (λ i. record { turn = record { turned = On; desk = y .laid .desk; held = q i; left = left }; buffer = r i; room = y .laid .room; memory = y .laid .memory })
-      ∙ fed-turn wanted p
+-- the desk took what y says, which is z
+pub fed-turn : {y z : Consumed} (e : y ≡ z) {t : Turned} → t ≡ turnedBy (y .outcome) → (upto left : ℕ) (buffer : List ℕ)
+    → record { turn = record { turned = t; desk = y .laid .desk; used = y .used; held = upto - y .used; left = left }; buffer = buffer; room = y .laid .room; memory = y .laid .memory }
+    ≡ roundAfter z upto left buffer
+fed-turn {y = y} e p upto left buffer =
+    (λ i. record { turn = record { turned = p i; desk = y .laid .desk; used = y .used; held = upto - y .used; left = left }; buffer = buffer; room = y .laid .room; memory = y .laid .memory })
+    ∙ ap (λ (x : Consumed). roundAfter x upto left buffer) e

@@ -4,14 +4,16 @@
 use mathlib.Core.Bool.{Bool, true, false, cond}
 use mathlib.Core.Path.{_≡_}
 use mathlib.Core.List.{List, [], _++_}
-use Prim.Native.Nat.{ℕ, _+_, _-_, _<_}
+use Prim.Native.Nat.{ℕ, _+_, _-_, _≤_, _<_}
 use lib.Dec.{leb}
 use lib.IntN.{ℤ}
 use lib.ListN.{length, take, drop}
-use lib.Seq.{paste}
 use Rattle.rules.specs.Words.{unless}
+use Rattle.rules.specs.Table.{tags}
+use Rattle.rules.specs.Machine.{run}
 use Rattle.laws.specs.Answers.{Said, gives, refuses}
 use Rattle.state.specs.State.{Memory, lent}
+use Rattle.records.specs.Stage.{Stage, takeOn}
 use Rattle.sheet.specs.Overlaid.{overlaid, mostSheet}
 use Rattle.prints.specs.Printed.{refuseText, closeText}
 use Rattle.edges.specs.declared.Got.{Got}
@@ -44,9 +46,12 @@ stoppedBy got.End = Ended
 stoppedBy got.Again = Failed
 stoppedBy got.Failed = Failed
 
--- with n bytes left to read before: what is held is not as long as the longest field, and a turn that goes on leaves fewer bytes to read
-pub record Goes (n : ℕ) (t : Turn) : Type 0 where
-  pub held : t .held < longest
+-- with so many bytes held and n left to read before, in a buffer of so many: what is taken and held stands in the buffer, and no byte is lost; and where
+-- the turn goes on, what is held is not as long as the longest field, and fewer bytes are left to read
+pub record Goes (held n size : ℕ) (t : Turn) : Type 0 where
+  pub within : t .used + t .held ≤ size
+  pub none-lost : t .used + t .held + t .left ≡ held + n
+  pub short : isOn (t .turned) ≡ true → t .held < longest
   pub falls : isOn (t .turned) ≡ true → t .left < n
 
 -- ---- the bytes of a record, as they come
@@ -78,24 +83,16 @@ roundOf t buffer room l m = record { turn = t; buffer = buffer; room = room; mem
 abbrev pub laidAt : Round → Laid
 laidAt p = record { desk = p .turn .desk; room = p .room; memory = p .memory }
 
--- a turn in which the desk took what y says of the first upto bytes of the buffer: what became of it, how many bytes are held, and the buffer: what the
--- desk did not take, an unfinished field, moves to the front
+-- a turn in which the desk took what y says of the first upto bytes of the buffer: what became of it, how many bytes are taken, and how many are held
+-- behind them: what the desk did not take
 abbrev pub turnedBy : Said (Unit {0}) → Turned
 turnedBy (gives _) = On
 turnedBy (refuses k) = Refused k
 
-abbrev pub heldBy : Said (Unit {0}) → ℕ → ℕ → ℕ
-heldBy (gives _) used upto = upto - used
-heldBy (refuses k) used upto = 0
-
-abbrev pub bufferBy : Said (Unit {0}) → ℕ → ℕ → List ℕ → List ℕ
-bufferBy (gives _) used upto buffer = paste buffer 0 (drop used buffer) (upto - used)
-bufferBy (refuses k) used upto buffer = buffer
-
 abbrev pub roundAfter : Consumed → ℕ → ℕ → List ℕ → Round
 roundAfter y upto left buffer = record {
-  turn = record { turned = turnedBy (y .outcome); desk = y .laid .desk; held = heldBy (y .outcome) (y .used) upto; left = left };
-  buffer = bufferBy (y .outcome) (y .used) upto buffer;
+  turn = record { turned = turnedBy (y .outcome); desk = y .laid .desk; used = y .used; held = upto - y .used; left = left };
+  buffer = buffer;
   room = y .laid .room;
   memory = y .laid .memory;
 }
@@ -107,7 +104,7 @@ roundFed x upto left buffer = roundAfter (feedOf x (take upto buffer)) upto left
 -- nothing came
 abbrev pub stoppedAt : Got → Laid → ℕ → ℕ → List ℕ → Round
 stoppedAt g x held left buffer =
-    record { turn = record { turned = stoppedBy g; desk = x .desk; held = held; left = left }; buffer = buffer; room = x .room; memory = x .memory }
+    record { turn = record { turned = stoppedBy g; desk = x .desk; used = 0; held = held; left = left }; buffer = buffer; room = x .room; memory = x .memory }
 
 -- what a reading makes of a turn, with so many bytes held and left: the bytes that came go to the desk with those held; without bytes the turn stops
 abbrev pub roundBy : Got → Laid → ℕ → ℕ → List ℕ → Round
@@ -117,20 +114,32 @@ roundBy got.Again x held left buffer = stoppedAt got.Again x held left buffer
 roundBy got.Failed x held left buffer = stoppedAt got.Failed x held left buffer
 
 -- before a turn
-abbrev pub goingOn : Desk → ℕ → ℕ → Turn
-goingOn desk held left = record { turned = On; desk = desk; held = held; left = left }
+abbrev pub goingOn : Desk → ℕ → ℕ → ℕ → Turn
+goingOn desk used held left = record { turned = On; desk = desk; used = used; held = held; left = left }
 
--- so a record of at most so many bytes stands there: the rest of the bytes that came is held at the front of the buffer
+-- so a record of at most so many bytes stands there: of the bytes that came the desk has taken those done, and the rest is held behind those taken last
 pub record Stood (x₀ : Laid) (most : ℕ) (p : Round) : Type 0 where
   pub bytes : List ℕ
+  pub done : List ℕ
   pub rest : List ℕ
   pub came : Came x₀ bytes (laidAt p) rest (turnedSaid (p .turn .turned))
-  pub held : turnedSaid (p .turn .turned) ≡ wanted → (rest ≡ take (p .turn .held) (p .buffer)) × (length rest ≡ p .turn .held)
+  pub whole : bytes ≡ done ++ rest
+  pub held : (rest ≡ take (p .turn .held) (drop (p .turn .used) (p .buffer))) × (length rest ≡ p .turn .held)
   pub all : length bytes + p .turn .left ≡ most
 
--- a turn leads from round to round: whatever record stood here stands there
+-- the bytes are whole fields, which the machine takes from some state
+pub record WholeFields (p : List ℕ) : Type 0 where
+  pub from : Stage
+  pub used : run tags takeOn from p .used ≡ length p
+
+-- a turn leads from round to round: whatever record stood here stands there, and the bytes taken, whole fields, are at the front of the buffer
+pub record Led {x₀ : Laid} {most : ℕ} {p : Round} (s : Stood x₀ most p) (q : Round) : Type 0 where
+  pub stood : Stood x₀ most q
+  pub more : stood .done ≡ s .done ++ take (q .turn .used) (q .buffer)
+  pub fields : WholeFields (take (q .turn .used) (q .buffer))
+
 abbrev pub Leads : Round → Round → Type 0
-Leads p q = (x₀ : Laid) (most : ℕ) → Stood x₀ most p → Stood x₀ most q
+Leads p q = (x₀ : Laid) (most : ℕ) → (s : Stood x₀ most p) → Led s q
 
 -- ---- a whole record
 

@@ -1,16 +1,17 @@
 // A record from standard input, through the field buffer, to what is printed of it.
 mod parts;
+pub mod turns;
 
 use desk::Desk;
 use desk::empty;
 use edges::Got;
 use edges::fill;
 use parts::at_most;
-use parts::has_failed;
 use parts::read_through;
 use prints::close;
 use prints::refuse;
 use rules::limits::MOST_BYTES;
+use turns::has_failed;
 ghost use mathlib.Core.Path.{_≡_};
 ghost use Prim.Native.Nat.{_≤_, _<_};
 ghost use lib.ListN.{length};
@@ -29,10 +30,11 @@ pub enum Turned {
     Refused(u32),
 }
 
-// The desk, how many bytes of an unfinished field stand at the front of the buffer, and how many bytes of the record are still to be read.
+// The desk, how many bytes at the front of the buffer it took last, how many behind them it left, and how many bytes of the record are still to be read.
 pub struct Turn {
     pub turned: Turned,
     pub desk: Desk,
+    pub used: usize,
     pub held: usize,
     pub left: u64,
 }

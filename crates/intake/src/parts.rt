@@ -1,6 +1,8 @@
 // A record in parts: what one reading gives goes to the desk with what was left over before it, and the rest waits at the front of the buffer for more.
 use crate::Turn;
 use crate::Turned;
+use crate::turns::goes_on;
+use crate::turns::read_once;
 use desk::Desk;
 use desk::Outcome;
 use desk::empty;
@@ -8,12 +10,12 @@ use desk::feed_on;
 use edges::Got;
 use edges::fill;
 ghost use mathlib.Core.Path.{_≡_};
-ghost use Prim.Native.Nat.{_-_, _≤_, _<_, min};
+ghost use Prim.Native.Nat.{_+_, _-_, _≤_, _<_, min};
 ghost use lib.ListN.{length, drop};
 ghost use lib.Seq.{paste};
-ghost use Rattle.desk.specs.Feeding.{laidOf, emptyDesk, longest, Steady};
+ghost use Rattle.desk.specs.Feeding.{outcomeSaid, laidOf, emptyDesk, longest, Steady};
 ghost use Rattle.edges.specs.Answers.{Within};
-ghost use Rattle.intake.specs.Turns.{isOn, isFailed, stoppedBy, roundOf, roundFed, roundBy, Goes, goingOn, Stood, Leads};
+ghost use Rattle.intake.specs.Turns.{stoppedBy, turnedBy, roundOf, roundFed, roundBy, Goes, goingOn, Stood, Leads};
 
 // The smaller of the two.
 pub fn at_most(space: usize, left: u64) -> usize
@@ -26,7 +28,7 @@ pub fn at_most(space: usize, left: u64) -> usize
 }
 
 // The bytes from place `from` up to place `upto` move to the front: how many they are.
-fn to_front(buffer: &mut [u8], from: usize, upto: usize) -> usize
+pub fn to_front(buffer: &mut [u8], from: usize, upto: usize) -> usize
     requires { ⌜ (from ≤ upto) × (upto ≤ length (now buffer)) ⌝ }
     ensures { λ r. ⌜ r ≡ upto - from ⌝ }
     ensures { λ _. ⌜ now (buffer .exit) ≡ paste (now (buffer .entry)) 0 (drop from (now (buffer .entry))) (upto - from) ⌝ }
@@ -40,10 +42,20 @@ fn to_front(buffer: &mut [u8], from: usize, upto: usize) -> usize
     n
 }
 
-// The whole fields of the first `upto` bytes go to the desk, as the last turn left it; the rest moves to the front.
+// What became of the bytes that went to the desk.
+fn turned_by(outcome: Outcome) -> Turned
+    ensures { λ r. ⌜ r ≡ turnedBy (outcomeSaid outcome) ⌝ }
+{
+    match outcome {
+        Outcome::More => Turned::On,
+        Outcome::Refused(number) => Turned::Refused(number),
+    }
+}
+
+// The whole fields of the first `upto` bytes go to the desk, as the last turn left it; the rest is held behind them.
 fn digest(
     desk: Desk,
-    buffer: &mut [u8],
+    buffer: &[u8],
     upto: usize,
     left: u64,
     room: &mut [u8],
@@ -52,7 +64,7 @@ fn digest(
 ) -> Turn
     requires { ⌜ (upto ≤ length (now buffer)) × Steady (laidOf desk (now room) (now ledger) (now map)) ⌝ }
     ensures { λ r. ⌜
-        roundOf r (now (buffer .exit)) (now (room .exit)) (now (ledger .exit)) (now (map .exit))
+        roundOf r (now (buffer .entry)) (now (room .exit)) (now (ledger .exit)) (now (map .exit))
         ≡ roundFed (laidOf desk (now (room .entry)) (now (ledger .entry)) (now (map .entry))) upto left (now (buffer .entry))
         ⌝ }
 {
@@ -60,19 +72,12 @@ fn digest(
     let on = x.desk;
     let used = x.used;
     let outcome = x.outcome;
-    match outcome {
-        Outcome::Refused(number) => Turn {
-            turned: Turned::Refused(number),
-            desk: on,
-            held: 0,
-            left,
-        },
-        Outcome::More => Turn {
-            turned: Turned::On,
-            desk: on,
-            held: to_front(&mut *buffer, used, upto),
-            left,
-        },
+    Turn {
+        turned: turned_by(outcome),
+        desk: on,
+        used,
+        held: upto - used,
+        left,
     }
 }
 
@@ -94,7 +99,7 @@ fn turn_by(
     desk: Desk,
     held: usize,
     left: u64,
-    buffer: &mut [u8],
+    buffer: &[u8],
     room: &mut [u8],
     ledger: &mut [i64],
     map: &mut [u64],
@@ -103,7 +108,7 @@ fn turn_by(
         (held ≤ length (now buffer)) × Within (length (now buffer) - held) got × Within left got × Steady (laidOf desk (now room) (now ledger) (now map))
         ⌝ }
     ensures { λ r. ⌜
-        roundOf r (now (buffer .exit)) (now (room .exit)) (now (ledger .exit)) (now (map .exit))
+        roundOf r (now (buffer .entry)) (now (room .exit)) (now (ledger .exit)) (now (map .exit))
         ≡ roundBy got (laidOf desk (now (room .entry)) (now (ledger .entry)) (now (map .entry))) held left (now (buffer .entry))
         ⌝ }
 {
@@ -111,13 +116,14 @@ fn turn_by(
         return Turn {
             turned: stopped_by(got),
             desk,
+            used: 0,
             held,
             left,
         };
     };
     digest(
         desk,
-        &mut *buffer,
+        buffer,
         held + n,
         left - n as u64,
         &mut *room,
@@ -126,8 +132,8 @@ fn turn_by(
     )
 }
 
-// Reads once behind the bytes held, as far as the buffer and the record go.
-fn read_once(
+// Reads once behind the bytes held at the front, as far as the buffer and the record go.
+pub fn read_behind(
     desk: Desk,
     held: usize,
     left: u64,
@@ -137,9 +143,9 @@ fn read_once(
     map: &mut [u64],
 ) -> Turn
     requires { ⌜ (held < longest) × (longest ≤ length (now buffer)) × (1 ≤ left) × Steady (laidOf desk (now room) (now ledger) (now map)) ⌝ }
-    ensures { λ r. ⌜ Goes left r ⌝ }
+    ensures { λ r. ⌜ Goes held left (length (now (buffer .entry))) r ⌝ }
     ensures { λ r. ⌜
-        Leads (roundOf (goingOn desk held left) (now (buffer .entry)) (now (room .entry)) (now (ledger .entry)) (now (map .entry)))
+        Leads (roundOf (goingOn desk 0 held left) (now (buffer .entry)) (now (room .entry)) (now (ledger .entry)) (now (map .entry)))
         (roundOf r (now (buffer .exit)) (now (room .exit)) (now (ledger .exit)) (now (map .exit)))
         ⌝ }
 {
@@ -151,35 +157,11 @@ fn read_once(
         desk,
         held,
         left,
-        &mut *buffer,
+        &buffer[..],
         &mut *room,
         &mut *ledger,
         &mut *map,
     )
-}
-
-// Whether another turn follows.
-fn goes_on(turned: Turned) -> bool
-    ensures { λ r. ⌜ r ≡ isOn turned ⌝ }
-{
-    match turned {
-        Turned::On => true,
-        Turned::Ended => false,
-        Turned::Failed => false,
-        Turned::Refused(_) => false,
-    }
-}
-
-// Whether reading failed.
-pub fn has_failed(turned: Turned) -> bool
-    ensures { λ r. ⌜ r ≡ isFailed turned ⌝ }
-{
-    match turned {
-        Turned::On => false,
-        Turned::Ended => false,
-        Turned::Failed => true,
-        Turned::Refused(_) => false,
-    }
 }
 
 // Turn after turn, to the end of a record of at most so many bytes.
@@ -197,11 +179,13 @@ pub fn read_through(
         ⌝ }
 {
     let mut desk = empty();
+    let mut used = 0;
     let mut held = 0;
     let mut left = most;
     while left > 0 {
         let t = read_once(
             desk,
+            used,
             held,
             left,
             &mut *buffer,
@@ -214,12 +198,14 @@ pub fn read_through(
             return t;
         }
         desk = t.desk;
+        used = t.used;
         held = t.held;
         left = t.left;
     }
     Turn {
         turned: Turned::Ended,
         desk,
+        used,
         held,
         left: 0,
     }

@@ -17,6 +17,7 @@ pub mod Shortened
 pub mod Watch
 pub mod ShortenedRun
 pub mod Plans
+pub mod Begun
 pub mod Limit
 pub mod Weighing
 pub mod Closeness
@@ -27,6 +28,7 @@ pub mod Same
 pub mod Closes
 pub mod RunNear
 pub mod Ended
+pub mod Traces
 pub mod NineNumbers
 pub mod Samples
 pub mod Tags
@@ -35,6 +37,7 @@ pub mod Fronts
 pub mod Moves
 pub mod Cuts
 pub mod Prefixes
+pub mod Alongside
 pub mod Related
 pub mod Carried
 pub mod Contents

@@ -148,6 +148,15 @@ module _ (b : List ℕ) (m : ℕ) where
   joined j (in-M e g k) h = let n : 2 * positions b ≤ j = rw e at h in ap (rowOf b) (stand-M j n (omega arith) ∙ sym e)
   joined j (in-E e g) h = let n : joint b m 4 ≤ j = rw e at h in ap (rowOf b) (stand-E j n ∙ sym e)
 
+  -- behind the fourth there is no cycle
+  pub no-such-cycle : (c j : ℕ) → 4 ≤ c → c < mostCycles → shortenedLayout b m .row j ≡ c → ⊥
+  no-such-cycle c j g h e = go (stands j)
+    where
+      go : Stands j → ⊥
+      go (rides i q r p z) = let f : cycleOf b i ≡ c = rw q at e in omega arith
+      go (in-M q r p) = let f : rowM ≡ c = rw q at e in omega arith
+      go (in-E q r) = let f : rowE ≡ c = rw q at e in omega arith
+
   pub shortened-phase-ends : (c k : ℕ) → Ends (phasePart (shortenedLayout b m) c k)
   shortened-phase-ends = phase-ends-by (shortenedLayout b m) (λ j. phase-open j (stands j))
 
@@ -167,7 +176,7 @@ module _ (b : List ℕ) (m : ℕ) (o : Sound b) where
   pub shortened-places : (c k : ℕ) → c < mostCycles → rowPlaces (shortenedLayout b m) c k ≤ mostPositions
   shortened-places c k h =
       ⊎-elim ridden
-      (λ (g : 4 < suc c). places (rowPart (shortenedLayout b m) c .of) 0 mostPositions k (λ j q t. absurd (none j (omega arith) (eqb→eq _ _ t) (stands b m j))))
+      (λ (g : 4 < suc c). places (rowPart (shortenedLayout b m) c .of) 0 mostPositions k (λ j q t. absurd (no-such-cycle b m c j (omega arith) h (eqb→eq _ _ t))))
       (side (suc c) 4)
     where
       ridden : c < 4 → rowPlaces (shortenedLayout b m) c k ≤ mostPositions
@@ -175,11 +184,6 @@ module _ (b : List ℕ) (m : ℕ) (o : Sound b) where
           let e : endOf b m c ≡ after (shift b m c + suc c * positions b) = rw (lt-ltb c 4 g) in
           let f : beginOf b m c ≡ shift b m c + c * positions b = rw (lt-ltb c 4 g) in
           omega (arith, places-row shortened-orderly c (shift b m c + suc c * positions b) k e, o .short)
-
-      none : (j : ℕ) → 4 ≤ c → shortenedLayout b m .row j ≡ c → Stands b m j → ⊥
-      none j g e (rides i q r p z) = let f : cycleOf b i ≡ c = rw q at e in omega arith
-      none j g e (in-M q r p) = let f : rowM ≡ c = rw q at e in omega arith
-      none j g e (in-E q r) = let f : rowE ≡ c = rw q at e in omega arith
 
 -- ---- the stop in E
 

@@ -18,7 +18,7 @@ use Rattle.numbers.proofs.Tests.{both, all-at, all-by}
 use Rattle.numbers.proofs.Whole.{weaken, sized-between, sized-upto}
 use Rattle.rules.specs.Shown.{inBounds, mostEnergy, mostDistance, mostOutside, ledgerNumbers}
 use Rattle.rules.specs.Bench.{mostPhases, mostCycles}
-use Rattle.ledger.specs.Row.{at, bounded, sumBy, energyIn, energyFrom, energyAll}
+use Rattle.ledger.specs.Row.{at, bounded, sumBy, energyIn, distanceIn, energyFrom, energyAll}
 
 -- by its place among the nine
 pub bounds-energy : (i : ℕ) (z : ℤ) → i % 9 < 4 → inBounds i z ≡ between (negℤ (pos mostEnergy)) (pos mostEnergy) z
@@ -67,6 +67,14 @@ module _ (l : List ℤ) (b : bounded l ≡ true) where
   module _ (c : ℕ) (h : c < mostCycles) where
     pub energy-sized : Sized (mostPhases * mostEnergy) (energyIn l c)
     energy-sized = sized-sum mostEnergy (λ k. at l (9 * c + k)) mostPhases (λ k g. bounded-sized (9 * c + k) (omega arith))
+
+    pub distance-sized : Sized (mostPhases * mostDistance) (distanceIn l c)
+    distance-sized =
+        sized-sum mostDistance (λ k. at l (9 * c + 4 + k)) mostPhases
+        (λ k g.
+        let i = 9 * c + 4 + k in
+        let place : i % 9 ≡ 4 + k = omega arith in
+        sized-upto mostDistance (at l i) (sym (bounds-distance i (at l i) (omega arith) (omega arith)) ∙ bounded-at i (omega arith)))
 
   -- and of all cycles
   pub energy-all-sized : Sized (mostCycles * (mostPhases * mostEnergy)) (energyAll l)

@@ -55,7 +55,7 @@ fn keep(room: &mut [u8], v: &[u8])
 }
 
 // The 17 characters of a vehicle number.
-fn characters_of(v: &[u8]) -> [u8; 17]
+pub fn characters_of(v: &[u8]) -> [u8; 17]
     requires { ⌜ length (now v) ≡ 17 ⌝ }
     ensures { λ r. ⌜ r ≡ now (v .entry) ⌝ }
 {

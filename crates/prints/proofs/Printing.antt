@@ -16,9 +16,9 @@ use Rattle.rules.specs.Figures.{figuresBy, figuresTold}
 use Rattle.rules.specs.Plan.{plan}
 use Rattle.rules.specs.Table.{behindTolerances, tags}
 use Rattle.rules.specs.Machine.{End, waiting, broken, stopped, Ran, run}
-use Rattle.rules.specs.Record.{Told, takeField, untold, told, refusedAt, sheetBy, sheetOf}
+use Rattle.rules.specs.Record.{Told, takeField, untold, Sheet, told, refusedAt, sheetBy, sheetOf}
 use Rattle.rules.specs.Text.{sheetText, refusalText, printed}
-use Rattle.laws.specs.Answers.{refuses, endSaid}
+use Rattle.laws.specs.Answers.{Said, gives, refuses, endSaid}
 use Rattle.laws.proofs.Places.{early-or-late}
 use Rattle.laws.proofs.Sheets.{refusal-stays-refused}
 use Rattle.records.specs.Stage.{Stage, planOn}
@@ -35,8 +35,19 @@ use Rattle.prints.specs.Printed.{nextField, refuseText, textBy, closeTex
 use Rattle.prints.proofs.Texts.{by-end}
 
 -- the number of the next field, of which there are not too many
-next : (n : ℕ) → n ≤ mostFields → nextField n ≡ suc n
+pub next : (n : ℕ) → n ≤ mostFields → nextField n ≡ suc n
 next n h = rw (lt-ltb n 18_446_744_073_709_551_615 (omega arith)) (add-one n)
+
+-- where the input ends: what is told, or the number of the refusal with that of its field
+abbrev pub sheetEnd : Said (Unit {0}) → Told → ℕ → Sheet
+sheetEnd (gives _) t fields = told t
+sheetEnd (refuses n) t fields = refusedAt n (suc fields)
+
+ends-by : (b c : Bool) (t : Told) (k : ℕ) → unless (refusedAt 15 (suc k)) b (unless (refusedAt 15 (suc k)) c (told t)) ≡ sheetEnd (unless (refuses 15) b (unless (refuses 15) c mayEnd)) t k
+unfolding unless
+ends-by true true t k = refl
+ends-by true false t k = refl
+ends-by false c t k = refl
 
 module _ (lent : Lent) where
   abbrev room : List ℕ
@@ -51,7 +62,7 @@ module _ (lent : Lent) where
   abbrev long : mostBytes ≤ length room
   long = lent .long-room
 
-  enough : Long l m
+  pub enough : Long l m
   enough = record { ledger = lent .long-ledger; map = lent .long-map }
 
   -- what the bytes w tell, and what the machine makes of them
@@ -122,7 +133,26 @@ module _ (lent : Lent) where
         place-passes : behindTolerances ≤ u .place → leb behindTolerances (lists w .state .place) ≡ true
         place-passes e = ap (leb behindTolerances) (holds .place) ∙ le-leb behindTolerances (u .place) e
 
+    -- the run has started where the place is behind the start
+    started-is : leb behindTolerances (lists w .state .place) ≡ laid w .desk .started
+    started-is =
+        ap (leb behindTolerances) (holds .place)
+        ∙ early-or-late (u .place)
+        (λ e. lt-leb behindTolerances (u .place) (omega arith) ∙ ap (λ (x : Laid). x .desk .started) (sym (after-early room l m long w e)))
+        (λ e. le-leb behindTolerances (u .place) e ∙ ap (λ (x : Laid). x .desk .started) (sym (after-late room l m long w e)))
+
   module _ {w rest : List ℕ} {x : Laid} (h : Arrived room l m long w x rest) where
+    -- where the input ends, the record tells all, or its end is refused
+    pub sheet-ends : sheetOf w ≡ sheetEnd (endingOf (x .desk .started) (length rest)) (lists w .state) (x .desk .fields)
+    unfolding endingOf
+    sheet-ends =
+        let left-is : length w - made w .used ≡ length rest = sym (length-drop (made w .used) w) ∙ ap length (h .bytes) in
+        sheet-is w
+        ∙ (λ j. sheetBy (h .waits j) (lists w .state) (sym (after-fields room l m long w) j) (left-is j))
+        ∙ ends-by (leb behindTolerances (lists w .state .place)) (eqb (length rest) 0) (lists w .state) (laid w .desk .fields)
+        ∙ ap (λ (b : Bool). sheetEnd (unless (refuses 15) b (unless (refuses 15) (eqb (length rest) 0) mayEnd)) (lists w .state) (laid w .desk .fields)) (started-is w)
+        ∙ ap (λ (y : Laid). sheetEnd (endingOf (y .desk .started) (length rest)) (lists w .state) (y .desk .fields)) (h .laid)
+
     -- "Every figure equals the rules of document 01": where the input ends, the bytes printed are those that the rules give for the bytes read
     pub report-prints : closeText x (length rest) ≡ printed (sheetOf w)
     report-prints =

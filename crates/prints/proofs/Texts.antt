@@ -20,13 +20,17 @@ use Rattle.prints.specs.Printed.{Prints, refuseText, textBy, closeText}
 pub as-text : (out : List ℕ) {text text′ after : List ℕ} {r : ℕ} → text ≡ text′ → Prints text out r after → Prints text′ out r after
 as-text out {after = after} {r = r} e h = subst (λ (x : List ℕ). Prints x out r after) e h
 
--- the bytes printed are the text, where the lines are at least 512 bytes
+-- the bytes printed are the text, where the lines are at least as long as is asked for: 512 bytes of a sheet
+pub text-at : (n : ℕ) (text out : List ℕ) {r : ℕ} {after : List ℕ} → r ≡ unless 0 (leb n (length out)) (length text) → after ≡ unless out (leb n (length out)) (overlaid out 0 text)
+    → n ≤ length out → take r after ≡ text
+unfolding overlaid
+text-at n text out p q h =
+    let t = le-leb n (length out) h in
+    ap₂ take (p ∙ sym (pass 0 t refl)) (q ∙ sym (pass out t refl)) ∙ take-at text (drop (0 + length text) out) (length text) refl
+
 pub text-is : (text out : List ℕ) {r : ℕ} {after : List ℕ} → r ≡ unless 0 (leb mostSheet (length out)) (length text)
     → after ≡ unless out (leb mostSheet (length out)) (overlaid out 0 text) → mostSheet ≤ length out → take r after ≡ text
-unfolding overlaid
-text-is text out p q h =
-    let t = le-leb mostSheet (length out) h in
-    ap₂ take (p ∙ sym (pass 0 t refl)) (q ∙ sym (pass out t refl)) ∙ take-at text (drop (0 + length text) out) (length text) refl
+text-is = text-at mostSheet
 
 module _ (x : Laid) (left : ℕ) where
   -- 1 and 2 before all else

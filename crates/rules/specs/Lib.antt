@@ -29,6 +29,9 @@ pub mod Record
 -- 'The report program': the figures of a sheet, and its text
 pub mod Figures
 pub mod Text
+-- the desk's programs: the field list, and the trace of a sheet
+pub mod Listing
+pub mod Trace
 -- 'Rows on the test card', and rows of our own: of the definitions above, of short records, of a sheet
 pub mod Rows
 pub mod Card

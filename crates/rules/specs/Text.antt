@@ -5,6 +5,7 @@ use mathlib.Core.List.{List, [], _∷_, _++_}
 use Prim.Native.Nat.{ℕ, zero, suc, _+_, _/_, _%_}
 use lib.Dec.{ltb}
 use lib.IntN.{ℤ, pos, negsuc}
+use Rattle.rules.specs.Words.{spell}
 use Rattle.rules.specs.declared.End.{End}
 use Rattle.rules.specs.declared.End.the-variants.{None as none, Stop as stop, Limit as limit}
 use Rattle.rules.specs.declared.Figure.{Figure}
@@ -35,29 +36,28 @@ signed (negsuc n) = 45 ∷ digits (suc n)
 
 -- ---- lines
 
--- a text and a space
+-- a text and a space; a text and a newline
 abbrev pub spaced : List ℕ → List ℕ
 spaced text = text ++ 32 ∷ []
 
+abbrev pub ended : List ℕ → List ℕ
+ended text = text ++ 10 ∷ []
+
 -- a word, a space, a value, a newline
 unfoldable pub line : List ℕ → List ℕ → List ℕ
-line word value = spaced word ++ (value ++ 10 ∷ [])
+line word value = spaced word ++ ended value
 
--- none, stop, limit
 abbrev pub endWord : End → List ℕ
-endWord none = 110 ∷ 111 ∷ 110 ∷ 101 ∷ []
-endWord stop = 115 ∷ 116 ∷ 111 ∷ 112 ∷ []
-endWord limit = 108 ∷ 105 ∷ 109 ∷ 105 ∷ 116 ∷ []
+endWord none = spell "none"
+endWord stop = spell "stop"
+endWord limit = spell "limit"
 
 -- "`end` none, stop or limit with the number of counted samples"
 unfoldable pub endLine : End → ℕ → List ℕ
-endLine e counted =
-    let end : List ℕ = 101 ∷ 110 ∷ 100 ∷ [] in
-    spaced end ++ line (endWord e) (digits counted)
+endLine e counted = spaced (spell "end") ++ line (endWord e) (digits counted)
 
--- refused
 abbrev pub refusedWord : List ℕ
-refusedWord = 114 ∷ 101 ∷ 102 ∷ 117 ∷ 115 ∷ 101 ∷ 100 ∷ []
+refusedWord = spell "refused"
 
 -- `refused N`, which "ends the list"
 abbrev pub refusedLine : ℕ → List ℕ
@@ -68,43 +68,29 @@ refusedLine n = line refusedWord (digits n)
 -- "`run` vehicle number; `end` ..; `cycles` n"
 unfoldable pub headLines : Figures → List ℕ
 headLines f =
-    let run : List ℕ = 114 ∷ 117 ∷ 110 ∷ [] in
-    let cycles : List ℕ = 99 ∷ 121 ∷ 99 ∷ 108 ∷ 101 ∷ 115 ∷ [] in
-    line run (f .vehicle) ++ endLine (f .end) (f .counted) ++ line cycles (digits (f .cycles))
-
--- outside, passed, drawn
-abbrev pub outsideWord : List ℕ
-outsideWord = 111 ∷ 117 ∷ 116 ∷ 115 ∷ 105 ∷ 100 ∷ 101 ∷ []
-
-abbrev pub passedWord : List ℕ
-passedWord = 112 ∷ 97 ∷ 115 ∷ 115 ∷ 101 ∷ 100 ∷ []
-
-abbrev pub drawnWord : List ℕ
-drawnWord = 100 ∷ 114 ∷ 97 ∷ 119 ∷ 110 ∷ []
+    line (spell "run") (f .vehicle)
+    ++ endLine (f .end) (f .counted)
+    ++ line (spell "cycles") (digits (f .cycles))
 
 -- "`outside` total over all cycles, open one included; `passed` blocks passed over; `drawn` energy of" the closed intervals
 unfoldable pub countLines : Figures → List ℕ
-countLines f = line outsideWord (signed (f .outside)) ++ line passedWord (digits (f .passed)) ++ line drawnWord (signed (f .drawn))
-
--- weighted, range, ac
-abbrev pub weightedWord : List ℕ
-weightedWord = 119 ∷ 101 ∷ 105 ∷ 103 ∷ 104 ∷ 116 ∷ 101 ∷ 100 ∷ []
-
-abbrev pub rangeWord : List ℕ
-rangeWord = 114 ∷ 97 ∷ 110 ∷ 103 ∷ 101 ∷ []
-
-abbrev pub rechargeWord : List ℕ
-rechargeWord = 97 ∷ 99 ∷ []
+countLines f =
+    line (spell "outside") (signed (f .outside))
+    ++ line (spell "passed") (digits (f .passed))
+    ++ line (spell "drawn") (signed (f .drawn))
 
 -- "`ac` figure or `-`"; "a recharge refusal in place of `ac`"
 unfoldable pub rechargeLine : Figure → List ℕ
-rechargeLine (Is n) = line rechargeWord (digits n)
-rechargeLine Absent = line rechargeWord (45 ∷ [])
+rechargeLine (Is n) = line (spell "ac") (digits n)
+rechargeLine Absent = line (spell "ac") (spell "-")
 rechargeLine (figure.Refused n) = refusedLine n
 
 -- "`weighted`; `range`; `ac`"
 unfoldable pub closedLines : Closing → List ℕ
-closedLines x = line weightedWord (digits (x .weighted)) ++ line rangeWord (digits (x .range)) ++ rechargeLine (x .recharge)
+closedLines x =
+    line (spell "weighted") (digits (x .weighted))
+    ++ line (spell "range") (digits (x .range))
+    ++ rechargeLine (x .recharge)
 
 -- "A closing refusal gives `refused N` in place of `weighted`"
 abbrev pub closingLines : ClosingAnswer → List ℕ
@@ -117,9 +103,7 @@ sheetText f = headLines f ++ countLines f ++ closingLines (f .closing)
 
 -- "A refused field gives only `refused N field K`"
 unfoldable pub refusalText : ℕ → ℕ → List ℕ
-refusalText number field =
-    let word : List ℕ = 102 ∷ 105 ∷ 101 ∷ 108 ∷ 100 ∷ [] in
-    spaced refusedWord ++ spaced (digits number) ++ line word (digits field)
+refusalText number field = spaced refusedWord ++ spaced (digits number) ++ line (spell "field") (digits field)
 
 -- what is printed of a record
 abbrev pub printed : Sheet → List ℕ

@@ -1,8 +1,10 @@
--- Words that the rules are said in: a fold over the numbers below n, tests, chains of refusals, numbers of several bytes, integers.
+-- Words that the rules are said in: a fold over the numbers below n, tests, chains of refusals, numbers of several bytes, letters, integers.
 -- Assumes nothing.
 use mathlib.Core.Bool.{Bool, true, false, cond, _&&_}
 use mathlib.Core.List.{List, [], _∷_}
 use Prim.Native.Nat.{ℕ, zero, suc, _+_, _-_, _*_, min, max}
+use Prim.Native.Char.{code}
+use Prim.Native.String.{String, len, charAt}
 use lib.Dec.{eqb}
 use lib.IntN.{ℤ, pos, negsuc, _+ℤ_}
 use lib.ListN.{getD}
@@ -84,6 +86,16 @@ be (suc n) b i = 256 * be n b i + getD b (i + n) 0
 -- both begin with the same n bytes
 abbrev pub sameBytes : ℕ → List ℕ → List ℕ → Bool
 sameBytes n u v = allBelow n (λ k. eqb (getD u k 0) (getD v k 0))
+
+-- ---- letters
+
+-- the bytes of a text, one for each of its letters: n of them from letter i on, and all
+abbrev pub letters : ℕ → ℕ → String → List ℕ
+letters zero i text = []
+letters (suc n) i text = code (charAt text i) ∷ letters n (suc i) text
+
+abbrev pub spell : String → List ℕ
+spell text = letters (len text) 0 text
 
 -- ---- integers
 

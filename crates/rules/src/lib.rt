@@ -84,3 +84,19 @@ pub struct Figures {
     pub drawn: i64,
     pub closing: ClosingAnswer,
 }
+
+// Where the field list stands: how many fields it has, the byte behind them, the record's vehicle, and how many own blocks are among the fields.
+pub struct Spot {
+    pub fields: u64,
+    pub offset: u64,
+    pub vehicle: [u8; 17],
+    pub blocks: u64,
+}
+
+// What a phase, a cycle or a stretch has of the intervals closed: energy and distance, whether it has one at all, and whether it is finished.
+pub struct Gathered {
+    pub energy: i64,
+    pub distance: i64,
+    pub begun: bool,
+    pub finished: bool,
+}

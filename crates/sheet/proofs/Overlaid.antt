@@ -66,6 +66,12 @@ module _ {out o₁ : List ℕ} {at r₁ : ℕ} {a : List ℕ} where
   pub wrote-byte : {m : ℕ} (v : ℕ) → Wrote m out at a o₁ r₁ → r₁ < length o₁ → at ≤ length out → Wrote (m + 1) out at (a ++ v ∷ []) (set o₁ r₁ v) (r₁ + 1)
   wrote-byte v w g h = wrote-then w (one-byte o₁ r₁ v g) h
 
+-- from the start on, the text stands at the front
+pub wrote-front : {m r : ℕ} {out text after : List ℕ} → Wrote m out 0 text after r → take r after ≡ text
+unfolding overlaid
+wrote-front {out = out} {text = text} w =
+    ap₂ take (w .place ∙ zero-add (length text)) (w .bytes) ∙ take-at text (drop (0 + length text) out) (length text) refl
+
 -- ---- what the public functions promise: all of the text where out is long enough, else nothing
 
 module _ (out text : List ℕ) where

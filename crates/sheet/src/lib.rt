@@ -7,8 +7,9 @@ ghost use Rattle.rules.specs.Words.{unless};
 ghost use Rattle.sheet.specs.Overlaid.{overlaid, mostSheet};
 ghost use Rattle.rules.specs.Text.{sheetText, refusalText};
 
-mod lines;
-mod text;
+pub mod lines;
+mod sheets;
+pub mod text;
 
 // How long lines are lent: no sheet is longer.
 pub const MOST_SHEET: usize = 512;
@@ -24,10 +25,10 @@ pub fn sheet_lines(f: Figures, out: &mut [u8]) -> usize
     if out.len() < MOST_SHEET {
         return 0;
     }
-    let head = lines::head_lines(&mut *out, 0, f);
-    let body = lines::count_lines(&mut *out, head, f);
+    let head = sheets::head_lines(&mut *out, 0, f);
+    let body = sheets::count_lines(&mut *out, head, f);
     let closing = f.closing;
-    lines::closing_lines(&mut *out, body, closing)
+    sheets::closing_lines(&mut *out, body, closing)
 }
 
 // The line of a refused field, likewise.

@@ -25,9 +25,9 @@ pub fn put_text(out: &mut [u8], at: usize, text: &[u8], last: u8) -> usize
     requires { ⌜ at + length (now text) + 1 ≤ length (now out) ⌝ }
     ensures { λ r. ⌜ Wrote (length (now (text .entry)) + 1) (now (out .entry)) at (now (text .entry) ++ last ∷ []) (now (out .exit)) r ⌝ }
 {
-    let next = put(&mut *out, at, text);
-    out[next] = last;
-    next + 1
+    let end = put(&mut *out, at, text);
+    out[end] = last;
+    end + 1
 }
 
 fn put_digits(out: &mut [u8], at: usize, n: u64) -> usize
@@ -63,15 +63,15 @@ fn size(z: i64) -> u64
     z as u64
 }
 
-// A number of either sign, and a newline.
-pub fn put_signed(out: &mut [u8], at: usize, z: i64) -> usize
+// A number of either sign, and the byte `last`.
+pub fn put_signed(out: &mut [u8], at: usize, z: i64, last: u8) -> usize
     requires { ⌜ at + 22 ≤ length (now out) ⌝ }
-    ensures { λ r. ⌜ Wrote 22 (now (out .entry)) at (signed z ++ 10 ∷ []) (now (out .exit)) r ⌝ }
+    ensures { λ r. ⌜ Wrote 22 (now (out .entry)) at (signed z ++ last ∷ []) (now (out .exit)) r ⌝ }
 {
     let n = size(z);
     if z < 0 {
         out[at] = 45;
-        return put_number(&mut *out, at + 1, n, 10);
+        return put_number(&mut *out, at + 1, n, last);
     }
-    put_number(&mut *out, at, n, 10)
+    put_number(&mut *out, at, n, last)
 }

@@ -6,6 +6,7 @@ use Rattle.blocks.proofs.block_refusal
 use Rattle.blocks.proofs.are_samples
 use Rattle.blocks.proofs.numbered_refusal
 use Rattle.blocks.proofs.take_block
+use Rattle.blocks.proofs.sample_at
 use Rattle.demands.specs.Calls.{AsksNothing, OneAnswer}
 use Rattle.demands.proofs.NoDoubt.{same}
 
@@ -29,3 +30,6 @@ numbered-refusal-one-answer κs a r r′ w w′ p q = (same p q, refl)
 
 pub take-block-one-answer : OneAnswer take_block.ended take_block.Reads.Learnt
 take-block-one-answer κs a r r′ w w′ p q = (ap (λ y. y .answer) (same p q), λ i. (tt, (tt, (tt, (tt, (same p q i .memory .ledger, (same p q i .memory .map, (tt, tt))))))))
+
+pub sample-at-one-answer : OneAnswer sample_at.ended sample_at.Reads.Learnt
+sample-at-one-answer κs a r r′ w w′ p q = (same p q, refl)

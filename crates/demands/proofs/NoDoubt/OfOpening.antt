@@ -6,6 +6,7 @@ use Rattle.opening.proofs.refused_at
 use Rattle.opening.proofs.open_whole
 use Rattle.opening.specs.Answers.{OpenLeft}
 use Rattle.opening.proofs.Readied.{same-opened}
+use Rattle.opening.proofs.characters_of
 use Rattle.demands.specs.Calls.{AsksNothing, OneAnswer}
 use Rattle.demands.proofs.NoDoubt.{same}
 
@@ -23,3 +24,6 @@ refused-at-asks-nothing κs a = tt
 
 pub open-whole-one-answer : OneAnswer open_whole.ended open_whole.Reads.Learnt
 open-whole-one-answer κs a r r′ w w′ p q = (same-opened r r′ (ap (λ (y : OpenLeft). y .answer) (same p q)), λ i. (tt, (same p q i .room, (same p q i .memory .ledger, (same p q i .memory .map, (tt, (tt, tt)))))))
+
+pub characters-of-one-answer : OneAnswer characters_of.ended characters_of.Reads.Learnt
+characters-of-one-answer κs a r r′ w w′ p q = (same p q, refl)

@@ -1,9 +1,9 @@
 -- `intake::answer_to` meets its contract: nothing is printed where reading failed.
 -- Assumes nothing.
 use mathlib.Core.Path.{sym, _∙_}
+use borrow.Author.Needs.{needs}
 use Rattle.desk.specs.Feeding.{Laid, laidOf}
 use Rattle.intake.proofs.Coming.{not-printed, printed-of}
-use borrow.Author.Needs.{needs}
 use Rattle.intake.proofs.answer_to.Statement.{statement}
 use Rattle.intake.proofs.answer_to.Tie as tie
 

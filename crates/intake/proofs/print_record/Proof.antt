@@ -1,12 +1,12 @@
 -- `intake::print_record` meets its contract: the line of the refused field, or what is printed where the input ends.
 -- Assumes nothing.
 use mathlib.Core.Path.{sym, ap}
+use borrow.Author.Needs.{needs}
 use Rattle.laws.specs.Answers.{Said}
 use Rattle.desk.specs.Feeding.{Laid, laidOf}
 use Rattle.prints.proofs.Texts.{as-text}
 use Rattle.intake.specs.Turns.{turnedSaid, textOf}
 use Rattle.intake.proofs.Coming.{not-refused}
-use borrow.Author.Needs.{needs}
 use Rattle.intake.proofs.print_record.Statement.{statement}
 use Rattle.intake.proofs.print_record.Tie as tie
 

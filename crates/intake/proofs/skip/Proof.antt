@@ -3,10 +3,10 @@
 use mathlib.Core.Path.{_≡_, refl, sym, subst}
 use Prim.Native.Nat.{_≤_}
 use native.Mathlib.Omega.{arith}
-use Rattle.edges.specs.Answers.{Within}
 use borrow.Author.Needs.{needs}
 use lib.ListN.{length, length-take}
 use lib.Seq.{length-take-le}
+use Rattle.edges.specs.Answers.{Within}
 use Rattle.intake.proofs.skip.Statement.{statement}
 use Rattle.intake.proofs.skip.Tie as tie
 

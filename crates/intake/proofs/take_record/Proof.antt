@@ -2,8 +2,8 @@
 -- Assumes nothing.
 use mathlib.Core.Path.{refl}
 use native.Mathlib.Omega.{arith}
-use Rattle.intake.proofs.Coming.{not-read}
 use borrow.Author.Needs.{needs}
+use Rattle.intake.proofs.Coming.{not-read}
 use Rattle.intake.proofs.take_record.Statement.{statement}
 use Rattle.intake.proofs.take_record.Tie as tie
 

@@ -3,13 +3,13 @@
 use mathlib.Core.Path.{sym, ap, subst, _∙_}
 use Prim.Native.Nat.{_+_, _≤_}
 use native.Mathlib.Omega.{arith}
+use borrow.Author.Needs.{needs}
 use lib.ListN.{length}
 use Rattle.edges.specs.declared.Got.{Got}
 use Rattle.edges.specs.Answers.{Within}
 use Rattle.desk.specs.Feeding.{Laid, laidOf}
 use Rattle.intake.specs.Turns.{roundOf, roundBy}
-use Rattle.intake.proofs.Coming.{stops}
-use borrow.Author.Needs.{needs}
+use Rattle.intake.proofs.Coming.{stops-by}
 use Rattle.intake.proofs.parts.turn_by.Statement.{statement}
 use Rattle.intake.proofs.parts.turn_by.Tie as tie
 
@@ -37,17 +37,17 @@ returns : tie.Need-returns
 returns c =
     let s = c .before .before .before .before .before in
     let e = c .stopped-by .ensures in
-    (λ i. roundOf (record { turned = e i; desk = s .args .desk; held = s .args .held; left = s .args .left }) (s .args .buffer .now) (s .args .room .now) (s .args .ledger .now) (s .args .map .now))
-    ∙ stops (s .args .got) (c .before .match .keys2) (laid s) (s .args .held) (s .args .left) (s .args .buffer .now)
+    (λ i. roundOf (record { turned = e i; desk = s .args .desk; used = 0; held = s .args .held; left = s .args .left }) (s .args .buffer .now) (s .args .room .now) (s .args .ledger .now) (s .args .map .now))
+    ∙ stops-by (s .args .got) (c .before .match .keys2) (laid s) (s .args .held) (s .args .left) (s .args .buffer .now)
 
 add-digest : tie.Need-add-digest
-add-digest c = omega (arith, came (c .before .before), entry (c .before .before) .good .1 .1 .1 .1 .0 .0)
+add-digest c = omega (arith, came (c .before), entry (c .before) .good .1 .1 .1 .1 .0 .0)
 
 sub-digest : tie.Need-sub-digest
-sub-digest c = came (c .before .before) .1
+sub-digest c = came (c .before) .1
 
 digest-requires : tie.Need-digest-requires
-digest-requires c κs = let known = c .before .before .before .before .before in (came known .0, entry known .pre .3)
+digest-requires c κs = let known = c .before .before .before .before in (came known .0, entry known .pre .3)
 
 same-length : tie.Need-same-length
 same-length c = search needs
@@ -58,13 +58,10 @@ same-length-2 c = search needs
 same-length-3 : tie.Need-same-length-3
 same-length-3 c = search needs
 
-same-length-4 : tie.Need-same-length-4
-same-length-4 c = search needs
-
 returns-2 : tie.Need-returns-2
 returns-2 c =
-    let taken = c .before .before .before .before .before .before .before in
-    let known = taken .before .before .before .before .before .before in
+    let taken = c .before .before .before .before .before in
+    let known = taken .before .before .before .before .before in
     let s = entry known in
     taken .digest .ensures
     ∙ ap (λ (g : Got). roundBy g (laid s) (s .args .held) (s .args .left) (s .args .buffer .now)) (sym (known .got .given .1))
@@ -82,5 +79,4 @@ turn-by-spec =
     same-length
     same-length-2
     same-length-3
-    same-length-4
     returns-2)

@@ -37,7 +37,7 @@ returns c =
     let e = signed-negative (s .args .z) _ (test .before .size .ensures ∙ ap natAbs (read (s .fits .z))) (sign-read (s .fits .z) ∙ test .if1 .taken) in
     wrote-is
     (wrote-then (one-byte (s .args .out .now) (s .args .at) _ (omega arith)) (call .put-number .ensures) (omega arith))
-    (ap (λ (d : List ℕ). d ++ 10 ∷ []) e)
+    (ap (λ (d : List ℕ). d ++ s .args .last ∷ []) e)
 
 put-number-requires-2 : tie.Need-put-number-requires-2
 put-number-requires-2 c κs = search needs
@@ -51,7 +51,7 @@ returns-2 c =
     let test = call .before .before in
     let s = test .before .before .before in
     let e = signed-natural (s .args .z) _ (test .before .size .ensures ∙ ap natAbs (read (s .fits .z))) (sign-read (s .fits .z) ∙ test .if1 .left) in
-    wrote-most (wrote-is (call .put-number2 .ensures) (ap (λ (d : List ℕ). d ++ 10 ∷ []) e)) (omega arith)
+    wrote-most (wrote-is (call .put-number2 .ensures) (ap (λ (d : List ℕ). d ++ s .args .last ∷ []) e)) (omega arith)
 
 pub put-signed-spec : {M : Type 1} → statement M
 put-signed-spec =

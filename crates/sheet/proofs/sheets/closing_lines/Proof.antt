@@ -1,0 +1,48 @@
+-- `sheet::sheets::closing_lines` meets its contract: the figures of a closing, or the line that refuses it.
+-- Assumes nothing.
+use native.Mathlib.Omega.{arith}
+use borrow.Author.Needs.{needs}
+use Rattle.sheet.proofs.Overlaid.{wrote-most}
+use Rattle.sheet.proofs.sheets.closing_lines.Statement.{statement}
+use Rattle.sheet.proofs.sheets.closing_lines.Tie as tie
+
+enum-known-closing : tie.Need-enum-known-closing
+enum-known-closing c = search needs
+
+closed-lines-requires : tie.Need-closed-lines-requires
+closed-lines-requires c κs = search needs
+
+enum-known-closing-2 : tie.Need-enum-known-closing-2
+enum-known-closing-2 c = search needs
+
+refused-line-requires : tie.Need-refused-line-requires
+refused-line-requires c κs = search needs
+
+same-length : tie.Need-same-length
+same-length c = search needs
+
+returns : tie.Need-returns
+returns c =
+    let call = c .before .before in
+    rw (call .before .before .before .closing .given .1) (call .closed-lines .ensures)
+
+same-length-2 : tie.Need-same-length-2
+same-length-2 c = search needs
+
+returns-2 : tie.Need-returns-2
+returns-2 c =
+    let call = c .before .before in
+    rw (call .before .before .before .closing2 .given .1) (wrote-most (call .refused-line .ensures) (omega arith))
+
+pub closing-lines-spec : {M : Type 1} → statement M
+closing-lines-spec =
+    tie.close
+    (tie.spec
+    enum-known-closing
+    closed-lines-requires
+    enum-known-closing-2
+    refused-line-requires
+    same-length
+    returns
+    same-length-2
+    returns-2)

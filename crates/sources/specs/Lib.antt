@@ -1,0 +1,2 @@
+-- What a trace prints of a started run.
+pub mod Sources

@@ -1,0 +1,2 @@
+-- What is printed of a record that is traced.
+pub mod Recorded

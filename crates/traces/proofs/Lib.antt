@@ -1,0 +1,2 @@
+-- Laws of the trace's lines.
+pub mod Rates

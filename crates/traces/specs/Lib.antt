@@ -1,0 +1,2 @@
+-- Bounds of what the lines of the trace are made of.
+pub mod Bounds

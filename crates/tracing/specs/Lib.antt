@@ -1,0 +1,2 @@
+-- What the trace prints.
+pub mod Traced

@@ -1,0 +1,5 @@
+-- Laws of a record that is listed turn by turn.
+pub mod Showing
+pub mod Lasts
+pub mod Going
+pub mod Printed

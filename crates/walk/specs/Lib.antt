@@ -1,0 +1,2 @@
+-- What a record that is listed turn by turn shows.
+pub mod Walks

@@ -1,0 +1,66 @@
+-- A record from standard input, turn by turn, with the lines of its fields: what is shown of the bytes that came.
+-- Assumes nothing.
+use mathlib.Core.Bool.{Bool}
+use mathlib.Core.List.{List, [], _++_}
+use mathlib.Core.Path.{_≡_}
+use Prim.Native.Nat.{ℕ, suc, _+_, _*_, _≤_, _<_}
+use lib.IntN.{ℤ}
+use lib.ListN.{length, take, drop}
+use Rattle.rules.specs.declared.Spot.{Spot}
+use Rattle.rules.specs.Table.{tags}
+use Rattle.rules.specs.Machine.{run}
+use Rattle.rules.specs.Listing.{listed, listField, listFrom, firstSpot, numbered, refusedText}
+use Rattle.laws.specs.Answers.{Said, gives, refuses}
+use Rattle.laws.proofs.Alongside.{TookAll}
+use Rattle.reader.specs.Answers.{endingOf}
+use Rattle.listing.specs.Lines.{perByte, mostLine, Counts}
+use Rattle.desk.specs.Feeding.{Laid, laidOf, longest, Steady}
+use Rattle.intake.specs.declared.Turn.{Turn}
+use Rattle.intake.specs.declared.Turned.{Turned}
+use Rattle.intake.specs.declared.Turned.the-variants.{On, Ended, Failed, Refused}
+use Rattle.intake.specs.Turns.{Round, Stood}
+
+-- as many bytes of lines as a buffer of so many bytes can bring in one turn, and a line behind them
+abbrev pub mostLines : ℕ → ℕ
+mostLines size = perByte * size + mostLine + mostLine
+
+-- before another turn: what is taken and held stands in the buffer, the lines have room, and the counts of the list can grow
+pub record Ready (t : Turn) (spot : Spot) (buffer room : List ℕ) (l : List ℤ) (m lines : List ℕ) : Type 0 where
+  pub within : t .used + t .held ≤ length buffer
+  pub held : t .held < longest
+  pub long : longest ≤ length buffer
+  pub some : 1 ≤ t .left
+  pub steady : Steady (laidOf (t .desk) room l m)
+  pub lines-long : mostLines (length buffer) ≤ length lines
+  pub counts : Counts spot (t .held + t .left)
+
+-- a record of at most so many bytes stands there, and its fields are listed: the text of all their lines, and where the list stands
+pub record Shows (x₀ : Laid) (most : ℕ) (text : List ℕ) (p : Round) (spot : Spot) : Type 0 where
+  pub stood : Stood x₀ most p
+  pub lists : listFrom firstSpot (stood .done) ≡ listed spot text
+  pub all : TookAll (stood .done) (run tags listField (listed firstSpot []) (stood .done))
+
+-- some text of its lines
+pub record Walked (x₀ : Laid) (most : ℕ) (p : Round) (spot : Spot) : Type 0 where
+  pub text : List ℕ
+  pub shows : Shows x₀ most text p spot
+
+-- a turn: whatever was shown before, the lines are shown behind it
+abbrev pub Adds : Round → Spot → List ℕ → Round → Spot → Type 0
+Adds p spot lines q spot′ = (x₀ : Laid) (most : ℕ) (text : List ℕ) → Shows x₀ most text p spot → Shows x₀ most (text ++ lines) q spot′
+
+-- the last line, where a record is refused: behind so many fields and bytes, with the bytes that were left
+abbrev pub lastText : Said (Unit {0}) → ℕ → ℕ → List ℕ → List ℕ
+lastText (gives _) fields offset rest = []
+lastText (refuses n) fields offset rest = numbered (suc fields) offset ++ refusedText n rest
+
+-- what a turn says of the record where it is the last one: a field was refused, or whether the record may end there
+abbrev pub lastSaid : Turned → Bool → ℕ → Said (Unit {0})
+lastSaid On started held = endingOf started held
+lastSaid Ended started held = endingOf started held
+lastSaid Failed started held = endingOf started held
+lastSaid (Refused k) started held = refuses k
+
+-- the last line behind a turn
+abbrev pub lastOf : Turn → Spot → List ℕ → List ℕ
+lastOf t spot buffer = lastText (lastSaid (t .turned) (t .desk .started) (t .held)) (t .desk .fields) (spot .offset) (take (t .held) (drop (t .used) buffer))
