@@ -16,9 +16,12 @@ use Rattle.judge.proofs.Runs as runs
 use Rattle.intake.proofs.Told as intake
 use Rattle.walk.proofs.Printed as walk
 use Rattle.traced.proofs.Printed as traced
+use Rattle.laws.proofs.Weights.{weights-weigh, weights-add}
+use Rattle.demands.proofs.Turns.{list-shows, last-line-prints}
 use Rattle.paperwhelk.proofs.Fitting.{at-front}
 use Rattle.demands.specs.Demand1.{Demand1}
-use Rattle.demands.specs.Demand2.{Demand2, RunHolds, FromC}
+use Rattle.demands.specs.Demand2.{Demand2, RunHolds}
+use Rattle.demands.specs.Programs.{FromC}
 use Rattle.demands.specs.Demand3.{Demand3}
 use Rattle.demands.specs.Range.{PrintsNear}
 use Rattle.demands.specs.Runs.{Driven}
@@ -83,7 +86,13 @@ demand-2 = record {
     take-record-near = λ c e h. subst (PrintsNear (c .bytes)) (sym (intake.take-record-prints lent c e h)) (prints-near (c .bytes));
     short-buffer-prints = intake.short-buffer-prints lent;
   };
-  desk = λ lent. record { trace-record-prints = traced.trace-record-prints lent; fields-print = walk.fields-print lent };
+  desk = λ lent. record {
+    trace-record-prints = traced.trace-record-prints lent;
+    list-shows = list-shows lent;
+    fields-print = walk.fields-print lent;
+    last-line-prints = last-line-prints;
+  };
+  weights = record { weights-weigh = weights-weigh; weights-add = weights-add };
   from-c = from-c;
   not-claimed = not-claimed;
 }

@@ -33,6 +33,7 @@ pub mod ForeignBlocks
 pub mod TextLines
 pub mod PrintsNear
 pub mod Arrivals
+pub mod Turns
 pub mod SomeRecord
 pub mod WiderRuns
 pub mod Records

@@ -22,6 +22,8 @@ use Rattle.figures.proofs.figures_of
 use Rattle.sheet.proofs.sheet_lines
 use Rattle.sheet.proofs.refusal_line
 use Rattle.desk.proofs.feed
+use Rattle.walk.proofs.walk_on
+use Rattle.walk.proofs.last_line
 use Rattle.prints.proofs.close
 use Rattle.prints.proofs.refuse
 use Rattle.paperwhelk.proofs.verdict.paperwhelk_verdict
@@ -108,6 +110,13 @@ RefusalCall = Call refusal_line.ended refusal_line.Reads.Learnt
 
 abbrev pub FeedCall : Type 0
 FeedCall = Call feed.ended feed.Reads.Learnt
+
+-- one turn of a record that is listed, and its last line
+abbrev pub WalkCall : Type 0
+WalkCall = Call walk_on.ended walk_on.Reads.Learnt
+
+abbrev pub LastCall : Type 0
+LastCall = Call last_line.ended last_line.Reads.Learnt
 
 abbrev pub CloseCall : Type 0
 CloseCall = Call close.ended close.Reads.Learnt

@@ -1,17 +1,17 @@
 -- Demand 2: "Every figure equals the rules of document 01. Blocks of another vehicle change nothing but the passed-over count (and the field number of a later
 -- refusal). The ledger's energies add up to the energy of the samples counted." By document 02, L2 that is the energy of the intervals closed; by L5 stretches
 -- M and E have their share of it.
--- Stated here, over all that is known by the contracts; what blocks of another vehicle change in Foreign.antt, the judges that it shuts out in ShutOut.antt.
+-- Stated here, over all that is known by the contracts; what the programs print in Programs.antt, what blocks of another vehicle change in Foreign.antt, the
+-- judges that it shuts out in ShutOut.antt.
 -- Proved in proofs/ (`demand-2`).
 -- Assumes nothing.
-use mathlib.Core.Bool.{true, false, not}
+use mathlib.Core.Bool.{true, not}
 use mathlib.Core.List.{List, _++_}
 use mathlib.Core.Path.{_≡_}
 use Prim.Native.Nat.{ℕ, suc, _+_, _*_, _≤_, _<_}
 use lib.Dec.{eqb}
 use lib.IntN.{ℤ, pos, _+ℤ_}
-use lib.ListN.{length, take, drop}
-use denote.Ref.{now}
+use lib.ListN.{length, drop}
 use Rattle.rules.specs.Words.{every}
 use Rattle.rules.specs.declared.End.the-variants.{None as none}
 use Rattle.rules.specs.declared.Figure.the-variants as figure
@@ -35,9 +35,6 @@ use Rattle.rules.specs.Machine.{run}
 use Rattle.rules.specs.Record.{Told, takeField, untold, told, refusedAt, sheetOf}
 use Rattle.rules.specs.Figures.{energies, distances, cyclesIn, outsideTotal, closingIn, figuresBy}
 use Rattle.rules.specs.Text.{refusalText, printed}
-use Rattle.rules.specs.Listing.{fieldsText}
-use Rattle.rules.specs.Trace.{traced}
-use Rattle.rules.specs.declared.Spot.{Spot}
 use Rattle.laws.specs.Answers.{refuses, numberOf}
 use Rattle.laws.specs.Beside.{standOf, placeOf}
 use Rattle.laws.specs.Claims.{ForeignBlock}
@@ -56,14 +53,10 @@ use Rattle.reading.specs.declared.Step.the-variants as step
 use Rattle.reading.specs.Answers.{isReading}
 use Rattle.sheet.specs.Overlaid.{mostSheet}
 use Rattle.desk.specs.declared.Outcome.the-variants as outcome
-use Rattle.desk.specs.Feeding.{wanted, outcomeSaid, Laid, Lent, laidOf, emptyDesk, stops, deskGround, feedOf}
+use Rattle.desk.specs.Feeding.{wanted, outcomeSaid, Laid, Lent, stops, deskGround, feedOf}
 use Rattle.prints.specs.Printed.{nextField}
-use Rattle.intake.specs.declared.Intake.{Intake}
-use Rattle.intake.specs.Turns.{Round, Recorded, Unread}
-use Rattle.walk.specs.Walks.{Shows, lastOf}
-use Rattle.traced.specs.Recorded.{Recorded as Traced}
 use Rattle.demands.specs.Calls.{SampleCall, BlockCall, ShownCall, TotalsCall, ClosingCall}
-use Rattle.demands.specs.Calls.{FiguresCall, ReadCall, AllCall, FeedCall, CloseCall, RefuseCall, VerdictCall, RecordSheetCall}
+use Rattle.demands.specs.Calls.{FiguresCall, ReadCall, AllCall, FeedCall, CloseCall, RefuseCall, VerdictCall}
 use Rattle.demands.specs.Runs.{SampleOn, BlockOn, ShownOn, TotalsOn, ClosingOn, FiguresOn, ReadOn, AllOn}
 use Rattle.demands.specs.Runs.{sampleIn, closingAmounts, Driven, FeedOn, laidBy, FedIn, CloseOn}
 use Rattle.demands.specs.Runs.{RefuseOn, closedTo, refusedTo, AskedOn, SomeRun, SomeClose}
@@ -72,6 +65,7 @@ use Rattle.demands.specs.Rows.{momentsOf}
 use Rattle.demands.specs.Range.{PrintsNear}
 use Rattle.demands.specs.Foreign.{ForeignChangesNothing, ReadPassesOver}
 use Rattle.demands.specs.ShutOut.{ShutsOut, ShutsOutAlways}
+use Rattle.demands.specs.Programs.{ProgramPrints, FromC, DeskPrints, WeightsAreWs}
 
 -- ---- a whole run of the samples xs by the plan p, with the state r, the ledger l and the map m
 
@@ -214,37 +208,6 @@ pub record BeforeAll (x : Laid) : Type 0 where
       → record { laid = laidBy c; used = c .answer .used; outcome = outcomeSaid (c .answer .outcome) } ≡ stops x (refuses (deskGround x))
   pub close-before-all : (rest : List ℕ) (c : CloseCall) → CloseOn x rest c → closedTo c ≡ refusalText (deskGround x) (nextField (x .desk .fields))
 
--- the program: on memory that is long enough, the lines written are what the rules give for the bytes that came; where the buffer is too short for a field,
--- a refusal before all else
-pub record ProgramPrints (lent : Lent) : Type 0 where
-  pub take-record-prints : {most : ℕ} {out room after : List ℕ} {l : List ℤ} {m : List ℕ} {r : Intake}
-      (c : Recorded (laidOf emptyDesk (lent .room₀) (lent .l₀) (lent .m₀)) most out r room l m after)
-      → r .failed ≡ false → mostSheet ≤ length out → take (r .printed) after ≡ printed (sheetOf (c .bytes))
-  pub take-record-near : {most : ℕ} {out room after : List ℕ} {l : List ℤ} {m : List ℕ} {r : Intake}
-      (c : Recorded (laidOf emptyDesk (lent .room₀) (lent .l₀) (lent .m₀)) most out r room l m after)
-      → r .failed ≡ false → mostSheet ≤ length out → PrintsNear (c .bytes) (take (r .printed) after)
-  pub short-buffer-prints : {most : ℕ} {out room after : List ℕ} {l : List ℤ} {m : List ℕ} {r : Intake}
-      → Unread (laidOf emptyDesk (lent .room₀) (lent .l₀) (lent .m₀)) most out r room l m after → mostSheet ≤ length out
-      → take (r .printed) after ≡ printed (refusedAt 1 1)
-
--- from C, of a record that is lent whole with the bytes out: what the rules give for it stands at the front of out, where it fits
-pub record FromC : Type 0 where
-  pub sheet-from-c : (c : RecordSheetCall) → (let text = printed (sheetOf (now (c .args .0))) in
-      length text ≤ length (now (c .args .1 .0)) → (c .answer ≡ pos (length text)) × (take (length text) (c .lasts .1 .0) ≡ text))
-  -- 512 bytes are always enough
-  pub sheet-from-c-fits : (c : RecordSheetCall) → mostSheet ≤ length (now (c .args .1 .0))
-      → c .answer ≡ pos (length (printed (sheetOf (now (c .args .0)))))
-
--- the desk's programs: on memory that is long enough, the trace written is what the rules give for the bytes that came; and so is the field list, of which
--- the lines of each turn go out behind those before it, and a last line behind them all
-pub record DeskPrints (lent : Lent) : Type 0 where
-  pub trace-record-prints : {most : ℕ} {r : Intake} {buffer room : List ℕ} {l : List ℤ} {m after : List ℕ}
-      (c : Traced (laidOf emptyDesk (lent .room₀) (lent .l₀) (lent .m₀)) most r buffer room l m after)
-      → r .failed ≡ false → take (r .printed) after ≡ traced (c .walked .shows .stood .bytes)
-  pub fields-print : {most : ℕ} {text : List ℕ} {p : Round} {spot : Spot}
-      (s : Shows (laidOf emptyDesk (lent .room₀) (lent .l₀) (lent .m₀)) most text p spot)
-      → text ++ lastOf (p .turn) spot (p .buffer) ≡ fieldsText (s .stood .bytes)
-
 -- ---- together
 
 pub record Demand2 : Type 0 where
@@ -262,6 +225,7 @@ pub record Demand2 : Type 0 where
   pub before-all : (x : Laid) → (deskGround x ≡ 0 → ⊥) → BeforeAll x
   pub program : (lent : Lent) → ProgramPrints lent
   pub desk : (lent : Lent) → DeskPrints lent
+  pub weights : WeightsAreWs
   pub from-c : FromC
   -- document 02, L11: what must not be answered a maker, of either method
   pub not-claimed : (y : Method) → NotClaimed y

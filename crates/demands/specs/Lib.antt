@@ -7,6 +7,7 @@ pub mod Runs
 pub mod Cases
 pub mod Compared
 pub mod Rows
+pub mod Programs
 pub mod Foreign
 pub mod Range
 pub mod ShutOut

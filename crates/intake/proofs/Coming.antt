@@ -27,7 +27,7 @@ use Rattle.edges.specs.Answers.{Within}
 use Rattle.edges.proofs.Got.{the-type as got-type}
 use Rattle.desk.specs.declared.Desk.{Desk}
 use Rattle.desk.specs.Feeding.{wanted, Laid, Consumed, laidOf, emptyDesk, stageOn, fedBy, stops, deskGround, feedOf, longest}
-use Rattle.prints.specs.Printed.{Prints, refuseText, closeText}
+use Rattle.prints.specs.Printed.{Prints, refuseText}
 use Rattle.prints.proofs.Texts.{as-text}
 use Rattle.intake.specs.declared.Intake.{Intake}
 use Rattle.intake.specs.declared.Turn.{Turn}

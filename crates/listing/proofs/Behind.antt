@@ -7,8 +7,8 @@ use native.Mathlib.Omega.{arith}
 use lib.ListN.{length, drop, length-drop}
 use Rattle.rules.specs.declared.Spot.{Spot}
 use Rattle.rules.specs.Table.{tags}
-use Rattle.rules.specs.Front.{Field, Front, incomplete, impossible, field, bytesOf, frontOf}
-use Rattle.rules.specs.Machine.{Ran, Move, on, off, moveAt, moveOf, replyAs, replyAt, goOn, upto, run}
+use Rattle.rules.specs.Front.{Front, incomplete, impossible, field, bytesOf, frontOf}
+use Rattle.rules.specs.Machine.{moveOf, replyAs, replyAt, goOn, upto, run}
 use Rattle.rules.specs.Listing.{Listed, listed, listField, listFrom, spotAfter, fieldLine}
 use Rattle.laws.proofs.Fronts.{front-whole}
 use Rattle.listing.specs.Lines.{Counts}

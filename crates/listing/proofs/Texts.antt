@@ -3,9 +3,8 @@
 use mathlib.Core.Bool.{cond}
 use mathlib.Core.List.{List, [], _∷_, _++_}
 use mathlib.Core.Path.{_≡_, sym, ap, _∙_}
-use Prim.Native.Nat.{ℕ, suc, _+_, _*_, _≤_}
+use Prim.Native.Nat.{ℕ, suc, _+_, _≤_}
 use native.Mathlib.Numerals.{add-one}
-use native.Mathlib.Omega.{arith}
 use lib.Dec.{ltb}
 use lib.ListN.{length}
 use Rattle.rules.specs.Words.{fold}
@@ -13,7 +12,7 @@ use Rattle.rules.specs.Cycle.{phaseEnd}
 use Rattle.rules.specs.Text.{digits}
 use Rattle.rules.specs.Listing.{inTurn, phasesIn, endOfPhase}
 use Rattle.sheet.specs.Overlaid.{Wrote}
-use Rattle.sheet.proofs.Overlaid.{nothing, wrote-then, wrote-most, wrote-is}
+use Rattle.sheet.proofs.Overlaid.{nothing, wrote-then, wrote-is}
 
 -- none yet
 pub none-in-turn : (f : ℕ → List ℕ) (out : List ℕ) (at : ℕ) → Wrote 0 out at (inTurn f 0) out at

@@ -12,7 +12,7 @@ use Rattle.rules.specs.Words.{bit}
 use Rattle.rules.specs.declared.Spot.{Spot}
 use Rattle.rules.specs.Table.{tags}
 use Rattle.rules.specs.Front.{Field, Front, incomplete, impossible, field, bytesOf, frontOf}
-use Rattle.rules.specs.Machine.{Ran, End, waiting, broken, Move, on, off, moveOf, moveAt, replyAs, replyAt, run}
+use Rattle.rules.specs.Machine.{Ran, waiting, broken, on, moveOf, moveAt, replyAs, replyAt, run}
 use Rattle.rules.specs.Listing.{Listed, listed, listField, listFrom, spotAfter, fieldLine, isOwn}
 use Rattle.laws.proofs.Cuts.{first-then, first-ends}
 use Rattle.laws.proofs.Fronts.{front-whole}

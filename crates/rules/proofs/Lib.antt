@@ -2,3 +2,4 @@
 pub mod Card
 pub mod Records
 pub mod Sheets
+pub mod Desks

@@ -32,8 +32,9 @@ pub mod Text
 -- the desk's programs: the field list, and the trace of a sheet
 pub mod Listing
 pub mod Trace
--- 'Rows on the test card', and rows of our own: of the definitions above, of short records, of a sheet
+-- 'Rows on the test card', and rows of our own: of the definitions above, of short records, of a sheet, of field lists and traces
 pub mod Rows
 pub mod Card
 pub mod Records
 pub mod Sheets
+pub mod Desks

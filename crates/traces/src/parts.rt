@@ -13,7 +13,7 @@ ghost use lib.ListN.{length};
 ghost use lib.Signed.{leZ};
 ghost use Rattle.rules.specs.Words.{up, spell};
 ghost use Rattle.rules.specs.Closing.{rate};
-ghost use Rattle.rules.specs.Text.{digits, signed, spaced, ended};
+ghost use Rattle.rules.specs.Text.{digits, spaced, ended};
 ghost use Rattle.rules.specs.Trace.{finishedWord, gatheredText, phaseLine, rateText, rowLine, stretchLine};
 ghost use Rattle.numbers.specs.Whole.{Sized};
 ghost use Rattle.sheet.specs.Overlaid.{Wrote};

@@ -24,7 +24,9 @@ ghost use Rattle.tracing.specs.Traced.{phaseAt, cycleAt, partsOn};
 
 // The phases of cycle c.
 fn phase_lines(out: &mut [u8], at: usize, run: Run, cycle: &[u8], ledger: &[i64], c: usize) -> usize
-    requires { ⌜ (at + 468 ≤ length (now out)) × (isRun run ≡ true) × (valid (now cycle) ≡ true) × (bounded (now ledger) ≡ true) × (c < mostCycles) ⌝ }
+    requires { ⌜
+        (at + 468 ≤ length (now out)) × (isRun run ≡ true) × (valid (now cycle) ≡ true) × (bounded (now ledger) ≡ true) × (c < mostCycles)
+        ⌝ }
     ensures { λ r. ⌜
         Wrote 468 (now (out .entry)) at (inTurn (phaseAt run (now (cycle .entry)) (now (ledger .entry)) c) mostPhases) (now (out .exit)) r
         ⌝ }
@@ -41,7 +43,9 @@ fn phase_lines(out: &mut [u8], at: usize, run: Run, cycle: &[u8], ledger: &[i64]
 
 // Cycle c, behind its phases.
 fn cycle_lines(out: &mut [u8], at: usize, run: Run, cycle: &[u8], ledger: &[i64], c: usize) -> usize
-    requires { ⌜ (at + 626 ≤ length (now out)) × (isRun run ≡ true) × (valid (now cycle) ≡ true) × (bounded (now ledger) ≡ true) × (c < mostCycles) ⌝ }
+    requires { ⌜
+        (at + 626 ≤ length (now out)) × (isRun run ≡ true) × (valid (now cycle) ≡ true) × (bounded (now ledger) ≡ true) × (c < mostCycles)
+        ⌝ }
     ensures { λ r. ⌜ Wrote 626 (now (out .entry)) at (cycleAt run (now (cycle .entry)) (now (ledger .entry)) c) (now (out .exit)) r ⌝ }
 {
     let g = row_on(run, ledger, c);

@@ -1,0 +1,101 @@
+-- Field lists and traces of short records written out, as one table with one claim.
+-- Assumes nothing.
+use mathlib.Core.Bool.{Bool, _&&_}
+use mathlib.Core.List.{List, [], _∷_, _++_}
+use Prim.Native.Nat.{ℕ, _/_, _%_}
+use Prim.Native.String.{String}
+use lib.Dec.{eqb}
+use lib.ListN.{length, getD}
+use Rattle.rules.specs.Words.{table, sameBytes, spell}
+use Rattle.rules.specs.Listing.{fieldsText}
+use Rattle.rules.specs.Trace.{traced, weightOf}
+
+pub data Row : Type 0 where
+  -- the bytes of a record, and what is printed of it
+  list : List ℕ → String → Row
+  trace : List ℕ → String → Row
+  -- E, the energies of the finished cycles, and the weight of each
+  weights : ℕ → List ℕ → List ℕ → Row
+
+-- ---- fields
+
+abbrev field : ℕ → List ℕ → List ℕ
+field tag v = tag ∷ (length v / 256) ∷ (length v % 256) ∷ v
+
+-- a vehicle, a cycle of 2 seconds at 10.0 km/h with one phase, tolerances with this allowance
+head : ℕ → List ℕ
+head allowance =
+    field 1 (spell "RUN1")
+    ++ field 2 (spell "LTESTVEH000000001")
+    ++ field 3 (1 ∷ 0 ∷ 2 ∷ 0 ∷ 100 ∷ 0 ∷ 100 ∷ 0 ∷ 100 ∷ [])
+    ++ field 4 (0 ∷ 30 ∷ 0 ∷ 20 ∷ 0 ∷ allowance ∷ [])
+
+-- a sample of this speed, 600.0 V, -12.0 A: 6000 and -120, whose product drawn is 720,000
+sample : ℕ → List ℕ
+sample speed = 0 ∷ speed ∷ 23 ∷ 112 ∷ 255 ∷ 136 ∷ []
+
+block : String → ℕ → List ℕ → List ℕ
+block number first samples = field 5 (spell number ++ 0 ∷ 0 ∷ 0 ∷ first ∷ samples)
+
+own : ℕ → List ℕ → List ℕ
+own first samples = block "LTESTVEH000000001" first samples
+
+-- 7 before the test, -3 after it; a recharge of 15 Wh
+before : List ℕ
+before = field 6 (0 ∷ 0 ∷ 0 ∷ 0 ∷ 0 ∷ 0 ∷ 0 ∷ 0 ∷ 7 ∷ [])
+
+after : List ℕ
+after = field 6 (1 ∷ 255 ∷ 255 ∷ 255 ∷ 255 ∷ 255 ∷ 255 ∷ 255 ∷ 253 ∷ [])
+
+recharge : List ℕ
+recharge = field 7 (0 ∷ 0 ∷ 0 ∷ 15 ∷ [])
+
+-- three samples, of which the third is outside, with a block of another vehicle between them
+mixed : List ℕ
+mixed =
+    head 1 ++ before ++ own 0 (sample 100 ++ sample 100) ++ block "LTESTVEH000000002" 9 (sample 0) ++ own 2 (sample 131) ++ after ++ recharge
+
+-- ---- the table
+
+unfoldable pub rows : List Row
+unfolding head sample block own before after recharge mixed
+rows =
+    list mixed
+    "1 0 mark\n2 7 vehicle LTESTVEH000000001\n3 27 cycle 2 phases 2\n4 39 tolerances 30 20 1\n5 48 before 7\n6 60 own 0 2\n7 96 other LTESTVEH000000002\n8 126 own 2 1\n9 156 after -3\n10 168 recharge 15\n"
+    -- two intervals are closed: 2 × 1,440,000, and 200 + 231
+    ∷ trace mixed
+    "run LTESTVEH000000001\nmethod regular\ncycle 2 phases 2\ntolerances 30 20 1\nfields 10 blocks 2 passed 1\noffered 3\nend none 3\nphase 1 1 energy 2880000 distance 431 open\ncycle 1 energy 2880000 distance 431 outside 1 open\ncycles 0\noutside 1\ndrawn 2880000\ntransfer before 14 after -6\nwhole 2880014\nrefused 10\n"
+    -- the second sample stops the run, and closes the interval of the first
+    ∷ trace (head 0 ++ own 0 (sample 100 ++ sample 131 ++ sample 100))
+    "run LTESTVEH000000001\nmethod regular\ncycle 2 phases 2\ntolerances 30 20 0\nfields 5 blocks 1 passed 0\noffered 3\nend stop 1\nstop cycle 1 position 1\nphase 1 1 energy 1440000 distance 231 open\ncycle 1 energy 1440000 distance 231 outside 1 open\ncycles 0\noutside 1\ndrawn 1440000\ntransfer before 0 after 0\nwhole 1440000\nrefused 10\n"
+    -- one sample, outside: no interval is closed, and the cycle has a line for its sample
+    ∷ trace (head 1 ++ own 0 (sample 131))
+    "run LTESTVEH000000001\nmethod regular\ncycle 2 phases 2\ntolerances 30 20 1\nfields 5 blocks 1 passed 0\noffered 1\nend none 1\ncycle 1 energy 0 distance 0 outside 1 open\ncycles 0\noutside 1\ndrawn 0\ntransfer before 0 after 0\nwhole 0\nrefused 10\n"
+    -- by the shortened method, with an M of 300 samples and a set speed of 14.0 km/h
+    ∷ trace (head 1 ++ field 8 (0 ∷ 0 ∷ 1 ∷ 44 ∷ 0 ∷ 140 ∷ []))
+    "run LTESTVEH000000001\nmethod shortened 300 140\ncycle 2 phases 2\ntolerances 30 20 1\nfields 5 blocks 0 passed 0\noffered 0\nend none 0\ncycles 0\noutside 0\ndrawn 0\ntransfer before 0 after 0\nwhole 0\nrefused 10\n"
+    ∷ list (head 1 ++ field 8 (0 ∷ 0 ∷ 1 ∷ 44 ∷ 0 ∷ 140 ∷ []))
+    "1 0 mark\n2 7 vehicle LTESTVEH000000001\n3 27 cycle 2 phases 2\n4 39 tolerances 30 20 1\n5 48 stretches 300 140\n"
+    -- the second sample of a later block has a voltage above its limit, 15000: 58 × 256 + 153 = 15001
+    ∷ list (head 1 ++ own 0 (sample 100) ++ own 1 (sample 100 ++ 0 ∷ 100 ∷ 58 ∷ 153 ∷ 255 ∷ 136 ∷ []))
+    "1 0 mark\n2 7 vehicle LTESTVEH000000001\n3 27 cycle 2 phases 2\n4 39 tolerances 30 20 1\n5 48 own 0 1\n6 78 refused 5 sample 2 100 15001 -120\n"
+    ∷ trace (head 1 ++ own 1 (sample 100)) "refused 6 field 5\n"
+    ∷ list (head 1 ++ own 1 (sample 100))
+    "1 0 mark\n2 7 vehicle LTESTVEH000000001\n3 27 cycle 2 phases 2\n4 39 tolerances 30 20 1\n5 48 refused 6\n"
+    -- the input ends inside a field, and before the first
+    ∷ list (field 1 (spell "RUN1") ++ 2 ∷ 0 ∷ []) "1 0 mark\n2 7 refused 15\n"
+    ∷ list [] "1 0 refused 15\n"
+    -- four cycles: twice their own energy, and 600 - 100 - 120; in all 1,200, which is 600 × 2
+    ∷ weights 600 (100 ∷ 120 ∷ 130 ∷ 140 ∷ []) (200 ∷ 240 ∷ 380 ∷ 380 ∷ [])
+    ∷ []
+
+-- ---- what a row says
+
+same : List ℕ → List ℕ → Bool
+same u v = sameBytes (length u) u v && eqb (length u) (length v)
+
+unfoldable pub holds : Row → Bool
+unfolding same
+holds (list i text) = same (fieldsText i) (spell text)
+holds (trace i text) = same (traced i) (spell text)
+holds (weights E e w) = same (table (weightOf E (length e) (λ c. getD e c 0)) (length e)) w
