@@ -16,7 +16,7 @@ use Rattle.judge.proofs.Runs as runs
 use Rattle.intake.proofs.Told as intake
 use Rattle.walk.proofs.Printed as walk
 use Rattle.traced.proofs.Printed as traced
-use Rattle.laws.proofs.Weights.{weights-weigh, weights-add}
+use Rattle.laws.proofs.Weighing.{weighing-by-weights, weights-add-up}
 use Rattle.demands.proofs.Turns.{list-shows, last-line-prints}
 use Rattle.paperwhelk.proofs.Fitting.{at-front}
 use Rattle.demands.specs.Demand1.{Demand1}
@@ -92,7 +92,7 @@ demand-2 = record {
     fields-print = walk.fields-print lent;
     last-line-prints = last-line-prints;
   };
-  weights = record { weights-weigh = weights-weigh; weights-add = weights-add };
+  weights = record { weighing-by-weights = weighing-by-weights; weights-add-up = weights-add-up };
   from-c = from-c;
   not-claimed = not-claimed;
 }

@@ -81,5 +81,5 @@ pub record DeskPrints (lent : Lent) : Type 0 where
 
 -- "each finished cycle's weight as a fraction": the rates with these weights make the number of which W is the quotient, and the weights make its divisor
 pub record WeightsAreWs : Type 0 where
-  pub weights-weigh : (E n : ℕ) (e q : ℕ → ℕ) → 2 ≤ n → sum (λ c. q c * weightOf E n e c) n ≡ weighing E n e q
-  pub weights-add : (E n : ℕ) (e : ℕ → ℕ) → 2 ≤ n → e 0 + e 1 ≤ E → sum (weightOf E n e) n ≡ weight E n
+  pub weighing-by-weights : (E n : ℕ) (e : ℕ → ℕ) → e 0 + e 1 ≤ E → 2 ≤ n → (q : ℕ → ℕ) → weighing E n e q ≡ sum (λ c. weightOf E n e c * q c) n
+  pub weights-add-up : (E n : ℕ) (e : ℕ → ℕ) → e 0 + e 1 ≤ E → 2 ≤ n → sum (weightOf E n e) n ≡ weight E n

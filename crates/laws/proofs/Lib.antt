@@ -29,7 +29,6 @@ pub mod Closes
 pub mod RunNear
 pub mod Ended
 pub mod Traces
-pub mod Weights
 pub mod NineNumbers
 pub mod Samples
 pub mod Tags

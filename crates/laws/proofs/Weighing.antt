@@ -8,7 +8,7 @@ use borrow.Author.Tests.{le-ltb}
 use Rattle.rules.specs.Words.{fold, sum}
 use Rattle.numbers.proofs.Range.{fold-same, fold-split, sum-le, sum-ℕ}
 use Rattle.rules.specs.Closing.{weighing, weight, weighted}
-use Rattle.laws.specs.Beside.{weightOf}
+use Rattle.rules.specs.Trace.{weightOf}
 
 module _ (k a : ℕ) where
   -- the sum of the rates k q + a: k times the sum of q, and a for each
@@ -23,7 +23,7 @@ module _ (k a : ℕ) where
   terms m e₁ e₂ r q₁ q₂ s = omega arith
 
 -- the weights of the first two rates, beside the others' sum t
-two-first : (m e₁ e₂ r q₁ q₂ s t : ℕ) → t ≡ r * s + 0 * m → m * (q₁ * e₁ + q₂ * e₂) + r * s ≡ 0 + e₁ * m * q₁ + e₂ * m * q₂ + t
+two-first : (m e₁ e₂ r q₁ q₂ s t : ℕ) → t ≡ r * s + 0 * m → m * (q₁ * e₁ + q₂ * e₂) + r * s ≡ 0 + m * e₁ * q₁ + m * e₂ * q₂ + t
 two-first m e₁ e₂ r q₁ q₂ s t h = omega (arith, h)
 
 module _ (E n : ℕ) (e : ℕ → ℕ) (fits : e 0 + e 1 ≤ E) where

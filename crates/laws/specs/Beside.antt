@@ -2,8 +2,8 @@
 -- Assumes nothing.
 use mathlib.Core.Bool.{Bool, true, false, not, cond, _&&_}
 use mathlib.Core.List.{List}
-use Prim.Native.Nat.{ℕ, zero, suc, _+_, _-_, _*_}
-use lib.Dec.{leb, ltb, eqb}
+use Prim.Native.Nat.{ℕ, zero, suc, _+_, _*_}
+use lib.Dec.{leb, eqb}
 use lib.IntN.{ℤ, pos, negℤ}
 use Rattle.rules.specs.Words.{between}
 use Rattle.rules.specs.declared.End.{End}
@@ -91,10 +91,6 @@ mostWhole = mostTransfer + (mostCycles * (mostPhases * mostEnergy) + 2 * mostStr
 
 abbrev pub rates : (ℕ → ℕ) → (ℕ → ℕ) → ℕ → ℕ
 rates e d c = rate (e c) (d c)
-
--- "Weights by 000, formula 9: e_1/E, e_2/E, and (1 - K_1 - K_2)/(n-2) for the others": the weight of a cycle, over E (n-2)
-abbrev pub weightOf : ℕ → ℕ → (ℕ → ℕ) → ℕ → ℕ
-weightOf E n e c = cond (ltb c 2) (e c * (n - 2)) (E - e 0 - e 1)
 
 -- ---- fields
 

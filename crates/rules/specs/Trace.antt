@@ -166,7 +166,7 @@ sumText cycles outside drawn a whole =
 abbrev pub sumLines : Trace → List ℕ
 sumLines x = sumText (x .figures .cycles) (x .figures .outside) (x .figures .drawn) (x .amounts) (wholeIn x)
 
--- "each finished cycle's weight as a fraction, NUM over DEN = E (n-2)": of E, n and the energies, by which `weighing` weighs
+-- "Weights by 000, formula 9: e_1/E, e_2/E, and (1 - K_1 - K_2)/(n-2) for the others", "as a fraction, NUM over DEN = E (n-2)"
 abbrev pub weightOf : ℕ → ℕ → (ℕ → ℕ) → ℕ → ℕ
 weightOf E n e c = cond (ltb c 2) ((n - 2) * e c) (E - e 0 - e 1)
 
