@@ -124,6 +124,8 @@ There is a record for every refusal that a record can bring, but for 7: that tak
 
     python3 .ci/card/examples.py refused-7 | bin/paperwhelk sheet
 
+So does `trace`. The last line of `fields` is `20005 24480048 refused 7`: four fields of 48 bytes in all, and 20,000 blocks of 3 + 21 + 200 x 6 = 1,224 bytes.
+
 Refusal 1 is for lent memory and state, which no record reaches; the program `refusals` runs it (`crates/refusals/stdout`).
 
 | record | what it shows |

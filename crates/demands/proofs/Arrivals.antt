@@ -15,7 +15,6 @@ use Rattle.desk.proofs.feed
 use Rattle.prints.specs.Printed.{nextField, refuseText, closeText}
 use Rattle.prints.proofs.Texts.{text-is, desk-refused}
 use Rattle.prints.proofs.Printing as printing
-use Rattle.prints.proofs.refuse
 use Rattle.prints.proofs.close
 use Rattle.demands.specs.Calls.{FeedCall, CloseCall}
 use Rattle.demands.specs.Demand2.{Prints, BeforeAll}

@@ -17,7 +17,6 @@ use Rattle.intake.proofs.Told as intake
 use Rattle.walk.proofs.Printed as walk
 use Rattle.traced.proofs.Printed as traced
 use Rattle.laws.proofs.Weighing.{weighing-by-weights, weights-add-up}
-use Rattle.demands.proofs.Turns.{list-shows, last-line-prints}
 use Rattle.paperwhelk.proofs.Fitting.{at-front}
 use Rattle.demands.specs.Demand1.{Demand1}
 use Rattle.demands.specs.Demand2.{Demand2, RunHolds}
@@ -88,9 +87,9 @@ demand-2 = record {
   };
   desk = λ lent. record {
     trace-record-prints = traced.trace-record-prints lent;
-    list-shows = list-shows lent;
-    fields-print = walk.fields-print lent;
-    last-line-prints = last-line-prints;
+    list-record-prints = walk.list-record-prints lent;
+    list-record-counts = λ c. c .sent;
+    short-list-prints = walk.short-list-prints;
   };
   weights = record { weighing-by-weights = weighing-by-weights; weights-add-up = weights-add-up };
   from-c = from-c;

@@ -33,7 +33,6 @@ pub mod ForeignBlocks
 pub mod TextLines
 pub mod PrintsNear
 pub mod Arrivals
-pub mod Turns
 pub mod SomeRecord
 pub mod WiderRuns
 pub mod Records

@@ -31,6 +31,7 @@ pub mod OfPrints
 pub mod OfTracing
 pub mod OfIntake
 pub mod OfWalk
+pub mod OfTraced
 pub mod OfPaperwhelk
 
 pub left-by : {T : Ended} {P : Promise T} (c : Call T P) {w : Lasts T (c .κs) (c .args)} → c .lasts ≡ w → left c ≡ atExit T (c .κs) (c .args) w

@@ -20,6 +20,10 @@ use Rattle.desk.proofs.desk_refusal
 use Rattle.desk.proofs.feed
 use Rattle.prints.proofs.refuse
 use Rattle.prints.proofs.close
+use Rattle.tracing.proofs.trace_close
+use Rattle.intake.proofs.take_record
+use Rattle.traced.proofs.trace_record
+use Rattle.walk.proofs.whole.list_record
 use Rattle.paperwhelk.proofs.verdict.paperwhelk_verdict
 use Rattle.paperwhelk.proofs.sheets.paperwhelk_sheet
 use Rattle.demands.specs.Demand1.{TakesEveryInput}
@@ -30,6 +34,10 @@ use Rattle.demands.proofs.NoDoubt.OfFigures as ofFigures
 use Rattle.demands.proofs.NoDoubt.OfSheet as ofSheet
 use Rattle.demands.proofs.NoDoubt.OfDesk as ofDesk
 use Rattle.demands.proofs.NoDoubt.OfPrints as ofPrints
+use Rattle.demands.proofs.NoDoubt.OfTracing as ofTracing
+use Rattle.demands.proofs.NoDoubt.OfIntake as ofIntake
+use Rattle.demands.proofs.NoDoubt.OfTraced as ofTraced
+use Rattle.demands.proofs.NoDoubt.OfWalk as ofWalk
 use Rattle.demands.proofs.NoDoubt.OfPaperwhelk as ofPaperwhelk
 
 pub takes-every-input : {M : Type 1} → TakesEveryInput M
@@ -54,6 +62,10 @@ takes-every-input = record {
   feed-takes-every-input = (feed.Met.met, ofDesk.feed-asks-nothing);
   refuse-takes-every-input = (refuse.Met.met, ofPrints.refuse-asks-nothing);
   close-takes-every-input = (close.Met.met, ofPrints.close-asks-nothing);
+  trace-close-takes-every-input = (trace_close.Met.met, ofTracing.trace-close-asks-nothing);
+  take-record-takes-every-input = (take_record.Met.met, ofIntake.take-record-asks-nothing);
+  trace-record-takes-every-input = (trace_record.Met.met, ofTraced.trace-record-asks-nothing);
+  list-record-takes-every-input = (list_record.Met.met, ofWalk.list-record-asks-nothing);
   verdict-takes-every-input = (paperwhelk_verdict.Met.met, ofPaperwhelk.paperwhelk-verdict-asks-nothing);
   sheet-takes-every-input = (paperwhelk_sheet.Met.met, ofPaperwhelk.paperwhelk-sheet-asks-nothing);
 }

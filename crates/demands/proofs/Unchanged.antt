@@ -5,6 +5,7 @@ use mathlib.Core.List.{List}
 use mathlib.Core.Path.{_≡_, sym, ap, subst, _∙_}
 use Prim.Native.Nat.{ℕ, _+_, _<_}
 use native.Mathlib.Nat.{zero-add}
+use borrow.Author.Tests.{lt-leb}
 use lib.Dec.{leb}
 use lib.ListN.{length, take, drop}
 use lib.Seq.{drop-append-seam}
@@ -14,7 +15,7 @@ use Rattle.rules.specs.Record.{sheetOf}
 use Rattle.rules.specs.Text.{printed}
 use Rattle.judge.specs.declared.Answer.the-variants.{Refused}
 use Rattle.state.specs.State.{Left}
-use Rattle.numbers.proofs.Tests.{settled-refused}
+use Rattle.numbers.proofs.Tests.{stop, settled-refused}
 use Rattle.judge.proofs.Promises as judge
 use Rattle.opening.specs.declared.OpenStep.the-variants as opening
 use Rattle.reading.specs.declared.Step.the-variants as step
@@ -26,7 +27,7 @@ use Rattle.reading.specs.Answers.{stepSaid, ReadSaid, AllSaid}
 use Rattle.reader.specs.Answers.{allLeft}
 use Rattle.reader.proofs.Unchanged.{OpenStays, open-stays, ReadStays, read-stays, none-read, read-alone}
 use Rattle.sheet.specs.Overlaid.{overlaid, mostSheet}
-use Rattle.sheet.proofs.Overlaid.{too-short}
+use Rattle.tracing.specs.Traced.{mostTrace}
 use Rattle.figures.specs.declared.Found.{Found}
 use Rattle.figures.specs.Figured.{blank as noFigures}
 use Rattle.desk.specs.Feeding.{Laid, Consumed, laidOf, feedOf}
@@ -109,14 +110,14 @@ beyond-text text out true v =
 beyond-text text out false v = ap (drop (length text)) v
 
 -- r is the result, and o are the lines then
-module _ (text out : List ℕ) {r : ℕ} {o : List ℕ}
-    (p : r ≡ unless 0 (leb mostSheet (length out)) (length text)) (q : o ≡ unless out (leb mostSheet (length out)) (overlaid out 0 text)) where
-  short : length out < mostSheet → (r ≡ 0) × (o ≡ out)
-  short h = let s = too-short out text h in (p ∙ sym (s .0), q ∙ sym (s .1))
+module _ (n : ℕ) (text out : List ℕ) {r : ℕ} {o : List ℕ}
+    (p : r ≡ unless 0 (leb n (length out)) (length text)) (q : o ≡ unless out (leb n (length out)) (overlaid out 0 text)) where
+  short : length out < n → (r ≡ 0) × (o ≡ out)
+  short h = let t = lt-leb n (length out) h in (p ∙ sym (stop (length text) t), q ∙ sym (stop (overlaid out 0 text) t))
 
   beyond : drop r o ≡ drop r out
   unfolding unless
-  beyond = go (leb mostSheet (length out)) p q
+  beyond = go (leb n (length out)) p q
     where
       go : (t : Bool) → r ≡ unless 0 t (length text) → o ≡ unless out t (overlaid out 0 text) → drop r o ≡ drop r out
       go true u v = ap (λ (k : ℕ). drop k o) u ∙ beyond-text text out true v ∙ ap (λ (k : ℕ). drop k out) (sym u)
@@ -124,14 +125,16 @@ module _ (text out : List ℕ) {r : ℕ} {o : List ℕ}
 
 pub lines-stay : LinesStay
 lines-stay = record {
-  sheet-lines-short-changes-nothing = λ c h. let s = short _ _ (c .kept .0) (c .kept .1) h in (s .0, left-by c (λ i. (tt, (s .1 i, tt))));
-  sheet-lines-beyond-stays = λ c. beyond _ _ (c .kept .0) (c .kept .1);
-  refusal-line-short-changes-nothing = λ c h. let s = short _ _ (c .kept .0) (c .kept .1) h in (s .0, left-by c (λ i. (tt, (tt, (s .1 i, tt)))));
-  refusal-line-beyond-stays = λ c. beyond _ _ (c .kept .0) (c .kept .1);
-  refuse-short-changes-nothing = λ c h. let s = short _ _ (c .kept .0) (c .kept .1) h in (s .0, left-by c (λ i. (tt, (tt, (s .1 i, tt)))));
-  refuse-beyond-stays = λ c. beyond _ _ (c .kept .0) (c .kept .1);
-  close-short-changes-nothing = λ c h. let s = short _ _ (c .kept .0) (c .kept .1) h in (s .0, left-by c (λ i. (tt, (tt, (tt, (tt, (tt, (s .1 i, tt))))))));
-  close-beyond-stays = λ c. beyond _ _ (c .kept .0) (c .kept .1);
+  sheet-lines-short-changes-nothing = λ c h. let s = short mostSheet _ _ (c .kept .0) (c .kept .1) h in (s .0, left-by c (λ i. (tt, (s .1 i, tt))));
+  sheet-lines-beyond-stays = λ c. beyond mostSheet _ _ (c .kept .0) (c .kept .1);
+  refusal-line-short-changes-nothing = λ c h. let s = short mostSheet _ _ (c .kept .0) (c .kept .1) h in (s .0, left-by c (λ i. (tt, (tt, (s .1 i, tt)))));
+  refusal-line-beyond-stays = λ c. beyond mostSheet _ _ (c .kept .0) (c .kept .1);
+  refuse-short-changes-nothing = λ c h. let s = short mostSheet _ _ (c .kept .0) (c .kept .1) h in (s .0, left-by c (λ i. (tt, (tt, (s .1 i, tt)))));
+  refuse-beyond-stays = λ c. beyond mostSheet _ _ (c .kept .0) (c .kept .1);
+  close-short-changes-nothing = λ c h. let s = short mostSheet _ _ (c .kept .0) (c .kept .1) h in (s .0, left-by c (λ i. (tt, (tt, (tt, (tt, (tt, (s .1 i, tt))))))));
+  close-beyond-stays = λ c. beyond mostSheet _ _ (c .kept .0) (c .kept .1);
+  trace-close-short-changes-nothing = λ c h. let s = short mostTrace _ _ (c .kept .0) (c .kept .1) h in (s .0, left-by c (λ i. (tt, (tt, (tt, (tt, (tt, (tt, (s .1 i, tt)))))))));
+  trace-close-beyond-stays = λ c. beyond mostTrace _ _ (c .kept .0) (c .kept .1);
   sheet-short-changes-nothing = λ c h.
       let s = does-not-fit (printed (sheetOf (now (c .args .0)))) (now (c .args .1 .0)) h in
       (c .kept .0 ∙ sym (s .0), left-by c (λ i. (tt, ((c .kept .1 .0 ∙ sym (s .1)) i, tt))));

@@ -22,8 +22,7 @@ use Rattle.figures.proofs.figures_of
 use Rattle.sheet.proofs.sheet_lines
 use Rattle.sheet.proofs.refusal_line
 use Rattle.desk.proofs.feed
-use Rattle.walk.proofs.walk_on
-use Rattle.walk.proofs.last_line
+use Rattle.tracing.proofs.trace_close
 use Rattle.prints.proofs.close
 use Rattle.prints.proofs.refuse
 use Rattle.paperwhelk.proofs.verdict.paperwhelk_verdict
@@ -111,18 +110,14 @@ RefusalCall = Call refusal_line.ended refusal_line.Reads.Learnt
 abbrev pub FeedCall : Type 0
 FeedCall = Call feed.ended feed.Reads.Learnt
 
--- one turn of a record that is listed, and its last line
-abbrev pub WalkCall : Type 0
-WalkCall = Call walk_on.ended walk_on.Reads.Learnt
-
-abbrev pub LastCall : Type 0
-LastCall = Call last_line.ended last_line.Reads.Learnt
-
 abbrev pub CloseCall : Type 0
 CloseCall = Call close.ended close.Reads.Learnt
 
 abbrev pub RefuseCall : Type 0
 RefuseCall = Call refuse.ended refuse.Reads.Learnt
+
+abbrev pub TraceCall : Type 0
+TraceCall = Call trace_close.ended trace_close.Reads.Learnt
 
 abbrev pub VerdictCall : Type 0
 VerdictCall = Call paperwhelk_verdict.ended paperwhelk_verdict.Reads.Learnt

@@ -36,6 +36,7 @@ use Rattle.reader.specs.Answers.{endingSaid}
 use Rattle.desk.specs.declared.Outcome.the-variants as outcome
 use Rattle.figures.specs.Figured.{blank as noFigures}
 use Rattle.sheet.specs.Overlaid.{mostSheet}
+use Rattle.tracing.specs.Traced.{mostTrace}
 use Rattle.judge.proofs.start
 use Rattle.judge.proofs.sample
 use Rattle.judge.proofs.block
@@ -56,11 +57,16 @@ use Rattle.desk.proofs.desk_refusal
 use Rattle.desk.proofs.feed
 use Rattle.prints.proofs.refuse
 use Rattle.prints.proofs.close
+use Rattle.tracing.proofs.trace_close
+use Rattle.intake.proofs.take_record
+use Rattle.traced.proofs.trace_record
+use Rattle.walk.proofs.whole.list_record
 use Rattle.paperwhelk.proofs.verdict.paperwhelk_verdict
 use Rattle.paperwhelk.proofs.sheets.paperwhelk_sheet
 use Rattle.demands.specs.Calls.{AsksNothing, left, StartCall, SampleCall, BlockCall, ShownCall, TotalsCall, ClosingCall}
 use Rattle.demands.specs.Calls.{FrontCall, ContentCall, OpenCall, ReadCall, AllCall, EndedCall, FiguresCall}
-use Rattle.demands.specs.Calls.{SheetCall, RefusalCall, FeedCall, CloseCall, RefuseCall, RecordSheetCall, startLent, startLeaves, sampleLent, sampleLeaves}
+use Rattle.demands.specs.Calls.{SheetCall, RefusalCall, FeedCall, CloseCall, RefuseCall, TraceCall, RecordSheetCall}
+use Rattle.demands.specs.Calls.{startLent, startLeaves, sampleLent, sampleLeaves}
 use Rattle.demands.specs.Calls.{blockLent, blockLeaves, openLent, openLeaves, readLent, readLeaves, allLent, allLeaves, feedLent, feedLeaves}
 use Rattle.demands.specs.Calls.{OpenStayed, ReadStayed, AllStayed, FeedStayed}
 use Rattle.demands.specs.Runs.{Beyond, Shorter}
@@ -91,6 +97,10 @@ pub record TakesEveryInput (M : Type 1) : Type 2 where
   pub feed-takes-every-input : feed.Statement.statement M × AsksNothing feed.ended feed.Reads.Asked
   pub refuse-takes-every-input : refuse.Statement.statement M × AsksNothing refuse.ended refuse.Reads.Asked
   pub close-takes-every-input : close.Statement.statement M × AsksNothing close.ended close.Reads.Asked
+  pub trace-close-takes-every-input : trace_close.Statement.statement M × AsksNothing trace_close.ended trace_close.Reads.Asked
+  pub take-record-takes-every-input : take_record.Statement.statement M × AsksNothing take_record.ended take_record.Reads.Asked
+  pub trace-record-takes-every-input : trace_record.Statement.statement M × AsksNothing trace_record.ended trace_record.Reads.Asked
+  pub list-record-takes-every-input : list_record.Statement.statement M × AsksNothing list_record.ended list_record.Reads.Asked
   pub verdict-takes-every-input : paperwhelk_verdict.Statement.statement M × AsksNothing paperwhelk_verdict.ended paperwhelk_verdict.Reads.Asked
   pub sheet-takes-every-input : paperwhelk_sheet.Statement.statement M × AsksNothing paperwhelk_sheet.ended paperwhelk_sheet.Reads.Asked
 
@@ -189,6 +199,8 @@ pub record LinesStay : Type 0 where
   pub refuse-beyond-stays : (c : RefuseCall) → drop (c .answer) (c .lasts .1 .1 .0) ≡ drop (c .answer) (now (c .args .1 .1 .0))
   pub close-short-changes-nothing : (c : CloseCall) → length (now (c .args .1 .1 .1 .1 .1 .0)) < mostSheet → (c .answer ≡ 0) × (left c ≡ c .args)
   pub close-beyond-stays : (c : CloseCall) → drop (c .answer) (c .lasts .1 .1 .1 .1 .1 .0) ≡ drop (c .answer) (now (c .args .1 .1 .1 .1 .1 .0))
+  pub trace-close-short-changes-nothing : (c : TraceCall) → length (now (c .args .1 .1 .1 .1 .1 .1 .0)) < mostTrace → (c .answer ≡ 0) × (left c ≡ c .args)
+  pub trace-close-beyond-stays : (c : TraceCall) → drop (c .answer) (c .lasts .1 .1 .1 .1 .1 .1 .0) ≡ drop (c .answer) (now (c .args .1 .1 .1 .1 .1 .1 .0))
   -- from C: bytes that are fewer than the sheet has stay as they were, and the answer is minus 16
   pub sheet-short-changes-nothing : (c : RecordSheetCall) → length (now (c .args .1 .0)) < length (printed (sheetOf (now (c .args .0))))
       → (c .answer ≡ minus 16) × (left c ≡ c .args)

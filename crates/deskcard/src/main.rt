@@ -10,11 +10,8 @@ use rules::limits::LEDGER_NUMBERS;
 use rules::limits::MAP_WORDS;
 use rules::limits::MOST_BYTES;
 use traced::trace_record;
+use walk::whole::MOST_LINES;
 use walk::whole::list_record;
-ghost use Prim.Native.Nat.{_≤_};
-ghost use lib.ListN.{length};
-ghost use Rattle.desk.specs.Feeding.{longest};
-ghost use Rattle.walk.specs.Walks.{mostLines};
 
 // How many bytes the next record has; more than any where there is none.
 fn next_length() -> u64 {
@@ -33,9 +30,7 @@ fn next_trace(
     ledger: &mut [i64],
     map: &mut [u64],
     lines: &mut [u8],
-) -> bool
-    requires { ⌜ (longest ≤ length (now buffer)) × (mostLines (length (now buffer)) ≤ length (now lines)) ⌝ }
-{
+) -> bool {
     let x = trace_record(
         most,
         &mut *buffer,
@@ -60,9 +55,7 @@ fn next_list(
     ledger: &mut [i64],
     map: &mut [u64],
     lines: &mut [u8],
-) -> bool
-    requires { ⌜ (longest ≤ length (now buffer)) × (mostLines (length (now buffer)) ≤ length (now lines)) ⌝ }
-{
+) -> bool {
     let x = list_record(
         most,
         &mut *buffer,
@@ -76,7 +69,7 @@ fn next_list(
         tell(b"deskcard: the input could not be read\n");
         return false;
     }
-    !x.lost
+    !x.lost && print(&lines[..], x.printed)
 }
 
 // The one or the other, by the letter.
@@ -88,9 +81,7 @@ fn next_text(
     ledger: &mut [i64],
     map: &mut [u64],
     lines: &mut [u8],
-) -> bool
-    requires { ⌜ (longest ≤ length (now buffer)) × (mostLines (length (now buffer)) ≤ length (now lines)) ⌝ }
-{
+) -> bool {
     if letter == b't' {
         return next_trace(
             most,
@@ -119,9 +110,7 @@ fn next_record(
     ledger: &mut [i64],
     map: &mut [u64],
     lines: &mut [u8],
-) -> bool
-    requires { ⌜ (longest ≤ length (now buffer)) × (mostLines (length (now buffer)) ≤ length (now lines)) ⌝ }
-{
+) -> bool {
     let most = next_length();
     if 4_294_967_295 < most {
         return false;
@@ -150,9 +139,7 @@ fn all_records(
     ledger: &mut [i64],
     map: &mut [u64],
     lines: &mut [u8],
-)
-    requires { ⌜ (longest ≤ length (now buffer)) × (mostLines (length (now buffer)) ≤ length (now lines)) ⌝ }
-{
+) {
     let mut turns: u64 = 18_446_744_073_709_551_615;
     while turns > 0 {
         if !next_record(
@@ -175,7 +162,7 @@ fn main() {
     let mut room = [0u8; MOST_BYTES];
     let mut ledger = [0i64; LEDGER_NUMBERS];
     let mut map = [0u64; MAP_WORDS];
-    let mut lines = [0u8; 267_850];
+    let mut lines = [0u8; MOST_LINES];
     if !fill_whole(&mut letter[..]) {
         tell(b"deskcard: there is no letter\n");
         return;

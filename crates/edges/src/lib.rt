@@ -126,37 +126,46 @@ fn put_some(fd: i32, text: &[u8]) -> Got
     Got::Failed
 }
 
-// Writes all of the text; false where the system took no more of it.
-fn put(fd: i32, text: &[u8]) -> bool {
+// Writes the text: how many of its bytes the system took, all of them or those before it took no more.
+fn put(fd: i32, text: &[u8]) -> usize
+    ensures { λ r. ⌜ r ≤ length (now (text .entry)) ⌝ }
+{
     let mut from = 0;
     while from < text.len() {
         let got = put_some(fd, &text[from..]);
         let Got::Bytes(n) = got else {
-            return false;
+            return from;
         };
         from += n;
     }
-    true
+    from
 }
 
 // The text goes to standard output: whether all of it did.
 pub fn say(text: &[u8]) -> bool {
-    put(output(), text)
+    put(output(), text) == text.len()
 }
 
-// The first bytes of the lines, so many of them, go to standard output: whether all did.
+// The first bytes of the lines, so many of them, go to standard output: how many did; none where there are not so many.
+pub fn send(lines: &[u8], n: usize) -> usize
+    ensures { λ r. ⌜ (r ≤ n) × (r ≤ length (now (lines .entry))) ⌝ }
+{
+    if lines.len() < n {
+        return 0;
+    }
+    put(output(), &lines[..n])
+}
+
+// The same: whether all did.
 pub fn print(lines: &[u8], n: usize) -> bool
     ensures { λ r. ⌜ (r ≡ true → n ≤ length (now (lines .entry))) ⌝ }
 {
-    if lines.len() < n {
-        return false;
-    }
-    say(&lines[..n])
+    send(lines, n) == n
 }
 
 // The text goes to standard error: whether all of it did.
 pub fn tell(text: &[u8]) -> bool {
-    put(messages(), text)
+    put(messages(), text) == text.len()
 }
 
 // A number goes to standard output, by its digits: whether all of them did.

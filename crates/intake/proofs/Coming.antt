@@ -9,32 +9,26 @@ use native.Mathlib.Nat.{zero-add}
 use native.Mathlib.Omega.{arith}
 use types.Run.{OneOf}
 use denote.Enum.Declared.{tagOf}
-use lib.Dec.{leb, eqb}
+use lib.Dec.{eqb}
 use lib.IntN.{ℤ}
 use lib.ListN.{length, take, drop, length-append, length-drop}
 use lib.Seq.{paste, take-add, take-paste, take-at, length-take-le, drop-at}
-use Rattle.rules.specs.Words.{unless}
 use Rattle.rules.specs.Table.{tags}
 use Rattle.rules.specs.Machine.{Ran}
 use Rattle.laws.proofs.Cuts.{used-most}
 use Rattle.laws.proofs.Prefixes.{no-bytes, accepted-alone}
 use Rattle.records.specs.Stage.{Stage, takeOn, runOn}
 use Rattle.laws.specs.Answers.{Said, gives, refuses}
-use Rattle.sheet.specs.Overlaid.{overlaid, mostSheet}
 use Rattle.edges.specs.declared.Got.{Got}
 use Rattle.edges.specs.declared.Got.the-variants as got
 use Rattle.edges.specs.Answers.{Within}
 use Rattle.edges.proofs.Got.{the-type as got-type}
 use Rattle.desk.specs.declared.Desk.{Desk}
 use Rattle.desk.specs.Feeding.{wanted, Laid, Consumed, laidOf, emptyDesk, stageOn, fedBy, stops, deskGround, feedOf, longest}
-use Rattle.prints.specs.Printed.{Prints, refuseText}
-use Rattle.prints.proofs.Texts.{as-text}
-use Rattle.intake.specs.declared.Intake.{Intake}
 use Rattle.intake.specs.declared.Turn.{Turn}
 use Rattle.intake.specs.declared.Turned.{Turned}
-use Rattle.intake.proofs.Turned.{the-type as turned}
 use Rattle.intake.specs.declared.Turned.the-variants.{On, Ended, Failed, Refused}
-use Rattle.intake.specs.Turns.{turnedBy, isOn, isFailed, Goes, Came, none, part, turnedSaid, Round, roundOf, roundAfter, stoppedAt, roundBy, goingOn, Stood, WholeFields, Led, textOf, turnText, intakeOf, linesOf, Recorded, Unread}
+use Rattle.intake.specs.Turns.{turnedBy, isOn, Goes, Came, none, part, turnedSaid, Round, roundOf, roundAfter, stoppedAt, roundBy, goingOn, Stood, WholeFields, Led}
 use Rattle.desk.proofs.LeftOver.{feed-used, feed-short}
 
 -- what the desk takes is whole fields; no bytes are
@@ -258,58 +252,3 @@ all-came x₀ most desk used held left b room l m e s = record {
   held = s .held;
   all = ap (λ (n : ℕ). length (s .bytes) + n) (sym e) ∙ s .all;
 }
-
--- ---- a whole record
-module _ (x₀ : Laid) (most : ℕ) (out : List ℕ) (t : Turn) (b room : List ℕ) (l : List ℤ) (m : List ℕ) (s : Stood x₀ most (roundOf t b room l m)) where
-  abbrev x : Laid
-  x = laidOf (t .desk) room l m
-
-  -- what is printed with the bytes held is what is printed with the rest
-  same-text : textOf (turnedSaid (t .turned)) x (t .held) ≡ textOf (turnedSaid (t .turned)) x (length (s .rest))
-  same-text = ap (textOf (turnedSaid (t .turned)) x) (sym (s .held .1))
-
-  -- what is answered of it
-  pub recorded : {r : Intake} {after : List ℕ} → r ≡ intakeOf t x out → after ≡ linesOf t x out → Recorded x₀ most out r room l m after
-  recorded {after = after} p q =
-      subst⁻¹ (λ (r : Intake). Recorded x₀ most out r room l m after) p
-      (record {
-        desk = t .desk;
-        bytes = s .bytes;
-        rest = s .rest;
-        outcome = turnedSaid (t .turned);
-        came = s .came;
-        all = s .all;
-        printed = ap (λ (text : List ℕ). cond (isFailed (t .turned)) 0 (unless 0 (leb mostSheet (length out)) (length text))) same-text;
-        lines = q ∙ ap (λ (text : List ℕ). cond (isFailed (t .turned)) out (unless out (leb mostSheet (length out)) (overlaid out 0 text))) same-text;
-      })
-
--- what is answered of a turn, where reading failed and where it did not
-pub not-printed : (t : Turn) (x : Laid) (out : List ℕ) → isFailed (t .turned) ≡ true
-    → (_≡_ {A = Intake} (record { printed = 0; left = t .left; failed = true }) (intakeOf t x out)) × (out ≡ linesOf t x out)
-not-printed t x out e = (
-  (λ i. record { printed = cond (sym e i) 0 (unless 0 (leb mostSheet (length out)) (length (turnText t x))); left = t .left; failed = sym e i }),
-  (λ i. cond (sym e i) out (unless out (leb mostSheet (length out)) (overlaid out 0 (turnText t x)))),
-)
-
-pub printed-of : (t : Turn) (x : Laid) (out : List ℕ) → isFailed (t .turned) ≡ false → {n : ℕ} {after : List ℕ} → Prints (turnText t x) out n after
-    → (_≡_ {A = Intake} (record { printed = n; left = t .left; failed = false }) (intakeOf t x out)) × (after ≡ linesOf t x out)
-printed-of t x out e p = (
-  (λ i. record { printed = p .0 i; left = t .left; failed = false })
-      ∙ (λ i. record { printed = cond (sym e i) 0 (unless 0 (leb mostSheet (length out)) (length (turnText t x))); left = t .left; failed = sym e i }),
-  p .1 ∙ (λ i. cond (sym e i) out (unless out (leb mostSheet (length out)) (overlaid out 0 (turnText t x)))),
-)
-
--- no field was refused
-pub not-refused : (z : Turned) → OneOf (0 ∷ 1 ∷ 2 ∷ []) (tagOf turned z) → turnedSaid z ≡ wanted
-not-refused On h = refl
-not-refused Ended h = refl
-not-refused Failed h = refl
-not-refused (Refused k) h = absurd (⊎-elim (λ e. omega arith) (⊎-elim (λ e. omega arith) (λ e. omega arith)) h)
-
--- nothing was read
-pub not-read : (most : ℕ) (out : List ℕ) (desk : Desk) (room : List ℕ) (l : List ℤ) (m : List ℕ) → desk ≡ emptyDesk → {n : ℕ} {after : List ℕ}
-    → Prints (refuseText (laidOf desk room l m) 1) out n after
-    → Unread (laidOf emptyDesk room l m) most out (record { printed = n; left = most; failed = false }) room l m after
-not-read most out desk room l m e p =
-    let q = as-text out (ap (λ (d : Desk). refuseText (laidOf d room l m) 1) e) p in
-    record { memory = refl; left = refl; failed = refl; printed = q .0; lines = q .1 }

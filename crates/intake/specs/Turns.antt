@@ -148,19 +148,27 @@ abbrev pub textOf : Said (Unit {0}) → Laid → ℕ → List ℕ
 textOf (gives _) x left = closeText x left
 textOf (refuses k) x left = refuseText x k
 
--- what is answered of the last turn t, on its memory x with the lines out, and what the lines then are: nothing is printed where reading failed
-abbrev pub turnText : Turn → Laid → List ℕ
-turnText t x = textOf (turnedSaid (t .turned)) x (t .held)
-
-abbrev pub intakeOf : Turn → Laid → List ℕ → Intake
-intakeOf t x out = record {
-  printed = cond (isFailed (t .turned)) 0 (unless 0 (leb mostSheet (length out)) (length (turnText t x)));
+-- what is answered of the last turn t with this text and the lines out, which have to be n bytes long, and what the lines then are: nothing is printed where
+-- reading failed
+abbrev pub answered : ℕ → Turn → List ℕ → List ℕ → Intake
+answered n t text out = record {
+  printed = cond (isFailed (t .turned)) 0 (unless 0 (leb n (length out)) (length text));
   left = t .left;
   failed = isFailed (t .turned);
 }
 
+abbrev pub linesAfter : ℕ → Turn → List ℕ → List ℕ → List ℕ
+linesAfter n t text out = cond (isFailed (t .turned)) out (unless out (leb n (length out)) (overlaid out 0 text))
+
+-- the sheet, or the line of a refused field, of the turn on its memory x
+abbrev pub turnText : Turn → Laid → List ℕ
+turnText t x = textOf (turnedSaid (t .turned)) x (t .held)
+
+abbrev pub intakeOf : Turn → Laid → List ℕ → Intake
+intakeOf t x out = answered mostSheet t (turnText t x) out
+
 abbrev pub linesOf : Turn → Laid → List ℕ → List ℕ
-linesOf t x out = cond (isFailed (t .turned)) out (unless out (leb mostSheet (length out)) (overlaid out 0 (turnText t x)))
+linesOf t x out = linesAfter mostSheet t (turnText t x) out
 
 -- a record of at most so many bytes was read and printed to the lines out. Which bytes came, and in which parts, is the file's; all else follows from them
 pub record Recorded (x₀ : Laid) (most : ℕ) (out : List ℕ) (r : Intake) (room : List ℕ) (ledger : List ℤ) (map after : List ℕ) : Type 0 where

@@ -20,7 +20,7 @@ ghost use Rattle.prints.specs.Printed.{Prints};
 ghost use Rattle.intake.specs.Turns.{turnText, intakeOf, linesOf, Recorded, Unread};
 
 // The buffer holds the longest field: tag, length and the longest cycle.
-const LONGEST: usize = 3 + MOST_BYTES;
+pub const LONGEST: usize = 3 + MOST_BYTES;
 
 // What became of a turn: bytes were taken, the input ended, reading failed, or a field was refused.
 pub enum Turned {

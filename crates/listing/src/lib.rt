@@ -1,6 +1,7 @@
 // The field list: a line for each field, with its number and the byte at which it begins, and a line for what is refused.
 mod held;
 pub mod lines;
+pub mod passing;
 pub mod refused;
 mod spots;
 
@@ -20,6 +21,12 @@ ghost use Rattle.rules.specs.Front.{frontOf};
 ghost use Rattle.rules.specs.Listing.{numbered, fieldText, spotAfter, listFrom};
 ghost use Rattle.sheet.specs.Overlaid.{Wrote};
 ghost use Rattle.listing.specs.Lines.{perByte, mostLine, Counts, frontUsed, frontSpot, frontText};
+
+// No line is longer.
+pub const MOST_LINE: usize = 165;
+
+// As a field has three bytes or more, no more bytes of lines come of a byte.
+pub const PER_BYTE: usize = 55;
 
 // Where the list stands after some fields, the place behind their lines, and how many bytes they take.
 pub struct Listing {

@@ -16,11 +16,15 @@ use Rattle.reading.specs.declared.Reading.{Reading}
 use Rattle.figures.specs.Figured.{figuresOf}
 use Rattle.desk.specs.Feeding.{Laid, deskGround}
 
--- the text stands at the front of the lines out, where they are long enough, and r is its length
+-- the text stands at the front of the lines out, where they have n bytes or more, and r is its length
+abbrev pub PrintsIn : ℕ → List ℕ → List ℕ → ℕ → List ℕ → Type 0
+PrintsIn n text out r after =
+    (r ≡ unless 0 (leb n (length out)) (length text))
+    × (after ≡ unless out (leb n (length out)) (overlaid out 0 text))
+
+-- a sheet, or the line of a refusal
 abbrev pub Prints : List ℕ → List ℕ → ℕ → List ℕ → Type 0
-Prints text out r after =
-    (r ≡ unless 0 (leb mostSheet (length out)) (length text))
-    × (after ≡ unless out (leb mostSheet (length out)) (overlaid out 0 text))
+Prints = PrintsIn mostSheet
 
 -- "K is the number of accepted fields, passed-over ones among them, plus one": as far as 64 bits go
 abbrev pub nextField : ℕ → ℕ

@@ -7,13 +7,14 @@ use Prim.Native.String.{String}
 use lib.Dec.{eqb}
 use lib.ListN.{length, getD}
 use Rattle.rules.specs.Words.{table, sameBytes, spell}
+use Rattle.rules.specs.Text.{ended}
 use Rattle.rules.specs.Listing.{fieldsText}
 use Rattle.rules.specs.Trace.{traced, weightOf}
 
 pub data Row : Type 0 where
-  -- the bytes of a record, and what is printed of it
-  list : List ℕ → String → Row
-  trace : List ℕ → String → Row
+  -- the bytes of a record, and the lines that are printed of it
+  list : List ℕ → List String → Row
+  trace : List ℕ → List String → Row
   -- E, the energies of the finished cycles, and the weight of each
   weights : ℕ → List ℕ → List ℕ → Row
 
@@ -61,30 +62,116 @@ unfoldable pub rows : List Row
 unfolding head sample block own before after recharge mixed
 rows =
     list mixed
-    "1 0 mark\n2 7 vehicle LTESTVEH000000001\n3 27 cycle 2 phases 2\n4 39 tolerances 30 20 1\n5 48 before 7\n6 60 own 0 2\n7 96 other LTESTVEH000000002\n8 126 own 2 1\n9 156 after -3\n10 168 recharge 15\n"
+    ("1 0 mark"
+    ∷ "2 7 vehicle LTESTVEH000000001"
+    ∷ "3 27 cycle 2 phases 2"
+    ∷ "4 39 tolerances 30 20 1"
+    ∷ "5 48 before 7"
+    ∷ "6 60 own 0 2"
+    ∷ "7 96 other LTESTVEH000000002"
+    ∷ "8 126 own 2 1"
+    ∷ "9 156 after -3"
+    ∷ "10 168 recharge 15"
+    ∷ [])
     -- two intervals are closed: 2 × 1,440,000, and 200 + 231
     ∷ trace mixed
-    "run LTESTVEH000000001\nmethod regular\ncycle 2 phases 2\ntolerances 30 20 1\nfields 10 blocks 2 passed 1\noffered 3\nend none 3\nphase 1 1 energy 2880000 distance 431 open\ncycle 1 energy 2880000 distance 431 outside 1 open\ncycles 0\noutside 1\ndrawn 2880000\ntransfer before 14 after -6\nwhole 2880014\nrefused 10\n"
+    ("run LTESTVEH000000001"
+    ∷ "method regular"
+    ∷ "cycle 2 phases 2"
+    ∷ "tolerances 30 20 1"
+    ∷ "fields 10 blocks 2 passed 1"
+    ∷ "offered 3"
+    ∷ "end none 3"
+    ∷ "phase 1 1 energy 2880000 distance 431 open"
+    ∷ "cycle 1 energy 2880000 distance 431 outside 1 open"
+    ∷ "cycles 0"
+    ∷ "outside 1"
+    ∷ "drawn 2880000"
+    ∷ "transfer before 14 after -6"
+    ∷ "whole 2880014"
+    ∷ "refused 10"
+    ∷ [])
     -- the second sample stops the run, and closes the interval of the first
     ∷ trace (head 0 ++ own 0 (sample 100 ++ sample 131 ++ sample 100))
-    "run LTESTVEH000000001\nmethod regular\ncycle 2 phases 2\ntolerances 30 20 0\nfields 5 blocks 1 passed 0\noffered 3\nend stop 1\nstop cycle 1 position 1\nphase 1 1 energy 1440000 distance 231 open\ncycle 1 energy 1440000 distance 231 outside 1 open\ncycles 0\noutside 1\ndrawn 1440000\ntransfer before 0 after 0\nwhole 1440000\nrefused 10\n"
+    ("run LTESTVEH000000001"
+    ∷ "method regular"
+    ∷ "cycle 2 phases 2"
+    ∷ "tolerances 30 20 0"
+    ∷ "fields 5 blocks 1 passed 0"
+    ∷ "offered 3"
+    ∷ "end stop 1"
+    ∷ "stop cycle 1 position 1"
+    ∷ "phase 1 1 energy 1440000 distance 231 open"
+    ∷ "cycle 1 energy 1440000 distance 231 outside 1 open"
+    ∷ "cycles 0"
+    ∷ "outside 1"
+    ∷ "drawn 1440000"
+    ∷ "transfer before 0 after 0"
+    ∷ "whole 1440000"
+    ∷ "refused 10"
+    ∷ [])
     -- one sample, outside: no interval is closed, and the cycle has a line for its sample
     ∷ trace (head 1 ++ own 0 (sample 131))
-    "run LTESTVEH000000001\nmethod regular\ncycle 2 phases 2\ntolerances 30 20 1\nfields 5 blocks 1 passed 0\noffered 1\nend none 1\ncycle 1 energy 0 distance 0 outside 1 open\ncycles 0\noutside 1\ndrawn 0\ntransfer before 0 after 0\nwhole 0\nrefused 10\n"
+    ("run LTESTVEH000000001"
+    ∷ "method regular"
+    ∷ "cycle 2 phases 2"
+    ∷ "tolerances 30 20 1"
+    ∷ "fields 5 blocks 1 passed 0"
+    ∷ "offered 1"
+    ∷ "end none 1"
+    ∷ "cycle 1 energy 0 distance 0 outside 1 open"
+    ∷ "cycles 0"
+    ∷ "outside 1"
+    ∷ "drawn 0"
+    ∷ "transfer before 0 after 0"
+    ∷ "whole 0"
+    ∷ "refused 10"
+    ∷ [])
     -- by the shortened method, with an M of 300 samples and a set speed of 14.0 km/h
     ∷ trace (head 1 ++ field 8 (0 ∷ 0 ∷ 1 ∷ 44 ∷ 0 ∷ 140 ∷ []))
-    "run LTESTVEH000000001\nmethod shortened 300 140\ncycle 2 phases 2\ntolerances 30 20 1\nfields 5 blocks 0 passed 0\noffered 0\nend none 0\ncycles 0\noutside 0\ndrawn 0\ntransfer before 0 after 0\nwhole 0\nrefused 10\n"
+    ("run LTESTVEH000000001"
+    ∷ "method shortened 300 140"
+    ∷ "cycle 2 phases 2"
+    ∷ "tolerances 30 20 1"
+    ∷ "fields 5 blocks 0 passed 0"
+    ∷ "offered 0"
+    ∷ "end none 0"
+    ∷ "cycles 0"
+    ∷ "outside 0"
+    ∷ "drawn 0"
+    ∷ "transfer before 0 after 0"
+    ∷ "whole 0"
+    ∷ "refused 10"
+    ∷ [])
     ∷ list (head 1 ++ field 8 (0 ∷ 0 ∷ 1 ∷ 44 ∷ 0 ∷ 140 ∷ []))
-    "1 0 mark\n2 7 vehicle LTESTVEH000000001\n3 27 cycle 2 phases 2\n4 39 tolerances 30 20 1\n5 48 stretches 300 140\n"
+    ("1 0 mark"
+    ∷ "2 7 vehicle LTESTVEH000000001"
+    ∷ "3 27 cycle 2 phases 2"
+    ∷ "4 39 tolerances 30 20 1"
+    ∷ "5 48 stretches 300 140"
+    ∷ [])
     -- the second sample of a later block has a voltage above its limit, 15000: 58 × 256 + 153 = 15001
     ∷ list (head 1 ++ own 0 (sample 100) ++ own 1 (sample 100 ++ 0 ∷ 100 ∷ 58 ∷ 153 ∷ 255 ∷ 136 ∷ []))
-    "1 0 mark\n2 7 vehicle LTESTVEH000000001\n3 27 cycle 2 phases 2\n4 39 tolerances 30 20 1\n5 48 own 0 1\n6 78 refused 5 sample 2 100 15001 -120\n"
-    ∷ trace (head 1 ++ own 1 (sample 100)) "refused 6 field 5\n"
+    ("1 0 mark"
+    ∷ "2 7 vehicle LTESTVEH000000001"
+    ∷ "3 27 cycle 2 phases 2"
+    ∷ "4 39 tolerances 30 20 1"
+    ∷ "5 48 own 0 1"
+    ∷ "6 78 refused 5 sample 2 100 15001 -120"
+    ∷ [])
+    ∷ trace (head 1 ++ own 1 (sample 100)) ("refused 6 field 5" ∷ [])
     ∷ list (head 1 ++ own 1 (sample 100))
-    "1 0 mark\n2 7 vehicle LTESTVEH000000001\n3 27 cycle 2 phases 2\n4 39 tolerances 30 20 1\n5 48 refused 6\n"
+    ("1 0 mark"
+    ∷ "2 7 vehicle LTESTVEH000000001"
+    ∷ "3 27 cycle 2 phases 2"
+    ∷ "4 39 tolerances 30 20 1"
+    ∷ "5 48 refused 6"
+    ∷ [])
     -- the input ends inside a field, and before the first
-    ∷ list (field 1 (spell "RUN1") ++ 2 ∷ 0 ∷ []) "1 0 mark\n2 7 refused 15\n"
-    ∷ list [] "1 0 refused 15\n"
+    ∷ list (field 1 (spell "RUN1") ++ 2 ∷ 0 ∷ []) ("1 0 mark"
+    ∷ "2 7 refused 15"
+    ∷ [])
+    ∷ list [] ("1 0 refused 15" ∷ [])
     -- four cycles: twice their own energy, and 600 - 100 - 120; in all 1,200, which is 600 × 2
     ∷ weights 600 (100 ∷ 120 ∷ 130 ∷ 140 ∷ []) (200 ∷ 240 ∷ 380 ∷ 380 ∷ [])
     ∷ []
@@ -94,8 +181,12 @@ rows =
 same : List ℕ → List ℕ → Bool
 same u v = sameBytes (length u) u v && eqb (length u) (length v)
 
+printed : List String → List ℕ
+printed [] = []
+printed (text ∷ rest) = ended (spell text) ++ printed rest
+
 unfoldable pub holds : Row → Bool
-unfolding same
-holds (list i text) = same (fieldsText i) (spell text)
-holds (trace i text) = same (traced i) (spell text)
+unfolding same printed
+holds (list i lines) = same (fieldsText i) (printed lines)
+holds (trace i lines) = same (traced i) (printed lines)
 holds (weights E e w) = same (table (weightOf E (length e) (λ c. getD e c 0)) (length e)) w

@@ -4,7 +4,7 @@
 use mathlib.Core.Bool.{Bool, false, not, cond, _&&_}
 use mathlib.Core.List.{List}
 use Prim.Native.Nat.{ℕ, suc, _+_, _-_, _*_}
-use lib.Dec.{leb, ltb, eqb}
+use lib.Dec.{ltb, eqb}
 use Rattle.rules.specs.Words.{allBelow}
 use Rattle.rules.specs.Bench.{Tolerances, Stretches, mostOffered}
 use Rattle.rules.specs.Cycle.{phases, phaseEnd, positions, phaseAt}

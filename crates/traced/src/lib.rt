@@ -1,26 +1,27 @@
 // A record from standard input to its trace.
+use desk::empty;
 use intake::Intake;
+use intake::LONGEST;
 use intake::Turned;
 use intake::turns::has_failed;
 use prints::refuse;
 use tracing::trace_close;
 use walk::Walk;
-use walk::whole::walk_through;
+use walk::passing::pass_through;
 ghost use mathlib.Core.Path.{_≡_};
-ghost use Prim.Native.Nat.{_≤_};
-ghost use lib.ListN.{length, take};
+ghost use Prim.Native.Nat.{_≤_, _<_};
+ghost use lib.ListN.{length};
 ghost use Rattle.desk.specs.Feeding.{laidOf, emptyDesk, longest};
-ghost use Rattle.tracing.specs.Traced.{mostTrace};
-ghost use Rattle.walk.specs.Walks.{mostLines};
-ghost use Rattle.traced.specs.Recorded.{lastTrace, Recorded};
+ghost use Rattle.prints.specs.Printed.{PrintsIn};
+ghost use Rattle.intake.specs.Turns.{Unread};
+ghost use Rattle.traced.specs.Recorded.{roomFor, traceOf, Recorded};
 
 // What is printed of a record that was walked through, to its end or to a refused field.
 fn print_trace(walk: Walk, room: &[u8], ledger: &[i64], map: &[u64], lines: &mut [u8]) -> usize
-    requires { ⌜ mostTrace ≤ length (now lines) ⌝ }
     ensures { λ r. ⌜
-        take r (now (lines .exit))
-        ≡ lastTrace (walk .turn .turned)
-        (laidOf (walk .turn .desk) (now (room .entry)) (now (ledger .entry)) (now (map .entry))) (walk .spot .blocks) (walk .turn .held)
+        PrintsIn (roomFor (walk .turn .turned))
+        (traceOf (walk .turn) (laidOf (walk .turn .desk) (now (room .entry)) (now (ledger .entry)) (now (map .entry))) (walk .spot .blocks))
+        (now (lines .entry)) r (now (lines .exit))
         ⌝ }
 {
     let turn = walk.turn;
@@ -41,7 +42,7 @@ fn print_trace(walk: Walk, room: &[u8], ledger: &[i64], map: &[u64], lines: &mut
 }
 
 // A record of at most so many bytes: its trace stands in the lines.
-pub fn trace_record(
+fn trace_through(
     most: u64,
     buffer: &mut [u8],
     room: &mut [u8],
@@ -49,20 +50,13 @@ pub fn trace_record(
     map: &mut [u64],
     lines: &mut [u8],
 ) -> Intake
-    requires { ⌜ (longest ≤ length (now buffer)) × (mostLines (length (now buffer)) ≤ length (now lines)) ⌝ }
+    requires { ⌜ longest ≤ length (now buffer) ⌝ }
     ensures { λ r. ⌜
-        Recorded (laidOf emptyDesk (now (room .entry)) (now (ledger .entry)) (now (map .entry))) most
+        Recorded (laidOf emptyDesk (now (room .entry)) (now (ledger .entry)) (now (map .entry))) most (now (lines .entry))
         r (now (buffer .exit)) (now (room .exit)) (now (ledger .exit)) (now (map .exit)) (now (lines .exit))
         ⌝ }
 {
-    let walk = walk_through(
-        most,
-        &mut *buffer,
-        &mut *room,
-        &mut *ledger,
-        &mut *map,
-        &mut *lines,
-    );
+    let walk = pass_through(most, &mut *buffer, &mut *room, &mut *ledger, &mut *map);
     let turn = walk.turn;
     let left = turn.left;
     let turned = turn.turned;
@@ -78,4 +72,42 @@ pub fn trace_record(
         left,
         failed: false,
     }
+}
+
+// The same, of any buffer: one that is too short for a field is refused 1 before all else.
+pub fn trace_record(
+    most: u64,
+    buffer: &mut [u8],
+    room: &mut [u8],
+    ledger: &mut [i64],
+    map: &mut [u64],
+    lines: &mut [u8],
+) -> Intake
+    ensures { λ r. ⌜
+        (longest ≤ length (now (buffer .entry))
+        → Recorded (laidOf emptyDesk (now (room .entry)) (now (ledger .entry)) (now (map .entry))) most (now (lines .entry))
+        r (now (buffer .exit)) (now (room .exit)) (now (ledger .exit)) (now (map .exit)) (now (lines .exit)))
+        ⌝ }
+    ensures { λ r. ⌜
+        (length (now (buffer .entry)) < longest
+        → Unread (laidOf emptyDesk (now (room .entry)) (now (ledger .entry)) (now (map .entry))) most (now (lines .entry))
+        r (now (room .exit)) (now (ledger .exit)) (now (map .exit)) (now (lines .exit)))
+        ⌝ }
+    ensures { λ _. ⌜ (length (now (buffer .entry)) < longest → now (buffer .exit) ≡ now (buffer .entry)) ⌝ }
+{
+    if buffer.len() < LONGEST {
+        return Intake {
+            printed: refuse(empty(), 1, &mut *lines),
+            left: most,
+            failed: false,
+        };
+    }
+    trace_through(
+        most,
+        &mut *buffer,
+        &mut *room,
+        &mut *ledger,
+        &mut *map,
+        &mut *lines,
+    )
 }

@@ -2,4 +2,5 @@
 pub mod Showing
 pub mod Lasts
 pub mod Going
+pub mod Recording
 pub mod Printed

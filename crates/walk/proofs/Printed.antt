@@ -1,9 +1,9 @@
 -- What is shown of a record turn by turn, with its last line, is its field list by the rules.
 -- Assumes nothing.
-use mathlib.Core.Bool.{Bool}
-use mathlib.Core.List.{List, [], _++_, append-nil}
+use mathlib.Core.Bool.{Bool, false, cond, _||_}
+use mathlib.Core.List.{List, [], _++_, append-assoc, append-nil}
 use mathlib.Core.Path.{_≡_, refl, sym, ap, _∙_}
-use Prim.Native.Nat.{ℕ}
+use Prim.Native.Nat.{ℕ, _≤_}
 use native.Mathlib.Omega.{arith}
 use lib.IntN.{ℤ}
 use lib.ListN.{length, take, drop, length-append, length-drop}
@@ -11,8 +11,8 @@ use lib.Seq.{take-at}
 use Rattle.rules.specs.declared.Spot.{Spot}
 use Rattle.rules.specs.Table.{tags}
 use Rattle.rules.specs.Machine.{run}
-use Rattle.rules.specs.Record.{Told, takeField, untold, Sheet, sheetOf}
-use Rattle.rules.specs.Listing.{Listed, listed, listFrom, firstSpot, accepted, remaining, listOf, lastLine, fieldsText}
+use Rattle.rules.specs.Record.{Told, takeField, untold, Sheet, refusedAt, sheetOf}
+use Rattle.rules.specs.Listing.{Listed as Lines, listed, listFrom, firstSpot, accepted, remaining, listOf, lastLine, fieldsText}
 use Rattle.laws.specs.Answers.{Said, gives, refuses}
 use Rattle.laws.proofs.Cuts.{used-most}
 use Rattle.records.specs.Stage.{takeOn}
@@ -21,13 +21,16 @@ use Rattle.opening.specs.Answers.{unopened, stageOf}
 use Rattle.reader.specs.Answers.{endingOf}
 use Rattle.desk.specs.Feeding.{Laid, Consumed, Lent, feedOf}
 use Rattle.desk.proofs.Arriving.{worked, Arrived, arrived-none, arrived-more, left-is, alike}
+use Rattle.listing.specs.Lines.{mostLine}
+use Rattle.prints.proofs.Texts.{text-at}
 use Rattle.prints.proofs.Printing.{sheetEnd, sheet-ends, refused-number}
 use Rattle.intake.specs.declared.Turned.{Turned}
 use Rattle.intake.specs.declared.Turned.the-variants.{On, Ended, Failed, Refused}
 use Rattle.intake.specs.Turns.{Round, Came, none, part, turnedSaid}
 use Rattle.intake.proofs.Told.{start}
 use Rattle.intake.proofs.Untested.{came-arrived}
-use Rattle.walk.specs.Walks.{Shows, lastText, lastSaid, lastOf}
+use Rattle.walk.specs.declared.whole.Listed.{Listed}
+use Rattle.walk.specs.Walks.{Shows, lastText, lastSaid, lastOf, Recorded, shortLine, Unlisted}
 
 -- a refusal, or what is said of the end
 abbrev settle : Said (Unit {0}) → Said (Unit {0}) → Said (Unit {0})
@@ -125,4 +128,16 @@ module _ (lent : Lent) where
 
     -- and so are the own blocks among the fields
     pub spot-is : listOf w .spot ≡ spot
-    spot-is = ap (λ (x : Listed). x .spot) lists-are
+    spot-is = ap (λ (x : Lines). x .spot) lists-are
+
+  -- what went out and what is to go out behind it, of a record that was listed
+  pub list-record-prints : {most : ℕ} {r : Listed} {buffer room : List ℕ} {l : List ℤ} {m after : List ℕ} (c : Recorded (start lent) most r buffer room l m after)
+      → r .failed ≡ false → r .lost ≡ false → c .out ++ take (r .printed) after ≡ fieldsText (c .shows .stood .bytes)
+  list-record-prints c e f =
+      let last = lastOf (c .turn) (c .spot) _ in
+      ap (λ (q : List ℕ). c .out ++ q) (c .lines ∙ (λ i. cond (e i || f i) [] (c .rest ++ last))) ∙ sym (append-assoc (c .out) (c .rest) last) ∙ fields-print (c .shows)
+
+-- where buffer or lines are too short, a refusal before all else
+pub short-list-prints : {x₀ : Laid} {most : ℕ} {out : List ℕ} {r : Listed} {room : List ℕ} {l : List ℤ} {m after : List ℕ} → Unlisted x₀ most out r room l m after
+    → mostLine ≤ length out → take (r .printed) after ≡ lastLine (refusedAt 1 1) 0 []
+short-list-prints {out = out} u h = text-at mostLine shortLine out (ap (λ (x : Listed). x .printed) (u .answer)) (u .lines) h

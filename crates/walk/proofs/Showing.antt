@@ -2,9 +2,10 @@
 -- Assumes nothing.
 use mathlib.Core.List.{List, [], _++_}
 use mathlib.Core.Path.{_≡_, sym, ap, subst, _∙_}
-use Prim.Native.Nat.{ℕ, _+_}
+use Prim.Native.Nat.{ℕ, _+_, _-_}
 use native.Mathlib.Omega.{arith}
 use lib.ListN.{length, take, length-append}
+use lib.Seq.{length-take-le}
 use Rattle.rules.specs.declared.Spot.{Spot}
 use Rattle.rules.specs.Table.{tags}
 use Rattle.rules.specs.Machine.{Ran, run}
@@ -13,9 +14,12 @@ use Rattle.laws.proofs.Alongside.{TookAll, alongside}
 use Rattle.laws.proofs.Cuts.{joined, cut-whole}
 use Rattle.laws.proofs.Prefixes.{no-bytes}
 use Rattle.records.specs.Stage.{takeOn}
-use Rattle.listing.proofs.Behind.{list-behind}
+use Rattle.listing.specs.Lines.{Counts}
+use Rattle.listing.proofs.Fronted.{counts-less}
+use Rattle.listing.proofs.Behind.{list-behind, counts-listed}
 use Rattle.desk.specs.Feeding.{Laid}
-use Rattle.intake.specs.Turns.{Round, Stood, WholeFields, Led}
+use Rattle.intake.specs.declared.Turn.{Turn}
+use Rattle.intake.specs.Turns.{Round, Goes, Stood, WholeFields, Led}
 use Rattle.walk.specs.Walks.{Shows}
 
 -- whole fields are listed whole
@@ -39,6 +43,21 @@ module _ {p : List ℕ} {spot : Spot} {text : List ℕ} (e : listFrom firstSpot 
         used = ap (λ (x : Ran Listed). x .used) both ∙ omega (arith, all .used, rest .used, length-append p q);
         end = ap (λ (x : Ran Listed). x .end) both ∙ rest .end;
       }
+
+-- a turn in a buffer of so many bytes, with so many held and left before it: the bytes that it took, and the counts of the list before and behind them
+module _ {held left size : ℕ} {t : Turn} (goes : Goes held left size t) (buffer : List ℕ) (same : length buffer ≡ size) where
+  pub taken-size : length (take (t .used) buffer) ≡ t .used
+  taken-size = length-take-le (t .used) buffer (omega (arith, goes .within, same))
+
+  module _ {p : Spot} (c : Counts p (held + left)) where
+    pub counts-before : Counts p (length (take (t .used) buffer))
+    counts-before = counts-less c (omega (arith, taken-size, goes .none-lost))
+
+    pub counts-behind : {q : Spot} → q ≡ listFrom p (take (t .used) buffer) .spot → Counts q (t .held + t .left)
+    counts-behind e =
+        let rest : held + left - length (take (t .used) buffer) ≡ t .held + t .left = omega (arith, taken-size, goes .none-lost) in
+        subst (λ (q : Spot). Counts q (t .held + t .left)) (sym e)
+        (subst (Counts (listFrom p (take (t .used) buffer) .spot)) rest (counts-listed p (take (t .used) buffer) (held + left) c (omega (arith, taken-size, goes .none-lost))))
 
 -- before the first turn nothing is shown
 pub shows-none : {x₀ : Laid} {most : ℕ} {p : Round} (s : Stood x₀ most p) → s .done ≡ [] → Shows x₀ most [] p firstSpot

@@ -1,4 +1,5 @@
 // A record from standard input, turn by turn, with the lines of its fields.
+pub mod passing;
 pub mod whole;
 
 use desk::empty;
@@ -19,7 +20,7 @@ ghost use Rattle.sheet.specs.Overlaid.{Wrote};
 ghost use Rattle.listing.specs.Lines.{mostLine, Counts};
 ghost use Rattle.desk.specs.Feeding.{emptyDesk, mostFields};
 ghost use Rattle.intake.specs.Turns.{roundOf, goingOn, Goes};
-ghost use Rattle.walk.specs.Walks.{Ready, Adds, lastText, lastOf};
+ghost use Rattle.walk.specs.Walks.{mostLines, Ready, Adds, lastText, lastOf};
 
 // The last turn, where the field list stands behind it, and how many bytes of lines the turn brought.
 pub struct Walk {
@@ -41,7 +42,7 @@ fn first_spot() -> Spot
 }
 
 // Before the first byte of a record of at most so many.
-pub fn begin(most: u64) -> Walk
+fn begin(most: u64) -> Walk
     ensures { λ r. ⌜ r ≡ record { turn = goingOn emptyDesk 0 0 most; spot = firstSpot; printed = 0 } ⌝ }
 {
     Walk {
@@ -58,7 +59,7 @@ pub fn begin(most: u64) -> Walk
 }
 
 // One turn: the lines of the fields that it took stand at the front of the lines.
-pub fn walk_on(
+fn walk_on(
     walk: Walk,
     buffer: &mut [u8],
     room: &mut [u8],
@@ -66,7 +67,7 @@ pub fn walk_on(
     map: &mut [u64],
     lines: &mut [u8],
 ) -> Walk
-    requires { ⌜ Ready (walk .turn) (walk .spot) (now buffer) (now room) (now ledger) (now map) (now lines) ⌝ }
+    requires { ⌜ Ready (walk .turn) (walk .spot) (now buffer) (now room) (now ledger) (now map) × (mostLines (length (now buffer)) ≤ length (now lines)) ⌝ }
     ensures { λ r. ⌜
         Goes (walk .turn .held) (walk .turn .left) (length (now (buffer .entry))) (r .turn) × Counts (r .spot) (r .turn .held + r .turn .left)
         ⌝ }
@@ -126,7 +127,7 @@ fn refused_line(walk: Walk, number: u32, buffer: &[u8], lines: &mut [u8]) -> usi
 }
 
 // The last line, behind those of the last turn; none where the record may end there.
-pub fn last_line(walk: Walk, buffer: &[u8], lines: &mut [u8]) -> usize
+fn last_line(walk: Walk, buffer: &[u8], lines: &mut [u8]) -> usize
     requires { ⌜ (walk .printed + mostLine ≤ length (now lines)) × (walk .turn .used + walk .turn .held ≤ length (now buffer)) ⌝ }
     requires { ⌜ walk .turn .desk .fields ≤ mostFields ⌝ }
     ensures { λ r. ⌜

@@ -1,9 +1,11 @@
 -- No doubt about `listing`: each contract has one answer, and those of the operations ask nothing.
 -- Assumes nothing.
+use mathlib.Core.Path.{refl}
 use Rattle.listing.proofs.lines.cycle_line
 use Rattle.listing.proofs.lines.tolerances_line
 use Rattle.listing.proofs.refused.refused_field
 use Rattle.listing.proofs.list_fields
+use Rattle.listing.proofs.passing.pass_fields
 use Rattle.demands.specs.Calls.{OneAnswer}
 use Rattle.demands.proofs.NoDoubt.{same}
 
@@ -18,3 +20,6 @@ refused-field-one-answer κs a r r′ w w′ p q = (same (p .place) (q .place), 
 
 pub list-fields-one-answer : OneAnswer list_fields.ended list_fields.Reads.Learnt
 list-fields-one-answer κs a r r′ w w′ p q = ((λ i. record { spot = same (p .0) (q .0) i; next = same (p .1 .place) (q .1 .place) i }), λ i. (tt, (tt, (same (p .1 .bytes) (q .1 .bytes) i, tt))))
+
+pub pass-fields-one-answer : OneAnswer pass_fields.ended pass_fields.Reads.Learnt
+pass-fields-one-answer κs a r r′ w w′ p q = (same p q, refl)

@@ -1,7 +1,6 @@
 -- `deskcard::all_records` meets its contract.
 -- Assumes nothing.
 use mathlib.Core.Path.{_≡_, refl}
-use native.Mathlib.Omega.{arith}
 use borrow.Author.Needs.{needs}
 use lib.ListN.{length}
 use Rattle.deskcard.proofs.all_records.Statement.{statement}
@@ -19,7 +18,7 @@ loop-holds : tie.Need-loop-holds Inv-loop μ-loop
 loop-holds c = (refl, (refl, (refl, (refl, refl))))
 
 next-record-requires : tie.Need-next-record-requires Inv-loop μ-loop
-next-record-requires c κs = let at = c .before .before .before .before .before .before in let s = at .before .before .before .before .before in let same = at .loop .inv in (omega (arith, same .0, s .pre), omega (arith, same .0, same .1 .1 .1 .1, s .pre))
+next-record-requires c κs = search needs
 
 same-length : tie.Need-same-length Inv-loop μ-loop
 same-length c = search needs

@@ -1,4 +1,4 @@
--- `edges::put` is safe and ends: each turn leaves fewer bytes to write.
+-- `edges::put` meets its contract, and ends: each turn leaves fewer bytes to write.
 -- Assumes nothing.
 use mathlib.Core.Path.{subst}
 use Prim.Native.Nat.{_+_, _-_, _≤_}

@@ -2,8 +2,10 @@
 -- Assumes nothing.
 use mathlib.Core.Path.{sym, _∙_}
 use borrow.Author.Needs.{needs}
+use Rattle.sheet.specs.Overlaid.{mostSheet}
 use Rattle.desk.specs.Feeding.{Laid, laidOf}
-use Rattle.intake.proofs.Coming.{not-printed, printed-of}
+use Rattle.intake.specs.Turns.{turnText}
+use Rattle.intake.proofs.Answered.{not-printed, printed-of}
 use Rattle.intake.proofs.answer_to.Statement.{statement}
 use Rattle.intake.proofs.answer_to.Tie as tie
 
@@ -17,7 +19,7 @@ returns : tie.Need-returns
 returns c =
     let h = c .before in
     let s = h .before .before .before .before in
-    not-printed (s .args .t) (laid s) (s .args .lines .now) (sym (h .has-failed .ensures) ∙ c .if1 .taken)
+    not-printed mostSheet (s .args .t) (turnText (s .args .t) (laid s)) (s .args .lines .now) (sym (h .has-failed .ensures) ∙ c .if1 .taken)
 
 print-record-requires : tie.Need-print-record-requires
 print-record-requires c κs = search needs
@@ -31,7 +33,7 @@ returns-2 c =
     let other = lines .before .before in
     let h = other .before in
     let s = h .before .before .before .before in
-    printed-of (s .args .t) (laid s) (s .args .lines .now) (sym (h .has-failed .ensures) ∙ other .if1 .left) (lines .print-record .ensures)
+    printed-of mostSheet (s .args .t) (turnText (s .args .t) (laid s)) (s .args .lines .now) (sym (h .has-failed .ensures) ∙ other .if1 .left) (lines .print-record .ensures)
 
 pub answer-to-spec : {M : Type 1} → statement M
 answer-to-spec =

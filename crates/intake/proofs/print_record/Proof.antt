@@ -6,7 +6,7 @@ use Rattle.laws.specs.Answers.{Said}
 use Rattle.desk.specs.Feeding.{Laid, laidOf}
 use Rattle.prints.proofs.Texts.{as-text}
 use Rattle.intake.specs.Turns.{turnedSaid, textOf}
-use Rattle.intake.proofs.Coming.{not-refused}
+use Rattle.intake.proofs.Answered.{not-refused}
 use Rattle.intake.proofs.print_record.Statement.{statement}
 use Rattle.intake.proofs.print_record.Tie as tie
 

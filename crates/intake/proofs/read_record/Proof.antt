@@ -1,7 +1,7 @@
 -- `intake::read_record` meets its contract: what is answered is of the desk that the bytes brought.
 -- Assumes nothing.
 use borrow.Author.Needs.{needs}
-use Rattle.intake.proofs.Coming.{recorded}
+use Rattle.intake.proofs.Answered.{recorded}
 use Rattle.intake.proofs.read_record.Statement.{statement}
 use Rattle.intake.proofs.read_record.Tie as tie
 

@@ -3,7 +3,7 @@
 use mathlib.Core.Path.{refl}
 use native.Mathlib.Omega.{arith}
 use borrow.Author.Needs.{needs}
-use Rattle.intake.proofs.Coming.{not-read}
+use Rattle.intake.proofs.Answered.{not-read}
 use Rattle.intake.proofs.take_record.Statement.{statement}
 use Rattle.intake.proofs.take_record.Tie as tie
 
