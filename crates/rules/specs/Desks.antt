@@ -29,7 +29,7 @@ head allowance =
     field 1 (spell "RUN1")
     ++ field 2 (spell "LTESTVEH000000001")
     ++ field 3 (1 ∷ 0 ∷ 2 ∷ 0 ∷ 100 ∷ 0 ∷ 100 ∷ 0 ∷ 100 ∷ [])
-    ++ field 4 (0 ∷ 30 ∷ 0 ∷ 20 ∷ 0 ∷ allowance ∷ [])
+    ++ field 4 (0 ∷ 30 ∷ 0 ∷ 3 ∷ 0 ∷ allowance ∷ [])
 
 -- a sample of this speed, 600.0 V, -12.0 A: 6000 and -120, whose product drawn is 720,000
 sample : ℕ → List ℕ
@@ -65,7 +65,7 @@ rows =
     ("1 0 mark"
     ∷ "2 7 vehicle LTESTVEH000000001"
     ∷ "3 27 cycle 2 phases 2"
-    ∷ "4 39 tolerances 30 20 1"
+    ∷ "4 39 tolerances 30 3 1"
     ∷ "5 48 before 7"
     ∷ "6 60 own 0 2"
     ∷ "7 96 other LTESTVEH000000002"
@@ -78,7 +78,7 @@ rows =
     ("run LTESTVEH000000001"
     ∷ "method regular"
     ∷ "cycle 2 phases 2"
-    ∷ "tolerances 30 20 1"
+    ∷ "tolerances 30 3 1"
     ∷ "fields 10 blocks 2 passed 1"
     ∷ "offered 3"
     ∷ "end none 3"
@@ -96,7 +96,7 @@ rows =
     ("run LTESTVEH000000001"
     ∷ "method regular"
     ∷ "cycle 2 phases 2"
-    ∷ "tolerances 30 20 0"
+    ∷ "tolerances 30 3 0"
     ∷ "fields 5 blocks 1 passed 0"
     ∷ "offered 3"
     ∷ "end stop 1"
@@ -115,7 +115,7 @@ rows =
     ("run LTESTVEH000000001"
     ∷ "method regular"
     ∷ "cycle 2 phases 2"
-    ∷ "tolerances 30 20 1"
+    ∷ "tolerances 30 3 1"
     ∷ "fields 5 blocks 1 passed 0"
     ∷ "offered 1"
     ∷ "end none 1"
@@ -132,7 +132,7 @@ rows =
     ("run LTESTVEH000000001"
     ∷ "method shortened 300 140"
     ∷ "cycle 2 phases 2"
-    ∷ "tolerances 30 20 1"
+    ∷ "tolerances 30 3 1"
     ∷ "fields 5 blocks 0 passed 0"
     ∷ "offered 0"
     ∷ "end none 0"
@@ -147,7 +147,7 @@ rows =
     ("1 0 mark"
     ∷ "2 7 vehicle LTESTVEH000000001"
     ∷ "3 27 cycle 2 phases 2"
-    ∷ "4 39 tolerances 30 20 1"
+    ∷ "4 39 tolerances 30 3 1"
     ∷ "5 48 stretches 300 140"
     ∷ [])
     -- the second sample of a later block has a voltage above its limit, 15000: 58 × 256 + 153 = 15001
@@ -155,7 +155,7 @@ rows =
     ("1 0 mark"
     ∷ "2 7 vehicle LTESTVEH000000001"
     ∷ "3 27 cycle 2 phases 2"
-    ∷ "4 39 tolerances 30 20 1"
+    ∷ "4 39 tolerances 30 3 1"
     ∷ "5 48 own 0 1"
     ∷ "6 78 refused 5 sample 2 100 15001 -120"
     ∷ [])
@@ -164,7 +164,7 @@ rows =
     ("1 0 mark"
     ∷ "2 7 vehicle LTESTVEH000000001"
     ∷ "3 27 cycle 2 phases 2"
-    ∷ "4 39 tolerances 30 20 1"
+    ∷ "4 39 tolerances 30 3 1"
     ∷ "5 48 refused 6"
     ∷ [])
     -- the input ends inside a field, and before the first
