@@ -137,7 +137,10 @@ fn is_roomy(size: usize, lines: usize) -> bool
 // The line of a buffer or of lines that are too short, where it fits.
 fn short_line(lines: &mut [u8]) -> usize
     ensures { λ r. ⌜ r ≡ unless 0 (leb mostLine (length (now (lines .entry)))) (length shortLine) ⌝ }
-    ensures { λ _. ⌜ now (lines .exit) ≡ unless (now (lines .entry)) (leb mostLine (length (now (lines .entry)))) (overlaid (now (lines .entry)) 0 shortLine) ⌝ }
+    ensures { λ _. ⌜
+        now (lines .exit)
+        ≡ unless (now (lines .entry)) (leb mostLine (length (now (lines .entry)))) (overlaid (now (lines .entry)) 0 shortLine)
+        ⌝ }
 {
     if lines.len() < MOST_LINE {
         return 0;
