@@ -48,8 +48,8 @@ pub record FromC : Type 0 where
 
 -- ---- the desk's programs
 
--- on memory that is long enough, the trace written is what the rules give for the bytes that came; and so is the list: what went out of it while the record
--- was read, so many bytes, with what then stands in the lines to go out behind that. A buffer that is too short for a field, and lines that are too short for
+-- on memory that is long enough, the trace written is what the rules give for the bytes that came; and so is the list: its parts before the
+-- last, so many bytes, with what then stands in the lines to go out behind them. A buffer that is too short for a field, and lines that are too short for
 -- those of a turn, are refused 1 before all else (of the trace `short-buffer-prints`)
 pub record DeskPrints (lent : Lent) : Type 0 where
   pub trace-record-prints : {most : ℕ} {out : List ℕ} {r : Intake} {buffer room : List ℕ} {l : List ℤ} {m after : List ℕ}

@@ -89,8 +89,9 @@ finishedBy w sent last = record {
 abbrev pub finishedLines : Walk → List ℕ → List ℕ → List ℕ
 finishedLines w last lines = cond (isFailed (w .turn .turned)) lines (overlaid lines (w .printed) last)
 
--- a record of at most so many bytes was listed. Of the text of its lines went out what stood in the lines at each turn but the last, so many bytes, as far as
--- 64 bits go; the rest and the last line stand at the front of the lines, to go out; nothing where reading failed or the system took no more
+-- a record of at most so many bytes was listed. Of the text of its lines `out` is what stood in the lines at each turn but the last, `sent` bytes as far as
+-- 64 bits go; that it went out, nothing here can say. The rest and the last line stand at the front of the lines, to go out; nothing where reading failed or
+-- the system took no more
 pub record Recorded (x₀ : Laid) (most : ℕ) (r : Listed) (buffer room : List ℕ) (l : List ℤ) (m after : List ℕ) : Type 0 where
   pub turn : Turn
   pub spot : Spot
