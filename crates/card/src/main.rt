@@ -1,5 +1,7 @@
 // The rows of the test card that a program runs: records from standard input, each behind its length (4 bytes), and their sheets, each with an empty
 // line behind it.
+#![tactic(auto)]
+
 use edges::{fill_whole, print, say, tell};
 use intake::{skip, take_record};
 use numbers::read32;

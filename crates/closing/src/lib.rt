@@ -1,4 +1,6 @@
 // The closing of a started run: weighted consumption, range and recharge figure, together or refused together.
+#![tactic(auto)]
+
 ghost use Rattle.std.specs.Prelude.{◌≡◌, true};
 ghost use Rattle.rules.specs.Closing.{least_finished};
 ghost use Rattle.values.specs.Limits.{are_amounts};

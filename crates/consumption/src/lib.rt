@@ -1,4 +1,6 @@
 // The closing of n finished cycles, exact, by one pass over the ledger.
+#![tactic(auto)]
+
 mod gathering;
 
 ghost use Rattle.std.specs.Prelude.{◌≡◌, true, ◌+◌, ◌-◌, ◌*◌, ◌/◌, ◌≤◌, ◌<◌, ◌^◌, pos, ◌+ℤ◌};
@@ -23,7 +25,7 @@ use rules::{Amounts, Charge, Closing, ClosingAnswer, Figure};
 use wide::Ratio;
 
 // A cycle's energy, 0 where it is below 0, and its q, 0 where it has no distance.
-#[derive(Drop)]
+#[derive(Clone, Copy)]
 pub struct Rated {
     pub energy: u64,
     pub rate: u64,
@@ -31,7 +33,7 @@ pub struct Rated {
 
 // What the finished cycles gather, two at least: the first two, the q from the third on, the energy, whether each has drawn some, and whether each q
 // lies within its limits.
-#[derive(Drop)]
+#[derive(Clone, Copy)]
 pub struct Gathered {
     pub first: Rated,
     pub second: Rated,

@@ -10,7 +10,7 @@ use lib.Dec.{leb, eqb}
 use lib.ListN.{get_or}
 use Rattle.rules.specs.Words.{all_below}
 use Rattle.numbers.proofs.Tests.{pass, stop}
-use Rattle.rules.specs.Table.{Matter, stretches, block, energy_before, energy_after, recharge, begins, among, by_row, length_allowed, behind_tolerances, behind_stretches, block_places, tags, rUN1}
+use Rattle.rules.specs.Table.{Matter, stretches, block, energy_before, energy_after, recharge, begins, among, by_row, length_allowed, behind_tolerances, behind_stretches, block_places, tags, run1}
 use Rattle.laws.specs.Beside.{may_stand}
 use Rattle.rules.specs.Front.{Field}
 use Rattle.rules.specs.Record.{Content as Comes, brought, foreign, wrong, nothing, a_number, a_cycle, the_tolerances, the_stretches, own_samples, before, after, charged, content_of}
@@ -102,7 +102,7 @@ module _ (p : ℕ) (v : List ℕ) (tag : ℕ) where
 
   stands_mark : may_stand tags (behind_tolerances + p) 1 v ≡ false
   unfolding by_row
-  stands_mark = ap (λ (x : Bool). cond (begins rUN1 v) x false) (not_first p 0 (omega arith)) ∙ never (begins rUN1 v)
+  stands_mark = ap (λ (x : Bool). cond (begins run1 v) x false) (not_first p 0 (omega arith)) ∙ never (begins run1 v)
 
   -- the first four fields stand nowhere there
   pub stands_first : (n : ℕ) → length_allowed tags tag n ≡ true → (tag ≡ 5 → ⊥) → (tag ≡ 6 → ⊥) → (tag ≡ 7 → ⊥) → (tag ≡ 8 → ⊥) → may tag ≡ false

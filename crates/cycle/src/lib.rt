@@ -1,4 +1,6 @@
 // The cycle's bytes, as field 3's value has them: the test of its rules, and its parts.
+#![tactic(auto)]
+
 ghost use Rattle.std.specs.Prelude.{◌≡◌, true, ◌+◌, ◌-◌, ◌*◌, ◌≤◌, ◌<◌, length};
 ghost use Rattle.rules.specs.Words.{all_below};
 ghost use Rattle.rules.specs.Cycle.{phases, phase_end, seconds, point, rises, is_speed, valid, positions, phase_at};

@@ -1,4 +1,6 @@
 // A record's bytes as they arrive: every whole field goes to the reader, what is left over waits for more.
+#![tactic(auto)]
+
 mod beginning;
 
 ghost use Rattle.std.specs.Prelude.{◌≡◌, ◌+◌, ◌≤◌, true};
@@ -16,7 +18,7 @@ use rules::{End, Method, Moment, Tolerances};
 use state::{Ends, Progress, Run, Stretch, Stretched, Track};
 
 // A record as far as it was read: until the start the opening, after it the reading; and how many fields were accepted.
-#[derive(Drop)]
+#[derive(Clone, Copy)]
 pub struct Desk {
     pub started: bool,
     pub opening: Opening,
@@ -25,14 +27,14 @@ pub struct Desk {
 }
 
 // What became of the bytes: all whole fields are taken and more bytes are wanted, or the number of a refusal.
-#[derive(Drop)]
+#[derive(Clone, Copy)]
 pub enum Outcome {
     More,
     Refused(u32),
 }
 
 // How many bytes were taken, and the desk with them.
-#[derive(Drop)]
+#[derive(Clone, Copy)]
 pub struct Fed {
     pub outcome: Outcome,
     pub used: usize,

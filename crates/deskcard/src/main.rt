@@ -1,5 +1,7 @@
 // The desk's programs on many records: from standard input the letter t or f, and records, each behind its length (4 bytes); of each its trace, or its
 // field list, with an empty line behind it.
+#![tactic(auto)]
+
 use edges::{fill_whole, print, say, tell};
 use intake::skip;
 use numbers::read32;

@@ -1,10 +1,12 @@
 // The edges of a program: the descriptors it reads and writes, what the system's answers mean, a part read, a text written.
+#![tactic(auto)]
+
 ghost use Rattle.std.specs.Prelude.{true, ◌≡◌, ◌≤◌, length};
 ghost use Rattle.edges.specs.Answers.{meant, is_again, Within};
 ghost use Rattle.edges.specs.Answers.{input as theInput, output as theOutput, messages as theMessages};
 
 // What one answer of the system means: so many bytes were moved, the end of the input, an interruption before the first byte, or a fault.
-#[derive(Drop)]
+#[derive(Clone, Copy)]
 pub enum Got {
     Bytes(usize),
     End,

@@ -1,4 +1,6 @@
 // The field list: a record from standard input, a line for each of its fields to standard output.
+#![tactic(auto)]
+
 use edges::{print, tell};
 use rules::limits::{LEDGER_NUMBERS, MAP_WORDS, MOST_BYTES};
 use walk::whole::{MOST_LINES, list_record};

@@ -9,7 +9,7 @@ use borrow.Author.Tests.{eqb-true, eqb-false, le-leb, lt-leb}
 use lib.Dec.{leb, eqb}
 use lib.ListN.{length, get_or, take, drop}
 use Rattle.rules.specs.Words.{all_below}
-use Rattle.rules.specs.Table.{begins, by_row, length_allowed, tags, rUN1}
+use Rattle.rules.specs.Table.{begins, by_row, length_allowed, tags, run1}
 use Rattle.rules.specs.Front.{Field, Front as Stands, incomplete, impossible, field, front_of}
 use Rattle.laws.proofs.Answers.{known_by}
 use Rattle.laws.proofs.Fronts.{front_whole, front_allowed}
@@ -98,9 +98,9 @@ once : (b : Bool) → cond b true false ≡ b
 once true = refl
 once false = refl
 
-pub row_of_mark : (v : List ℕ) → has_row 1 v ≡ begins rUN1 v
+pub row_of_mark : (v : List ℕ) → has_row 1 v ≡ begins run1 v
 unfolding by_row
-row_of_mark v = once (begins rUN1 v)
+row_of_mark v = once (begins run1 v)
 
 pub row_of_energy : (v : List ℕ) → has_row 6 v ≡ leb (get_or v 0 0) 1
 unfolding by_row begins all_below

@@ -1,4 +1,6 @@
 // The figures that the report prints of a started run.
+#![tactic(auto)]
+
 ghost use Rattle.std.specs.Prelude.{◌≡◌};
 ghost use Rattle.figures.specs.Figured.{Figurable, figures_of, blank, found_of};
 
@@ -6,7 +8,7 @@ use reading::{Reading, read_refusal};
 use rules::{ClosingAnswer, End, Figures};
 
 // The figures, or the number of a refusal, 1 or 2, beside which they are blank.
-#[derive(Drop)]
+#[derive(Clone, Copy)]
 pub struct Found {
     pub refusal: u32,
     pub figures: Figures,

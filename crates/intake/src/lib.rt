@@ -1,4 +1,6 @@
 // A record from standard input, through the field buffer, to what is printed of it.
+#![tactic(auto)]
+
 mod parts;
 pub mod turns;
 
@@ -18,7 +20,7 @@ use turns::has_failed;
 pub const LONGEST: usize = 3 + MOST_BYTES;
 
 // What became of a turn: bytes were taken, the input ended, reading failed, or a field was refused.
-#[derive(Drop)]
+#[derive(Clone, Copy)]
 pub enum Turned {
     On,
     Ended,
@@ -27,7 +29,7 @@ pub enum Turned {
 }
 
 // The desk, how many bytes at the front of the buffer it took last, how many behind them it left, and how many bytes of the record are still to be read.
-#[derive(Drop)]
+#[derive(Clone, Copy)]
 pub struct Turn {
     pub turned: Turned,
     pub desk: Desk,
@@ -37,7 +39,7 @@ pub struct Turn {
 }
 
 // How many bytes of the lines to print, how many of the record were not read, and whether reading failed.
-#[derive(Drop)]
+#[derive(Clone, Copy)]
 pub struct Intake {
     pub printed: usize,
     pub left: u64,

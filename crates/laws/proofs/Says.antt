@@ -119,6 +119,7 @@ module _ (over : ℕ) (me course : List ℕ) (offered tag : ℕ) (v : List ℕ) 
         let z = passes (wrong 14) (brought b) _ _ (λ r. false≢true cc) e in known (charged (recharge_in v)) b behind_recharge refl z.1 (tag_is 7 _ t, a, z.0)
     says q (there (there (there (there (there (there (there (there here)))))))) t a b e =
         let z = passes (wrong 19) (brought b) _ _ (λ r. false≢true cc) e in known (the_stretches (stretches_in v)) b behind_stretches refl z.1 (tag_is 8 _ t, a, refl, z.0)
+    says q (there (there (there (there (there (there (there (there (there x))))))))) t a b e = elim x [ ]
 
     -- only a block is another's
     pub says_foreign : (q : Row Matter) → In q tags → among p q.stands ≡ true → content_of over me course offered q.holds v ≡ foreign
@@ -133,3 +134,4 @@ module _ (over : ℕ) (me course : List ℕ) (offered tag : ℕ) (v : List ℕ) 
     says_foreign q (there (there (there (there (there (there here)))))) a e = absurd (let z = (passes (wrong 14) foreign _ _ (λ r. false≢true cc) e).1 in false≢true cc)
     says_foreign q (there (there (there (there (there (there (there here))))))) a e = absurd (let z = (passes (wrong 14) foreign _ _ (λ r. false≢true cc) e).1 in false≢true cc)
     says_foreign q (there (there (there (there (there (there (there (there here)))))))) a e = absurd (let z = (passes (wrong 19) foreign _ _ (λ r. false≢true cc) e).1 in false≢true cc)
+    says_foreign q (there (there (there (there (there (there (there (there (there x))))))))) a e = elim x [ ]

@@ -1,1 +1,3 @@
 // What follows from the rules: laws of the definitions in rules/specs. No code.
+#![tactic(auto)]
+

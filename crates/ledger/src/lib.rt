@@ -1,4 +1,6 @@
 // The lent ledger of a run: 64 cycles of nine numbers.
+#![tactic(auto)]
+
 pub mod row;
 pub mod totals;
 pub mod whole;

@@ -1,4 +1,6 @@
 // The closing figures at their limits, worked out in `stdout` from the formulas of documents 01 and 02.
+#![tactic(auto)]
+
 mod runs;
 mod stretched;
 

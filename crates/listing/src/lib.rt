@@ -1,4 +1,6 @@
 // The field list: a line for each field, with its number and the byte at which it begins, and a line for what is refused.
+#![tactic(auto)]
+
 mod held;
 pub mod lines;
 pub mod passing;
@@ -25,7 +27,7 @@ pub const MOST_LINE: usize = 165;
 pub const PER_BYTE: usize = 55;
 
 // Where the list stands after some fields, the place behind their lines, and how many bytes they take.
-#[derive(Drop)]
+#[derive(Clone, Copy)]
 pub struct Listing {
     pub spot: Spot,
     pub next: usize,
@@ -33,7 +35,7 @@ pub struct Listing {
 }
 
 // Where the list stands after all fields of an input, and the place behind their lines.
-#[derive(Drop)]
+#[derive(Clone, Copy)]
 pub struct Lined {
     pub spot: Spot,
     pub next: usize,

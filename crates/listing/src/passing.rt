@@ -10,7 +10,7 @@ use fields::{Front, front_of};
 use rules::Spot;
 
 // Where the list stands after a field, and how many bytes the field takes.
-#[derive(Drop)]
+#[derive(Clone, Copy)]
 struct Passed {
     spot: Spot,
     used: usize,

@@ -1,4 +1,6 @@
 // The map: position p is bit p mod 64 of word p div 64.
+#![tactic(auto)]
+
 ghost use Rattle.std.specs.Prelude.{◌≡◌, ◌≤◌, ◌<◌, length};
 ghost use Rattle.numbers.specs.Lists.{cleared};
 ghost use Rattle.rules.specs.Bench.{most_positions};

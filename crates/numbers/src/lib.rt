@@ -1,4 +1,6 @@
 // Small functions on numbers and bytes whose types carry their bounds.
+#![tactic(auto)]
+
 ghost use Rattle.std.specs.Prelude.{◌≡◌, ◌+◌, ◌-◌, ◌*◌, ◌<◌, min, max, length};
 ghost use Rattle.std.specs.Int.{w16, w64};
 ghost use Rattle.std.proofs.Common.{to_z};

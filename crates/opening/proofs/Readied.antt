@@ -11,7 +11,7 @@ use lib.ListN.{length}
 use Rattle.rules.specs.Words.{all_below, every}
 use Rattle.numbers.proofs.Tests.{pass, both, not_refused}
 use Rattle.rules.specs.Cycle.{most_bytes}
-use Rattle.rules.specs.Table.{number, cycle, begins, by_row, length_allowed, among, behind_tolerances, behind_stretches, behind_after, block_places, tags, rUN1}
+use Rattle.rules.specs.Table.{number, cycle, begins, by_row, length_allowed, among, behind_tolerances, behind_stretches, behind_after, block_places, tags, run1}
 use Rattle.laws.specs.Beside.{may_stand}
 use Rattle.rules.specs.Values.{is_number}
 use Rattle.laws.specs.Answers.{Said, gives, refuses}
@@ -93,7 +93,7 @@ module _ (p : ℕ) (few : p ≤ 3) (v : List ℕ) where
 
   no_mark : (p ≡ 0 → ⊥) → may_stand tags p 1 v ≡ false
   unfolding by_row
-  no_mark h = ap (λ (x : Bool). cond (begins rUN1 v) x false) (not_at 0 h) ∙ never (begins rUN1 v)
+  no_mark h = ap (λ (x : Bool). cond (begins run1 v) x false) (not_at 0 h) ∙ never (begins run1 v)
 
   no_energy : may_stand tags p 6 v ≡ false
   unfolding by_row

@@ -1,4 +1,6 @@
 // The first four fields: mark, vehicle number, cycle and tolerances.
+#![tactic(auto)]
+
 ghost use Rattle.std.specs.Prelude.{◌≡◌, true, ◌+◌, ◌≤◌, length};
 ghost use Rattle.rules.specs.Words.{unless};
 ghost use Rattle.rules.specs.Cycle.{valid};
@@ -18,7 +20,7 @@ use rules::{Method, Tolerances};
 use state::Run;
 
 // Until the start: how many of the first four fields are accepted, the vehicle, and how many bytes the cycle in the room has.
-#[derive(Drop)]
+#[derive(Clone, Copy)]
 pub struct Opening {
     pub fields: u32,
     pub vehicle: [u8; 17],
@@ -26,7 +28,7 @@ pub struct Opening {
 }
 
 // What became of a field until the start: taken with so many bytes, taken and the run started, not finished, or the number of a refusal.
-#[derive(Drop)]
+#[derive(Clone, Copy)]
 pub enum OpenStep {
     Taken(usize),
     Started(usize, Run),
@@ -34,7 +36,7 @@ pub enum OpenStep {
     Refused(u32),
 }
 
-#[derive(Drop)]
+#[derive(Clone, Copy)]
 pub struct OpenAnswer {
     pub step: OpenStep,
     pub opening: Opening,

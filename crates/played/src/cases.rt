@@ -9,7 +9,7 @@ const FAST: [u8; 6] = [0, 131, 23, 112, 255, 16];
 
 // A run to play: speed tolerance and allowance, the samples offered, those of them that are fast, with one more but for 0, M's length and E's set speed, both 0
 // by the regular method, and two positions to ask for.
-#[derive(Drop)]
+#[derive(Clone, Copy)]
 pub struct Case {
     pub speed: u32,
     pub allowance: u32,

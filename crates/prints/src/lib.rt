@@ -1,4 +1,6 @@
 // What the report prints of a record: its sheet, or the refusal with the number of its field.
+#![tactic(auto)]
+
 ghost use Rattle.std.specs.Prelude.{◌≡◌, leb, length};
 ghost use Rattle.rules.specs.Words.{unless};
 ghost use Rattle.sheet.specs.Overlaid.{overlaid, most_sheet};

@@ -1,4 +1,6 @@
 // The reader: a record's fields, in order, to the judge.
+#![tactic(auto)]
+
 ghost use Rattle.std.specs.Prelude.{◌≡◌};
 ghost use Rattle.state.specs.State.{left};
 ghost use Rattle.opening.specs.Answers.{unopened, open_left, front_opened};
@@ -12,20 +14,20 @@ use rules::{Amounts, Charge};
 use state::Run;
 
 // Whether the input may end here.
-#[derive(Drop)]
+#[derive(Clone, Copy)]
 pub enum Ending {
     Whole,
     Refused(u32),
 }
 
-#[derive(Drop)]
+#[derive(Clone, Copy)]
 pub struct ReadAnswer {
     pub step: Step,
     pub reading: Reading,
 }
 
 // How many fields were accepted, how many bytes they took, and the answer after the last of them.
-#[derive(Drop)]
+#[derive(Clone, Copy)]
 pub struct AllAnswer {
     pub reading: Reading,
     pub fields: usize,

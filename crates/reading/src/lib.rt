@@ -1,4 +1,6 @@
 // Fields after the start: the tests before them, one field, and all of an input.
+#![tactic(auto)]
+
 mod bringing;
 mod own;
 
@@ -21,7 +23,7 @@ use state::{Run, ground_refusal, with_method};
 use step::{Taken, going_at, with_taken};
 
 // After the start. Place in the order: 0 after the tolerances, 1 after a field 8, 2 after a 6 before, 3 after an own block, 4 after a 6 after, 5 after a 7.
-#[derive(Drop)]
+#[derive(Clone, Copy)]
 pub struct Reading {
     pub vehicle: [u8; 17],
     pub place: u32,
@@ -31,7 +33,7 @@ pub struct Reading {
 }
 
 // What became of a field after the start: taken with so many bytes, passed over, not finished, or the number of a refusal.
-#[derive(Drop)]
+#[derive(Clone, Copy)]
 pub enum Step {
     Taken(usize),
     Passed(usize),
@@ -40,7 +42,7 @@ pub enum Step {
 }
 
 // A reading while fields are taken: what changes in it, and where its run stands.
-#[derive(Drop)]
+#[derive(Clone, Copy)]
 pub struct Along {
     pub place: u32,
     pub passed: u32,
@@ -50,14 +52,14 @@ pub struct Along {
 }
 
 // The answer to a field, and the reading with it.
-#[derive(Drop)]
+#[derive(Clone, Copy)]
 pub struct Stepped {
     pub step: Step,
     pub along: Along,
 }
 
 // The reading with all fields of an input, how many they are, how many bytes they take, and the answer after the last of them.
-#[derive(Drop)]
+#[derive(Clone, Copy)]
 pub struct Passage {
     pub along: Along,
     pub fields: usize,

@@ -1,5 +1,7 @@
 // Refusals that no record brings, each by itself and beside its neighbour in the order of documents 01 and 02: of the reader here, of its place in the order,
 // the judge, the desk and the intake, of a run's state, its stretches and of bounds in their modules.
+#![tactic(auto)]
+
 mod of_bounds;
 mod of_desk;
 mod of_intake;

@@ -1,4 +1,6 @@
 // The report: a record from standard input, its sheet to standard output.
+#![tactic(auto)]
+
 use edges::{print, tell};
 use intake::take_record;
 use rules::limits::{LEDGER_NUMBERS, MAP_WORDS, MOST_BYTES};

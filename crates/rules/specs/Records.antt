@@ -6,7 +6,7 @@ use Rattle.rules.specs.declared.Charge.TheVariants.{Absent as absent, Wh as wh}
 use Rattle.rules.specs.declared.Amounts.{Amounts}
 use Rattle.rules.specs.Words.{up}
 use Rattle.rules.specs.Bench.{Method, byCycles, with_stretches}
-use Rattle.rules.specs.Table.{rUN1, behind_tolerances}
+use Rattle.rules.specs.Table.{run1, behind_tolerances}
 use Rattle.rules.specs.Values.{block_or}
 use Rattle.rules.specs.Record.{Told, Sheet, told, refused_at, untold, sheet_from, sheet_of}
 
@@ -31,7 +31,7 @@ abbrev pub course : List ℕ
 course = 1 ∷ 0 ∷ 2 ∷ 0 ∷ 100 ∷ 0 ∷ 100 ∷ 0 ∷ 100 ∷ []
 
 abbrev pub mark : List ℕ
-mark = put 1 rUN1
+mark = put 1 run1
 
 abbrev pub three : List ℕ
 three = mark ++ (put 2 me ++ put 3 course)

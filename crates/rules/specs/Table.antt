@@ -121,8 +121,8 @@ abbrev pub behind_recharge : ℕ
 behind_recharge = 9
 
 -- "the four letters RUN1"
-abbrev pub rUN1 : List ℕ
-rUN1 = 82 ∷ 85 ∷ 78 ∷ 49 ∷ []
+abbrev pub run1 : List ℕ
+run1 = 82 ∷ 85 ∷ 78 ∷ 49 ∷ []
 
 -- "any number of 5": from the start to the 6 after
 abbrev pub block_places : List ℕ
@@ -132,7 +132,7 @@ block_places = behind_tolerances ∷ behind_stretches ∷ behind_before ∷ behi
 abbrev pub tags : List (Row Matter)
 tags =
     -- tag, with what the value begins, lengths, where it may stand, where it moves to, what it holds
-    row 1 rUN1 (exactly 4) (at_first ∷ []) behind_mark mark
+    row 1 run1 (exactly 4) (at_first ∷ []) behind_mark mark
     ∷ row 2 [] (exactly 17) (behind_mark ∷ []) behind_number number
     ∷ row 3 [] (from_to least_bytes most_bytes) (behind_number ∷ []) behind_cycle cycle
     ∷ row 4 [] (exactly 6) (behind_cycle ∷ []) behind_tolerances tolerances

@@ -1,8 +1,10 @@
 // Document 01: the types that its rules speak of. The definitions are in specs/, their laws in proofs/.
+#![tactic(auto)]
+
 pub mod limits;
 
 // Speed in 0.1 km/h, voltage in 0.1 V, current in 0.1 A, negative while the battery is drained.
-#[derive(Drop)]
+#[derive(Clone, Copy)]
 pub struct Sample {
     pub speed: u16,
     pub voltage: u16,
@@ -10,14 +12,14 @@ pub struct Sample {
 }
 
 // What a run takes of a sample: its speed, and the product that it draws.
-#[derive(Drop)]
+#[derive(Clone, Copy)]
 pub struct Moment {
     pub speed: u64,
     pub energy: i64,
 }
 
 // Speed in 0.1 km/h, time in positions, the allowance in samples.
-#[derive(Drop)]
+#[derive(Clone, Copy)]
 pub struct Tolerances {
     pub speed: u32,
     pub time: u32,
@@ -25,21 +27,21 @@ pub struct Tolerances {
 }
 
 // The stretches of a shortened run: how many samples M has, and the set speed of E in 0.1 km/h.
-#[derive(Drop)]
+#[derive(Clone, Copy)]
 pub struct Stretches {
     pub length: u32,
     pub speed: u32,
 }
 
 // How a run is driven: cycle after cycle, or two cycles, M, two cycles, E.
-#[derive(Drop)]
+#[derive(Clone, Copy)]
 pub enum Method {
     Regular,
     Shortened(Stretches),
 }
 
 // How a run has ended.
-#[derive(Drop)]
+#[derive(Clone, Copy)]
 pub enum End {
     None,
     Stop,
@@ -47,14 +49,14 @@ pub enum End {
 }
 
 // The energy that a recharge took from the mains, in Wh, where the record has it.
-#[derive(Drop)]
+#[derive(Clone, Copy)]
 pub enum Charge {
     Absent,
     Wh(u32),
 }
 
 // Transfer energy before and after the test, in units of 0.25 mJ, and the recharge.
-#[derive(Drop)]
+#[derive(Clone, Copy)]
 pub struct Amounts {
     pub before: i64,
     pub after: i64,
@@ -62,7 +64,7 @@ pub struct Amounts {
 }
 
 // A figure, no figure, or the number of a refusal.
-#[derive(Drop)]
+#[derive(Clone, Copy)]
 pub enum Figure {
     Is(u64),
     Absent,
@@ -70,7 +72,7 @@ pub enum Figure {
 }
 
 // The closing figures of one run: weighted consumption in mWh/km, range in metres, the recharge figure in mWh/km.
-#[derive(Drop)]
+#[derive(Clone, Copy)]
 pub struct Closing {
     pub weighted: u64,
     pub range: u64,
@@ -78,14 +80,14 @@ pub struct Closing {
 }
 
 // The closing figures together, or the number of the refusal that stands in place of all.
-#[derive(Drop)]
+#[derive(Clone, Copy)]
 pub enum ClosingAnswer {
     Closed(Closing),
     Refused(u32),
 }
 
 // What the report prints of a record that was read to its end.
-#[derive(Drop)]
+#[derive(Clone, Copy)]
 pub struct Figures {
     pub vehicle: [u8; 17],
     pub end: End,
@@ -98,7 +100,7 @@ pub struct Figures {
 }
 
 // Where the field list stands: how many fields it has, the byte behind them, the record's vehicle, and how many own blocks are among the fields.
-#[derive(Drop)]
+#[derive(Clone, Copy)]
 pub struct Spot {
     pub fields: u64,
     pub offset: u64,
@@ -107,7 +109,7 @@ pub struct Spot {
 }
 
 // What a phase, a cycle or a stretch has of the intervals closed: energy and distance, whether it has one at all, and whether it is finished.
-#[derive(Drop)]
+#[derive(Clone, Copy)]
 pub struct Gathered {
     pub energy: i64,
     pub distance: i64,

@@ -1,4 +1,6 @@
 // The bytes that the report prints.
+#![tactic(auto)]
+
 ghost use Rattle.std.specs.Prelude.{◌≡◌, leb, length};
 ghost use Rattle.rules.specs.Words.{unless};
 ghost use Rattle.sheet.specs.Overlaid.{overlaid, most_sheet};

@@ -1,4 +1,6 @@
 // Every number of a trace, as a run and its ledger have it.
+#![tactic(auto)]
+
 mod begun;
 mod standing;
 
@@ -19,7 +21,7 @@ use standing::{ride_stop, stop_around};
 use state::{Run, closed_of};
 
 // Where the sample that stops a run stands: in E, or at this position of this cycle, both from 0.
-#[derive(Drop)]
+#[derive(Clone, Copy)]
 pub struct Stop {
     pub in_e: bool,
     pub cycle: u32,

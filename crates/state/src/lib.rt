@@ -1,4 +1,6 @@
 // A started run's state, and the tests that come before it or its memory is touched.
+#![tactic(auto)]
+
 mod around;
 mod own;
 
@@ -18,7 +20,7 @@ use rules::{End, Method, Moment, Sample, Tolerances};
 use values::{is_method, is_sample, is_tolerable};
 
 // The seconds at which the phases end; 0 for a phase that does not exist.
-#[derive(Drop)]
+#[derive(Clone, Copy)]
 pub struct Ends {
     pub first: u16,
     pub second: u16,
@@ -27,7 +29,7 @@ pub struct Ends {
 }
 
 // What is fixed before the first sample: T, the phase ends, the tolerances, the method.
-#[derive(Drop)]
+#[derive(Clone, Copy)]
 pub struct Track {
     pub seconds: u32,
     pub ends: Ends,
@@ -37,7 +39,7 @@ pub struct Track {
 
 // What a sample changes: how many were offered, how many count, how the run ended, and what closes the open interval: the last counted sample's
 // product and speed, and 0 where no interval is open.
-#[derive(Drop)]
+#[derive(Clone, Copy)]
 pub struct Progress {
     pub offered: u32,
     pub counted: u32,
@@ -46,14 +48,14 @@ pub struct Progress {
 }
 
 // What the closed intervals of a stretch have brought.
-#[derive(Drop)]
+#[derive(Clone, Copy)]
 pub struct Stretch {
     pub energy: i64,
     pub distance: u64,
 }
 
 // What a run has of its stretches M and E. `watch` is 0 until a sample of E has reached the set speed, and then one more than the samples below in a row.
-#[derive(Drop)]
+#[derive(Clone, Copy)]
 pub struct Stretched {
     pub in_m: Stretch,
     pub in_e: Stretch,
@@ -61,7 +63,7 @@ pub struct Stretched {
 }
 
 // A started run. Where its next sample stands is not in it: method, T and counted say so.
-#[derive(Drop)]
+#[derive(Clone, Copy)]
 pub struct Run {
     pub track: Track,
     pub progress: Progress,

@@ -1,4 +1,6 @@
 // One accepted sample.
+#![tactic(auto)]
+
 mod counting;
 mod lending;
 mod places;
@@ -30,7 +32,7 @@ use window::{Window, verdict_in, window_at};
 
 // Where a run stands while samples are taken: row, position and phase of the next sample and the window of its position, beside its progress.
 // Up to position `until` only the ends of the window move. The open interval is of the row and phase of the sample before.
-#[derive(Drop)]
+#[derive(Clone, Copy)]
 pub struct Going {
     pub progress: Progress,
     pub row: usize,
@@ -43,14 +45,14 @@ pub struct Going {
 }
 
 // Where it stands, and what it has of its stretches.
-#[derive(Drop)]
+#[derive(Clone, Copy)]
 pub struct Taken {
     pub going: Going,
     pub stretched: Stretched,
 }
 
 // Where the next sample stands.
-#[derive(Drop)]
+#[derive(Clone, Copy)]
 struct Next {
     row: usize,
     position: u32,

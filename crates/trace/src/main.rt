@@ -1,4 +1,6 @@
 // The trace: a record from standard input, its sheet with every number that it came from to standard output.
+#![tactic(auto)]
+
 use edges::{print, tell};
 use rules::limits::{LEDGER_NUMBERS, MAP_WORDS, MOST_BYTES};
 use traced::trace_record;

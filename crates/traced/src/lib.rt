@@ -1,4 +1,6 @@
 // A record from standard input to its trace.
+#![tactic(auto)]
+
 ghost use Rattle.std.specs.Prelude.{◌≡◌, ◌≤◌, ◌<◌, length};
 ghost use Rattle.desk.specs.Feeding.{laid_of, empty_desk, longest};
 ghost use Rattle.prints.specs.Printed.{PrintsIn};

@@ -1,4 +1,6 @@
 // The lines of the trace, byte for byte: each number of the sheet, and every number that it came from.
+#![tactic(auto)]
+
 pub mod closing;
 pub mod opening;
 pub mod parts;

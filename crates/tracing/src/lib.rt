@@ -1,4 +1,6 @@
 // What the trace prints of a record: its sheet with every number that it came from, or the refusal with the number of its field.
+#![tactic(auto)]
+
 mod behind;
 mod offering;
 mod parts;

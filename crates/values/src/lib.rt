@@ -1,4 +1,6 @@
 // The values of samples, tolerances and amounts: their limits, and what a run takes of a sample.
+#![tactic(auto)]
+
 ghost use Rattle.std.specs.Prelude.{◌≡◌};
 ghost use Rattle.rules.specs.Words.{between};
 ghost use Rattle.rules.specs.Bench.{is_sample, tolerable, drawn, moment_of, are_stretches};

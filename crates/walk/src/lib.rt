@@ -1,4 +1,6 @@
 // A record from standard input, turn by turn, with the lines of its fields.
+#![tactic(auto)]
+
 pub mod passing;
 pub mod whole;
 
@@ -20,7 +22,7 @@ use reader::{Ending, ended};
 use rules::Spot;
 
 // The last turn, where the field list stands behind it, and how many bytes of lines the turn brought.
-#[derive(Drop)]
+#[derive(Clone, Copy)]
 pub struct Walk {
     pub turn: Turn,
     pub spot: Spot,

@@ -18,7 +18,7 @@ pub const MOST_LINES: usize = PER_BYTE * 4864 + 2 * MOST_LINE;
 
 // What became of the list of a record: how many bytes of it went out, how many bytes of the lines are to go out behind them, how many of the record were not
 // read, whether reading failed, and whether the system took no more.
-#[derive(Drop)]
+#[derive(Clone, Copy)]
 pub struct Listed {
     pub sent: u64,
     pub printed: usize,

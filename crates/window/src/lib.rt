@@ -1,4 +1,6 @@
 // The window of a position: its two ends, and the whole seconds between them.
+#![tactic(auto)]
+
 mod ends;
 
 ghost use Rattle.std.specs.Prelude.{◌≡◌, true, ◌+◌, ◌≤◌, ◌<◌};
@@ -13,14 +15,14 @@ use numbers::{larger, less, smaller};
 use rules::Tolerances;
 
 // An end of the window: its value, and what that gains at the next place, kept 1500 higher.
-#[derive(Drop)]
+#[derive(Clone, Copy)]
 pub struct Edge {
     pub value: u32,
     pub rise: u32,
 }
 
 // The ends, number by number, the least and the greatest over the whole seconds inside, and the position at which all is worked out anew.
-#[derive(Drop)]
+#[derive(Clone, Copy)]
 pub struct Window {
     pub left: u32,
     pub leftrise: u32,
@@ -31,7 +33,7 @@ pub struct Window {
     pub until: u32,
 }
 
-#[derive(Drop)]
+#[derive(Clone, Copy)]
 struct Inner {
     low: u32,
     high: u32,
