@@ -1,5 +1,4 @@
 -- `values::drawn_by` meets its contract: a `u16` times an `i16` is below 2 ^ 63 either way, so nothing wraps.
--- Assumes nothing.
 use mathlib.Core.Path.{◌≡◌, ap, ap₂, ◌∙◌}
 use Prim.Native.Nat.{ℕ, ◌^◌}
 use native.Mathlib.Nat.{le_refl, le_of_lt}
@@ -14,8 +13,8 @@ use Rattle.numbers.proofs.Whole.{of_nat, sized_add, sized_mul, sized_neg}
 use Rattle.numbers.proofs.Signed.{sized_fits, sfits, widen, read, read_wide}
 use Rattle.rules.specs.Bench.{drawn}
 use Rattle.rules.specs.declared.Sample.{Sample}
-use Rattle.values.proofs.drawn_by.Statement.{statement}
-use Rattle.values.proofs.drawn_by.Tie as tie
+use Rattle.values.proofs.drawn_by.Goals as goal
+use Rattle.values.proofs.drawn_by.Goals.{After-struct_told-1}
 
 module _ (u : ℕ) (i : ℤ) (hu : Fits w16 u) (hi : SFits w16 i) where
   product_sized : Sized (2 ^ 31) (pos u *ℤ i)
@@ -28,11 +27,8 @@ module _ (u : ℕ) (i : ℤ) (hu : Fits w16 u) (hi : SFits w16 i) where
   kept : to_z w64 (of_z w64 (to_z w64 u *ℤ to_z w64 (of_z w64 (to_z w16 (of_z w16 i))))) ≡ pos u *ℤ i
   kept = ap (λ (z : ℤ). to_z w64 (of_z w64 z)) formed ∙ read (sfits w64 tt product_sized)
 
-cast-result : tie.Need-overflow-cast-result
-cast-result c = search rules
-
 -- what the types say of the sample
-module _ (c : tie.After-struct-told) where
+module _ (c : After-struct_told-1) where
   abbrev x : Sample
   x = c.before.before.before.args.x
 
@@ -48,17 +44,14 @@ module _ (c : tie.After-struct-told) where
   drawn_fits : SFits w64 (pos 0 -ℤ pos x.voltage *ℤ x.current)
   drawn_fits = sfits w64 tt (sized_add (of_nat (le_refl 0)) (sized_neg sized))
 
-cast-result-2 : tie.Need-overflow-cast-result-2
-cast-result-2 c = rw (read (current_fits c)) (widen w64 tt (current_fits c))
+pub overflow_cast-result-2 : goal.overflow_cast-result-2
+overflow_cast-result-2 c = rw (read (current_fits c)) (widen w64 tt (current_fits c))
 
-mul-result : tie.Need-overflow-mul-result
-mul-result c = rw (formed (x c).voltage (x c).current (voltage_fits c) (current_fits c)) (sfits w64 tt (sized c))
+pub overflow_mul-result : goal.overflow_mul-result
+overflow_mul-result c = rw (formed (x c).voltage (x c).current (voltage_fits c) (current_fits c)) (sfits w64 tt (sized c))
 
-returns : tie.Need-returns
+pub returns : goal.returns
 returns c = rw (kept (x c).voltage (x c).current (voltage_fits c) (current_fits c)) (read (drawn_fits c) ∙ +ℤ_idl (drawn (x c)))
 
-sub-result : tie.Need-overflow-sub-result
-sub-result c = rw (kept (x c).voltage (x c).current (voltage_fits c) (current_fits c)) (drawn_fits c)
-
-pub drawn-by-spec : {M : Type 1} → statement M
-drawn-by-spec = tie.close (tie.spec cast-result cast-result-2 mul-result sub-result returns)
+pub overflow_sub-result : goal.overflow_sub-result
+overflow_sub-result c = rw (kept (x c).voltage (x c).current (voltage_fits c) (current_fits c)) (drawn_fits c)

@@ -1,0 +1,13 @@
+-- `values::is_transfer_in` meets its contract: it asks `is_between`.
+use mathlib.Core.Path.{ap, ◌∙◌}
+use borrow.Author.Rules.{rules}
+use mir.Syntax.{w64}
+use mir.Val.{SFits}
+use Rattle.numbers.proofs.Signed.{read}
+use Rattle.rules.specs.Closing.{is_transfer_in}
+use Rattle.values.proofs.is_transfer_in.Goals as goal
+
+pub returns : goal.returns
+returns c =
+    let fits : SFits w64 c.args.energy = search rules in
+    c.is_between.ensures ∙ ap is_transfer_in (read fits)

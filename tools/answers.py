@@ -1,0 +1,300 @@
+#!/usr/bin/env python3
+"""answers.py CRATE..: turns a function's old Proof.antt, which walks the code, into today's Answers.antt and Invariants.antt.
+
+For each crate NAME it asks `rt check --generated DIR --old-names` for the old and new names of goals, places and steps, and rewrites each
+proofs/F/Proof.antt that it finds: a goal that was `search rules` goes (the check finds it), the others keep their terms, with `.before` steps
+gone, since an answer sees each step by name. What it cannot tell stays as it was, and the check names it.
+"""
+import json
+import os
+import re
+import subprocess
+import sys
+import tempfile
+
+NAME = r"[^\s(){}.;,@\"«»:]+"
+ATOM = r"(?:\((?:[^()]|\([^()]*\))*\)|[^\s(){};,]+)(?:\.[^\s(){};,.]+)*"
+SEARCH = re.compile(r"^search rules$")
+
+
+def norm(s):
+    return s.replace("_", "-")
+
+
+def clauses():
+    """For each function, by crate::module::name, the names of its requires and of its ensures."""
+    out = {}
+    for folder, dirs, names in os.walk("crates"):
+        dirs[:] = [d for d in dirs if d != "out"]
+        for n in names:
+            if not n.endswith(".rt"):
+                continue
+            path = os.path.join(folder, n)
+            crate = path.split("/")[1]
+            module = [] if n in ("lib.rt", "main.rt") else [n[:-3]]
+            fn = None
+            for line in open(path, encoding="utf-8"):
+                found = re.match(r"\s*(?:pub(?:\(crate\))? )?(?:extern \"C\" )?fn (\w+)", line)
+                if found:
+                    fn = "::".join([crate, *module, found[1]])
+                    out[fn] = {"requires": [], "ensures": []}
+                found = re.match(r"\s*(requires|ensures)\s*(\w*)\s*\{", line)
+                if found and fn:
+                    out[fn][found[1]].append(found[2])
+    return out
+
+
+def blocks(text):
+    """The text as blocks: each a comment, imports, or a declaration with its lines."""
+    out, here = [], []
+    for line in text.split("\n"):
+        if not line.strip() and here:
+            out.append("\n".join(here))
+            here = []
+        elif line.strip():
+            here.append(line)
+    if here:
+        out.append("\n".join(here))
+    return out
+
+
+class Function:
+    def __init__(self, crate, path, made, known):
+        self.crate, self.path, self.made, self.known = crate, path, made, known
+        self.goals = {norm(a): b for a, b in made["needs"]}
+        self.fields = {norm(p[2][0]): p[2][1] for p in made["places"] if p[2][0]}
+        news = dict(zip((p[0] for p in made["places"]), made["places_by_name"]))
+        self.places = {norm(a): b for a, b in news.items()}
+        self.parents = {news[p[0]]: news.get(p[1]) for p in made["places"]}
+        self.callees = {p[2][1]: p[3] for p in made["places"] if p[3]}
+        self.loops = {a: (b, vars) for (a, b), vars in made["loops"]}
+        self.changed = dict(zip((a for (a, b), vars in made["loops"]), made["changed"]))
+        self.at = {b: norm(q) for (a, b), (_, q) in zip(made["needs"], made["asked_at"])}
+        self.imports, self.helpers = set(), {}
+
+    def fn(self):
+        return "::".join([self.crate, *self.path])
+
+    def place(self, old):
+        name = self.places.get(norm(old))
+        if name:
+            self.imports.add(name)
+        return name or "tie." + old
+
+    def depth(self, a, b):
+        n = 0
+        while a and a != b:
+            a, n = self.parents.get(a), n + 1
+        return n if a else 0
+
+    def step(self, text):
+        """The names of steps and clauses."""
+        def field(m):
+            new = self.fields.get(norm(m[1])) or self.fields.get(norm(m[1].replace("_lem", "")))
+            return "." + (new or m[1])
+
+        text = re.sub(r"(?<=[\w)'₀-₉])\.([A-Za-z][\w'-]*)", field, text)
+        text = re.sub(r"\.inv\b(?!ar)", ".invariant", text)
+        for a, b in (("type-inv", "type_inv"), ("ghost-name", "ghost_name"), ("ref-ptr", "ref_ptr")):
+            text = re.sub(rf"\.{a}(?![\w-])", "." + b, text)
+        own = self.known.get(self.fn(), {"requires": []})["requires"]
+        if len(own) > 1:
+            text = re.sub(r"\.requires\.(\d)", lambda m: ".requires." + own[int(m[1])] if int(m[1]) < len(own) else m[0], text)
+        for field_, callee in self.callees.items():
+            for kind in ("ensures",):
+                names = self.known.get(callee, {kind: []})[kind]
+                if len(names) > 1:
+                    text = re.sub(rf"(\.{re.escape(field_)}\.{kind})\.(\d)", lambda m: m[1] + "." + names[int(m[2])] if int(m[2]) < len(names) else m[0], text)
+        return text
+
+    def flat(self, text):
+        return re.sub(r"(?:\.before)+(?![\w-])", "", text)
+
+    def helped(self, text, goal, place):
+        """Calls of helpers that take a place."""
+        for name, (p, keeps) in self.helpers.items():
+            def call(m):
+                if goal:
+                    return f"{name} (goal.at.{goal} c).{p}"
+                k = self.depth(place, p)
+                return f"{name} c" + ".before" * k
+            text = re.sub(rf"(?<![\w.'-]){re.escape(name)} ({ATOM})", call, text)
+        return text
+
+
+def convert(crate, folder, made, known):
+    text = open(os.path.join(folder, "Proof.antt"), encoding="utf-8").read()
+    inner = folder.split("/proofs/")[1].split("/")
+    f = Function(crate, inner, made, known)
+    module = f"Rattle.{crate}.proofs.{'.'.join(inner)}"
+    head, answers, invariants, uses = [], [], [], []
+    parsed = []
+    for block in blocks(text):
+        lines = block.split("\n")
+        while lines and (lines[0].startswith("--") or lines[0].startswith("use ")):
+            line = lines.pop(0)
+            if line.startswith("use "):
+                uses.append(line)
+            elif not parsed and not uses:
+                head.append(line)
+            else:
+                parsed.append(("comment", line))
+        if lines:
+            parsed.append(("decl", lines))
+    # accessors that only walk back
+    accessors = set()
+    for kind, lines in parsed:
+        if kind == "decl":
+            m = re.match(rf"(?:abbrev )?(?:pub )?({NAME}) : tie\.\S+ (?:invariant-loop decreases-loop )?→ tie\.\S+", lines[0])
+            if m and re.match(rf"{re.escape(m[1])} c = c(\.before)*$", " ".join(l.strip() for l in lines[1:])):
+                accessors.add(m[1])
+    def plain(s):
+        for a in accessors:
+            s = re.sub(rf"\({re.escape(a)} ({ATOM})\)", r"\1", s)
+            s = re.sub(rf"(?<![\w.'-]){re.escape(a)} ({ATOM})", r"\1", s)
+        return s
+    # helpers' places first
+    for kind, lines in parsed:
+        if kind != "decl":
+            continue
+        m = re.match(rf"(?:abbrev )?(?:pub )?({NAME}) : (?:\(\w+ : )?tie\.([\w-]+)", lines[0])
+        if m and m[1] not in accessors and not m[2].startswith(("Need-", "invariant", "decreases")):
+            f.helpers[m[1]] = (f.places.get(norm(m[2]), m[2]), True)
+    pending = []
+    for kind, lines in parsed:
+        if kind == "comment":
+            pending.append(lines)
+            continue
+        first = lines[0]
+        m = re.match(rf"(?:abbrev )?(?:pub )?({NAME}) :\s*(.*)$", first)
+        name = m[1] if m else None
+        sig = m[2] if m else ""
+        whole = " ".join(l.strip() for l in lines)
+        if name in accessors or "statement M" in whole.split("=")[0]:
+            pending = []
+            continue
+        if name and (sig.startswith("tie.invariant") or sig.startswith("tie.decreases")):
+            old = re.match(r"(?:invariant|decreases)-([\w-]+)", name)[1]
+            what = name.split("-")[0]
+            new, vars = f.loops.get(old, next(iter(f.loops.values()), (old, [])))
+            changed = f.changed.get(old, next(iter(f.changed.values()), []))
+            body = "\n".join(lines[1:])
+            mm = re.match(rf"\s*{re.escape(name)}((?: [^\s=]+)*) =\s*(.*)$", body, re.S)
+            unfolding = ""
+            if not mm:
+                u = re.match(r"(unfolding [^\n]*)\n(.*)$", body, re.S)
+                if u:
+                    unfolding, body = u[1] + "\n", u[2]
+                    mm = re.match(rf"\s*{re.escape(name)}((?: [^\s=]+)*) =\s*(.*)$", body, re.S)
+            params = mm[1].split() if mm else []
+            term = mm[2] if mm else body
+            to = {}
+            for i, p in enumerate(params):
+                if i < len(vars):
+                    to[p] = f"l.initial.{vars[i]}" if changed and changed[i] else f"l.{vars[i]}"
+                else:
+                    cur = [v for v, ch in zip(vars, changed) if ch]
+                    to[p] = f"l.{cur[i - len(vars)]}" if i - len(vars) < len(cur) else p
+            term = re.sub(rf"(?<![\w.'₀-])([^\s(){{}}.;,@\"«»:]+)", lambda m: to.get(m[1], m[1]), term)
+            invariants += [*pending, f"abbrev pub {what}-{new} : goal.{what}-{new}\n{unfolding}{what}-{new} l =\n    {term}".replace("=\n    ", "= " if "\n" not in term else "=\n    ", 1), ""]
+            pending = []
+            continue
+        need = re.match(r"tie\.Need-(\S+)", sig)
+        if need:
+            key = norm(need[1])
+            key = key[len("overflow-"):] if key.startswith("overflow-") and key not in f.goals else key
+            goal = f.goals.get(key)
+            rest = "\n".join(lines[1:])
+            u = re.match(r"(unfolding [^\n]*)\n(.*)$", rest, re.S)
+            unfolding = u[1] + "\n" if u else ""
+            rest = u[2] if u else rest
+            mm = re.match(rf"\s*{re.escape(name)}((?: [^\s=]+)*) =(\s*)(.*)$", rest, re.S)
+            params, space, term = (mm[1].split(), mm[2], mm[3]) if mm else (["c"], " ", rest)
+            if goal and not unfolding and SEARCH.match(term.strip()):
+                pending = []
+                continue
+            params = [p for p in params if p != "κs"]
+            term = f.step(plain(term))
+            # a test of !x says what it says of x
+            term = re.sub(r"not-(?:true|false) _ ([a-z][\w.'-]*\.(?:true|false))(?![\w-])", r"\1", term)
+            term = f.helped(term, goal, None)
+            term = f.flat(term)
+            g = goal or "TODO-" + need[1]
+            answers += [*pending, f"pub {g} : goal.{g}\n{unfolding}{g} {' '.join(params)} ={space}{term}", ""]
+            pending = []
+            continue
+        # a helper
+        body = plain("\n".join(lines))
+        body = body.replace(" invariant-loop decreases-loop", "")
+        body = f.step(body)
+        mine = f.helpers.get(name, (None,))[0]
+        body = f.helped_not_self(body, name, mine) if hasattr(f, "helped_not_self") else body
+        body = re.sub(r"tie\.([A-Z][\w-]*)", lambda m: f.place(m[1]), body)
+        if mine:
+            saved = dict(f.helpers)
+            f.helpers.pop(name)
+            sigline, _, rest = body.partition("\n")
+            body = f.helped(sigline, None, mine) + "\n" + f.helped(rest, None, mine)
+            f.helpers = saved
+            # c.before.x is c.x, but a bare place keeps its way
+            body = re.sub(r"(\bc(?:\.before)+)(?=\.)(?!\.before)", "c", body)
+        answers += [*pending, body, ""]
+        pending = []
+    body = "\n".join(answers)
+    def used(word, where):
+        return re.search(rf"(?<![\w.'-]){re.escape(word)}(?![\w'-])", where)
+    def keep(where):
+        out = []
+        for use in uses:
+            if "Statement.{statement}" in use or " as tie" in use:
+                continue
+            m = re.match(r"use (\S+)\.\{([^}]*)\}$", use)
+            if not m:
+                out.append(use)
+                continue
+            items = [i.strip() for i in m[2].split(",")]
+            left = [i for i in items if used(i.split(" as ")[-1], where) or "◌" in i and all(part in where for part in i.replace("◌", " ").split()) or i in where]
+            if left:
+                out.append(f"use {m[1]}.{{{', '.join(left)}}}")
+        return out
+    for p, _ in f.helpers.values():
+        if re.search(rf"\)\.{re.escape(p)}(?![\w-])", body) and p not in f.imports and p in f.parents:
+            f.imports.add(p)
+    os.remove(os.path.join(folder, "Proof.antt"))
+    if any(a.strip() for a in answers):
+        places = sorted(f.imports)
+        lines = [*head[:1], *keep(body), f"use {module}.Goals as goal"]
+        if places:
+            lines.append(f"use {module}.Goals.{{{', '.join(places)}}}")
+        open(os.path.join(folder, "Answers.antt"), "w", encoding="utf-8").write("\n".join(lines) + "\n\n" + body.strip() + "\n")
+    if invariants:
+        inv = "\n".join(invariants)
+        lines = [*head[:1], *keep(inv), f"use {module}.Given as goal"]
+        open(os.path.join(folder, "Invariants.antt"), "w", encoding="utf-8").write("\n".join(lines) + "\n\n" + inv.strip() + "\n")
+    if not os.listdir(folder):
+        os.rmdir(folder)
+
+
+def main():
+    known = clauses()
+    top = os.getcwd()
+    for crate in sys.argv[1:]:
+        with tempfile.TemporaryDirectory() as room:
+            subprocess.run(["rt", "check", "--generated", room, "--old-names"], cwd=f"crates/{crate}", capture_output=True, text=True)
+            with open(os.path.join(room, "names.json"), encoding="utf-8") as names:
+                made = json.load(names)
+        for folder, _, names in sorted(os.walk(f"crates/{crate}/proofs")):
+            if "Proof.antt" not in names:
+                continue
+            inner = folder.split("/proofs/")[1].replace("/", ".")
+            key = f"Rattle-{crate}-proofs.{inner}.Lts"
+            if key not in made:
+                print("no names for", folder, [k for k in made if inner.split(".")[-1] in k][:3])
+                continue
+            convert(crate, folder, made[key], known)
+            print("turned", folder)
+        os.chdir(top)
+
+
+if __name__ == "__main__":
+    main()
