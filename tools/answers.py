@@ -58,6 +58,23 @@ def blocks(text):
     return out
 
 
+def unshadow(term, name):
+    """A binder of a λ that has the name of a parameter gets another."""
+    at = 0
+    while True:
+        found = re.compile(rf"λ {re.escape(name)}\.(?=\s)").search(term, at)
+        if not found:
+            return term
+        depth, end = 0, found.end()
+        while end < len(term) and depth >= 0:
+            depth += {"(": 1, ")": -1}.get(term[end], 0)
+            end += 1
+        end = end - 1 if depth < 0 else end
+        inner = re.sub(rf"(?<![\w.'-]){re.escape(name)}(?![\w'-])", name + "'", term[found.start() : end])
+        term = term[: found.start()] + inner + term[end:]
+        at = found.start() + 2
+
+
 class Function:
     def __init__(self, crate, path, made, known):
         self.crate, self.path, self.made, self.known = crate, path, made, known
@@ -71,6 +88,15 @@ class Function:
         self.changed = dict(zip((a for (a, b), vars in made["loops"]), made["changed"]))
         self.at = {b: norm(q) for (a, b), (_, q) in zip(made["needs"], made["asked_at"])}
         self.imports, self.helpers = set(), {}
+        self.arms = []
+        for arm in made["arms"]:
+            for new, old, way in (arm or [None, None, []])[2]:
+                if way:
+                    word = "[-_]".join(re.escape(w) for w in re.split("[-_]", old))
+                    row = (word + "".join(rf"\." + re.escape(w) for w in way), f"{arm[0]}.{new}")
+                    if row not in self.arms:
+                        self.arms.append(row)
+        self.arms.sort(key=lambda row: -len(row[0]))
 
     def fn(self):
         return "::".join([self.crate, *self.path])
@@ -89,13 +115,16 @@ class Function:
 
     def step(self, text):
         """The names of steps and clauses."""
+        for old, new in self.arms:
+            text = re.sub(rf"(?<=[\w)'])\.{old}(?![\w'-])", "." + new, text)
+
         def field(m):
             new = self.fields.get(norm(m[1])) or self.fields.get(norm(m[1].replace("_lem", "")))
             return "." + (new or m[1])
 
         text = re.sub(r"(?<=[\w)'₀-₉])\.([A-Za-z][\w'-]*)", field, text)
         text = re.sub(r"\.inv\b(?!ar)", ".invariant", text)
-        for a, b in (("type-inv", "type_inv"), ("ghost-name", "ghost_name"), ("ref-ptr", "ref_ptr")):
+        for a, b in (("type-inv", "type_inv"), ("ghost-name", "ghost_name"), ("ref-ptr", "ref_ptr"), ("pre", "requires")):
             text = re.sub(rf"\.{a}(?![\w-])", "." + b, text)
         own = self.known.get(self.fn(), {"requires": []})["requires"]
         if len(own) > 1:
@@ -160,6 +189,8 @@ def convert(crate, folder, made, known):
         m = re.match(rf"(?:abbrev )?(?:pub )?({NAME}) : (?:\(\w+ : )?tie\.([\w-]+)", lines[0])
         if m and m[1] not in accessors and not m[2].startswith(("Need-", "invariant", "decreases")):
             f.helpers[m[1]] = (f.places.get(norm(m[2]), m[2]), True)
+    invariant_text = "\n".join("\n".join(lines) for kind, lines in parsed if kind == "decl" and re.match(r"abbrev (?:invariant|decreases)-", lines[0]))
+    shared = []
     pending = []
     for kind, lines in parsed:
         if kind == "comment":
@@ -195,6 +226,8 @@ def convert(crate, folder, made, known):
                 else:
                     cur = [v for v, ch in zip(vars, changed) if ch]
                     to[p] = f"l.{cur[i - len(vars)]}" if i - len(vars) < len(cur) else p
+            for p in to:
+                term = unshadow(term, p)
             term = re.sub(rf"(?<![\w.'₀-])([^\s(){{}}.;,@\"«»:]+)", lambda m: to.get(m[1], m[1]), term)
             invariants += [*pending, f"abbrev pub {what}-{new} : goal.{what}-{new}\n{unfolding}{what}-{new} l =\n    {term}".replace("=\n    ", "= " if "\n" not in term else "=\n    ", 1), ""]
             pending = []
@@ -223,7 +256,13 @@ def convert(crate, folder, made, known):
             answers += [*pending, f"pub {g} : goal.{g}\n{unfolding}{g} {' '.join(params)} ={space}{term}", ""]
             pending = []
             continue
-        # a helper
+        # a helper, of the invariants or of the answers
+        if name and "tie." not in whole and re.search(rf"(?<![\w.'-]){re.escape(name)}(?![\w'-])", invariant_text):
+            shown = re.sub(rf"^((?:abbrev )?)(?:pub )?{re.escape(name)} :", rf"\1pub {name} :", lines[0])
+            invariants[:0] = [*pending, "\n".join([shown, *lines[1:]]), ""]
+            shared.append(name)
+            pending = []
+            continue
         body = plain("\n".join(lines))
         body = body.replace(" invariant-loop decreases-loop", "")
         body = f.step(body)
@@ -264,6 +303,9 @@ def convert(crate, folder, made, known):
     if any(a.strip() for a in answers):
         places = sorted(f.imports)
         lines = [*head[:1], *keep(body), f"use {module}.Goals as goal"]
+        shared = [n for n in shared if used(n, body)]
+        if shared:
+            lines.append(f"use {module}.Invariants.{{{', '.join(shared)}}}")
         if places:
             lines.append(f"use {module}.Goals.{{{', '.join(places)}}}")
         open(os.path.join(folder, "Answers.antt"), "w", encoding="utf-8").write("\n".join(lines) + "\n\n" + body.strip() + "\n")

@@ -1,0 +1,11 @@
+-- `ledger::row::energy_between` meets its contract: two products within a sample's limits do not wrap.
+use mir.Syntax.{w64}
+use Rattle.numbers.proofs.Signed.{sum_fits, sum_read}
+use Rattle.laws.proofs.Bounds.{within}
+use Rattle.ledger.proofs.row.energy_between.Goals as goal
+
+pub overflow_add-result : goal.overflow_add-result
+overflow_add-result c = let s = c in sum_fits w64 tt (within s.args.x s.requires.0).energy (within s.args.y s.requires.1).energy
+
+pub returns : goal.returns
+returns c = let s = c in sum_read w64 tt (within s.args.x s.requires.0).energy (within s.args.y s.requires.1).energy
