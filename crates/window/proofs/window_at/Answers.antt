@@ -43,3 +43,15 @@ made-is c =
     c.inner_over-inner.ensures.0
     c.inner_over-inner.ensures.1
     c.until_of.ensures
+
+pub returns : goal.returns
+returns c =
+    let b = c.args.cycle.now in
+    let e : made (goal.at.returns c).After-until_of ≡ window_of b c.args.w c.args.p = made-is (goal.at.returns c).After-until_of in
+    record {
+      value = e;
+      result_value = (
+        ap least_in e ∙ least_in_lem b c.requires.0 c.args.w c.args.p c.requires.2,
+        ap greatest_in e ∙ greatest_in_lem b c.requires.0 c.args.w c.args.p c.requires.2,
+      );
+    }
