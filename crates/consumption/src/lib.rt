@@ -8,7 +8,7 @@ ghost use Rattle.std.specs.Int.Signed.{le_z};
 ghost use Rattle.rules.specs.Words.{sumℤ, up};
 ghost use Rattle.numbers.specs.Whole.{Sized};
 ghost use Rattle.rules.specs.Closing.{is_charge, most_rate, most_charge, recharge_by};
-ghost use Rattle.rules.specs.declared.Charge.TheVariants.{Wh as ofWh};
+ghost use Rattle.rules.specs.declared.Charge.TheVariants.{Wh as of_wh};
 ghost use Rattle.values.specs.Limits.{are_amounts};
 ghost use Rattle.laws.specs.Answers.{figure_said, closing_said};
 ghost use Rattle.laws.specs.Beside.{most_transfer, most_whole};
@@ -95,7 +95,7 @@ fn divided(total: u64, both: u64, wh: u64, range: u64) -> Ratio
 fn recharged(range: u64, total: i64, after: i64, wh: u32) -> Figure
     requires le_range { (1 ≤ range) × (range < 2 ^ 51) × (le_z (pos 1) total ≡ true) × Sized most_whole total }
     requires sized { Sized most_transfer after × (wh ≤ most_charge) }
-    ensures { figure_said result ≡ figure_said (recharge_by total range after (ofWh wh)) }
+    ensures { figure_said result ≡ figure_said (recharge_by total range after (of_wh wh)) }
 {
     let both = total + after;
     if both < 1 {

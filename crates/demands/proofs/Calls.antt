@@ -13,7 +13,7 @@ use lib.Signed.{le_z}
 use Rattle.numbers.proofs.Tests.{true_T, T_true}
 use Rattle.rules.specs.declared.Amounts.{Amounts}
 use Rattle.rules.specs.declared.Method.{Method}
-use Rattle.rules.specs.declared.Method.TheVariants.{Regular as byCycles, Shortened as with_stretches}
+use Rattle.rules.specs.declared.Method.TheVariants.{Regular as by_cycles, Shortened as with_stretches}
 use Rattle.rules.specs.declared.Moment.{Moment}
 use Rattle.rules.specs.declared.Tolerances.{Tolerances}
 use Rattle.rules.specs.Bench.{most_cycles, most_phases}
@@ -55,7 +55,7 @@ module _ (b : List ℕ) (o : Sound b) (m : ℕ) where
       go false q f = absurd f
 
   phase_real : (y : Method) (c k : ℕ) → T (finished (phase_part (layout_of b y) c k) m) → k < most_phases
-  phase_real byCycles c k = cycle_phase k _
+  phase_real by_cycles c k = cycle_phase k _
   phase_real (with_stretches x) c k = go (ltb c 4) (eqb k 0) refl
     where
       go : (a d : Bool) → eqb k 0 ≡ d → T (reached (cond a (behind_phase b x.length c k) (cond d (end_of b x.length c) never)) m) → k < most_phases

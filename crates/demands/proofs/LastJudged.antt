@@ -16,7 +16,7 @@ use Rattle.rules.specs.Words.{fold, bit}
 use Rattle.rules.specs.declared.Moment.{Moment}
 use Rattle.rules.specs.declared.End.TheVariants.{None as none, Stop as stop, Limit as limit}
 use Rattle.rules.specs.declared.Method.{Method}
-use Rattle.rules.specs.declared.Method.TheVariants.{Regular as byCycles, Shortened as with_stretches}
+use Rattle.rules.specs.declared.Method.TheVariants.{Regular as by_cycles, Shortened as with_stretches}
 use Rattle.rules.specs.Bench.{most_cycles}
 use Rattle.rules.specs.Cycle.{positions}
 use Rattle.rules.specs.Course.{Course, stops_at, outside, counted, judged, closed}
@@ -38,7 +38,7 @@ use Rattle.judge.proofs.Runs.{Reached, in_order, good, run_shows}
 -- of j samples judged, by the method
 last_for_lem : (b : List ℕ) → Sound b → (y : Method) (j : ℕ) → j ≤ (layout_of b y).most → last_for y (positions b) (j - 1) ≡ shown_row (layout_of b y) j
 unfolding fold shown_row
-last_for_lem b o byCycles j h = sym (shown_last b o j h)
+last_for_lem b o by_cycles j h = sym (shown_last b o j h)
 last_for_lem b o (with_stretches x) zero h = rw (lt-ltb 0 (2 * positions b) (omega (arith, real o))) (sym (digits 0 (positions b) 0 0 (real o) (omega arith)).1)
 last_for_lem b o (with_stretches x) (suc j) h =
     let e : suc j - 1 ≡ j = omega arith in

@@ -15,7 +15,7 @@ use Rattle.numbers.proofs.Tests.{pass, settled_taken}
 use Rattle.rules.specs.declared.End.TheVariants.{None as none, Stop as stop, Limit as limit}
 use Rattle.rules.specs.declared.Sample.{Sample}
 use Rattle.rules.specs.declared.Method.{Method}
-use Rattle.rules.specs.declared.Method.TheVariants.{Regular as byCycles}
+use Rattle.rules.specs.declared.Method.TheVariants.{Regular as by_cycles}
 use Rattle.rules.specs.declared.Moment.{Moment}
 use Rattle.rules.specs.declared.Tolerances.{Tolerances}
 use Rattle.rules.specs.Bench.{is_sample, moment_of, no_moment, tolerable, most_speed, most_cycles, most_offered}
@@ -130,23 +130,23 @@ pub no_constant_out : (y : Bool)
 unfolding be fold all_below unless valid tolerable is_sample grid20 inside
 no_constant_out y h =
     let a : State = record { progress = record { offered = 10; counted = 10; end = none; held = no_moment }; stretched = not_stretched; memory = lent [] [] } in
-    false≢true (h (plan risen no_time byCycles) a (of_speed 20) refl refl refl ∙ sym (h (plan risen no_time byCycles) a (of_speed 19) refl refl refl))
+    false≢true (h (plan risen no_time by_cycles) a (of_speed 20) refl refl refl ∙ sym (h (plan risen no_time by_cycles) a (of_speed 19) refl refl refl))
 
 -- nor is the mark that it leaves: after eleven samples, the last of speed 20 or 19
-unmarked : {l₀ : List ℤ} {m₀ : List ℕ} {r : Run} {l : List ℤ} {m : List ℕ} → Driven (plan risen no_time byCycles) l₀ m₀ (moments_of (eleven 20)) r l m → is_set m 10 ≡ false
+unmarked : {l₀ : List ℤ} {m₀ : List ℕ} {r : Run} {l : List ℤ} {m : List ℕ} → Driven (plan risen no_time by_cycles) l₀ m₀ (moments_of (eleven 20)) r l m → is_set m 10 ≡ false
 unfolding be fold gather first grid20 inside tally.over shown_row marked
 unmarked h = (run_shows h).map_shows 10 (lit< tt)
 
-marked_outside : {l₀ : List ℤ} {m₀ : List ℕ} {r : Run} {l : List ℤ} {m : List ℕ} → Driven (plan risen no_time byCycles) l₀ m₀ (moments_of (eleven 19)) r l m → is_set m 10 ≡ true
+marked_outside : {l₀ : List ℤ} {m₀ : List ℕ} {r : Run} {l : List ℤ} {m : List ℕ} → Driven (plan risen no_time by_cycles) l₀ m₀ (moments_of (eleven 19)) r l m → is_set m 10 ≡ true
 unfolding be fold gather first grid20 inside tally.over shown_row marked
 marked_outside h = (run_shows h).map_shows 10 (lit< tt)
 
 pub no_constant_mark : (l₀ : List ℤ) (m₀ : List ℕ) → ledger_numbers ≤ length l₀ → map_words ≤ length m₀ → (y : Bool)
-    → ((v : ℕ) (r : Run) (l : List ℤ) (m : List ℕ) → Driven (plan risen no_time byCycles) l₀ m₀ (moments_of (eleven v)) r l m → is_set m 10 ≡ y) → ⊥
+    → ((v : ℕ) (r : Run) (l : List ℤ) (m : List ℕ) → Driven (plan risen no_time by_cycles) l₀ m₀ (moments_of (eleven v)) r l m → is_set m 10 ≡ y) → ⊥
 unfolding be fold all_below unless valid tolerable is_sample
 no_constant_mark l₀ m₀ long_ledger long_map y h =
-    let in-speed = some_run (plan risen no_time byCycles) l₀ m₀ long_ledger long_map refl refl refl (eleven 20) refl (lit≤ tt) in
-    let out-speed = some_run (plan risen no_time byCycles) l₀ m₀ long_ledger long_map refl refl refl (eleven 19) refl (lit≤ tt) in
+    let in-speed = some_run (plan risen no_time by_cycles) l₀ m₀ long_ledger long_map refl refl refl (eleven 20) refl (lit≤ tt) in
+    let out-speed = some_run (plan risen no_time by_cycles) l₀ m₀ long_ledger long_map refl refl refl (eleven 19) refl (lit≤ tt) in
     false≢true (sym (unmarked in-speed.driven) ∙ h 20 _ _ _ in-speed.driven ∙ sym (h 19 _ _ _ out-speed.driven) ∙ marked_outside out-speed.driven)
 
 -- ---- "one that does nothing"
@@ -221,7 +221,7 @@ module _ {p : Plan} {l₀ : List ℤ} {m₀ : List ℕ} {xs : List Moment} {r : 
       ended false false q = absurd (false≢true cc)
 
 -- the row of the test card: a run of its four samples that goes on is no run of a judge that keeps its promises
-pub no_judge_that_never_stops : {l₀ : List ℤ} {m₀ : List ℕ} {r : Run} {l : List ℤ} {m : List ℕ} → Driven (plan level allows_three byCycles) l₀ m₀ (moments_of four_fast) r l m → (r.progress.end ≡ stop → ⊥) → ⊥
+pub no_judge_that_never_stops : {l₀ : List ℤ} {m₀ : List ℕ} {r : Run} {l : List ℤ} {m : List ℕ} → Driven (plan level allows_three by_cycles) l₀ m₀ (moments_of four_fast) r l m → (r.progress.end ≡ stop → ⊥) → ⊥
 unfolding be fold gather first grid20 inside tally.over
 no_judge_that_never_stops h go_on = go_on (stops_by_the_rules h refl)
 

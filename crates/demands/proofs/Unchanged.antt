@@ -28,7 +28,7 @@ use Rattle.reader.proofs.Unchanged.{OpenStays, open_stays, ReadStays, read_stays
 use Rattle.sheet.specs.Overlaid.{overlaid, most_sheet}
 use Rattle.tracing.specs.Traced.{most_trace}
 use Rattle.figures.specs.declared.Found.{Found}
-use Rattle.figures.specs.Figured.{blank as noFigures}
+use Rattle.figures.specs.Figured.{blank as no_figures}
 use Rattle.desk.specs.Feeding.{Laid, Consumed, laid_of, feed_of}
 use Rattle.desk.proofs.LeftOver as desk
 use Rattle.paperwhelk.proofs.Fitting.{does_not_fit}
@@ -96,7 +96,7 @@ refused_changes_nothing = record {
       (ap (λ (y : Laid). y.desk) end, λ j. (tt, (tt, ((end j).room, ((end j).memory.ledger, ((end j).memory.map, tt))))));
   figures_of_refused_has_no_figure = λ c h.
       let refusal = ap (λ (x : Found). x.refusal) c.kept in
-      ap (λ (x : Found). x.figures) c.kept ∙ settled_refused _ (λ z. h (refusal ∙ z)) ∙ ap noFigures (sym refusal);
+      ap (λ (x : Found). x.figures) c.kept ∙ settled_refused _ (λ z. h (refusal ∙ z)) ∙ ap no_figures (sym refusal);
 }
 
 -- ---- lines

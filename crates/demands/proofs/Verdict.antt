@@ -15,7 +15,7 @@ use borrow.Author.Tests.{eq-eqb, lt-ltb, le-leb, leb-true}
 use Rattle.numbers.proofs.Tests.{both, pass}
 use Rattle.rules.specs.declared.End.TheVariants.{None as none}
 use Rattle.rules.specs.declared.Method.{Method}
-use Rattle.rules.specs.declared.Method.TheVariants.{Regular as byCycles, Shortened as with_stretches}
+use Rattle.rules.specs.declared.Method.TheVariants.{Regular as by_cycles, Shortened as with_stretches}
 use Rattle.rules.specs.declared.Moment.{Moment}
 use Rattle.rules.specs.declared.Tolerances.{Tolerances}
 use Rattle.rules.specs.Bench.{tolerable, moment_of, no_moment, most_speed, most_speed_tolerance, most_time_tolerance, most_allowance, most_cycles, most_positions, most_offered}
@@ -72,11 +72,11 @@ module _ (b : List ℕ) where
   out_here t y n k v = by y ∙ ap (λ (x : Stand). outside_at b t x v) k.is ∙ ap (λ (x : Stand). not (inside b t (place_of b x) v)) (sym k.is)
     where
       by : (y : Method) → (rule_of b t y).outside n v ≡ outside_at b t (stand_of b y n) v
-      by byCycles = refl
+      by by_cycles = refl
       by (with_stretches x) = refl
 
   few_here : Sound b → (y : Method) (n : ℕ) → row_of b (stand_of b y n) < most_cycles → n < most_offered → n < (layout_of b y).most
-  few_here o byCycles n row few = (div-lt_iff_lt-mul {x = n} {y = most_cycles} (real o)).0 row
+  few_here o by_cycles n row few = (div-lt_iff_lt-mul {x = n} {y = most_cycles} (real o)).0 row
   few_here o (with_stretches x) n row few = few
 
 -- ---- over calls that keep the contracts

@@ -29,7 +29,7 @@ use Rattle.reading.specs.Answers.{step_said, read_ground}
 use Rattle.reader.specs.declared.Ending.TheVariants as ending
 use Rattle.reader.specs.Answers.{ending_said}
 use Rattle.desk.specs.declared.Outcome.TheVariants as outcome
-use Rattle.figures.specs.Figured.{blank as noFigures}
+use Rattle.figures.specs.Figured.{blank as no_figures}
 use Rattle.sheet.specs.Overlaid.{most_sheet}
 use Rattle.tracing.specs.Traced.{most_trace}
 use Rattle.judge.proofs.start
@@ -181,7 +181,7 @@ pub record RefusedChangesNothing : Type 0 where
   pub feed_refused_leaves_no_trace : (c d : FeedCall) → Shorter c.answer.used c.args d.args
       → (d.answer.desk ≡ c.answer.desk) × (d.lasts ≡ c.lasts)
   -- "no figure"
-  pub figures_of_refused_has_no_figure : (c : FiguresCall) → (c.answer.refusal ≡ 0 → ⊥) → c.answer.figures ≡ noFigures c.answer.refusal
+  pub figures_of_refused_has_no_figure : (c : FiguresCall) → (c.answer.refusal ≡ 0 → ⊥) → c.answer.figures ≡ no_figures c.answer.refusal
 
 -- ---- "every other lent buffer": lines shorter than 512 bytes stay as they were, and the result is 0; what lies beyond the text is never touched
 

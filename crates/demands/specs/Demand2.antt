@@ -22,7 +22,7 @@ use Rattle.rules.specs.Parts.{phase_part, part_energy, part_distance, energy}
 use Rattle.rules.specs.Regular.{moment_in}
 use Rattle.rules.specs.Shortened.{row_of}
 use Rattle.rules.specs.Plan.{Plan, course_of}
-use Rattle.rules.specs.Shown.{ledger_numbers, map_words, figure as figureAt, shown_row, marked}
+use Rattle.rules.specs.Shown.{ledger_numbers, map_words, figure as figure_at, shown_row, marked}
 use Rattle.rules.specs.Closing.{whole_energy, least_finished, closing_refusal, closing_figures}
 use Rattle.rules.specs.Table.{tags}
 use Rattle.rules.specs.Machine.{run}
@@ -80,7 +80,7 @@ module _ (p : Plan) (l₀ : List ℤ) (m₀ : List ℕ) (xs : List Moment) (r : 
     -- and what stretches M and E have of the intervals closed, and the watch over E of the samples counted; of a regular run nothing (document 02, L5)
     pub stretches_show : r.stretched ≡ stretched_of p s (closed y s n) (counted y s n)
     -- "Cycle c owns the nine numbers that start at 9 × c (c from 0): four phase energies, four phase distances, the outside count."
-    pub ledger_shows : (i : ℕ) → i < ledger_numbers → at l i ≡ figureAt y s n i
+    pub ledger_shows : (i : ℕ) → i < ledger_numbers → at l i ≡ figure_at y s n i
     pub phase_energies : (c k : ℕ) → c < most_cycles → k < most_phases
         → at l (9 * c + k) ≡ part_energy y.share s (phase_part y.layout c k) (closed y s n)
     pub phase_distances : (c k : ℕ) → c < most_cycles → k < most_phases

@@ -3,7 +3,7 @@
 use Rattle.std.specs.Prelude.{Bool, true, List, ◌++◌, ◌≡◌, ℕ, suc, ◌+◌, ◌≤◌, ◌<◌, ℤ, pos, length}
 use Rattle.rules.specs.declared.End.TheVariants.{Stop as stop}
 use Rattle.rules.specs.declared.Method.{Method}
-use Rattle.rules.specs.declared.Method.TheVariants.{Regular as byCycles}
+use Rattle.rules.specs.declared.Method.TheVariants.{Regular as by_cycles}
 use Rattle.rules.specs.declared.Moment.{Moment}
 use Rattle.rules.specs.declared.Tolerances.{Tolerances}
 use Rattle.rules.specs.Bench.{is_sample, tolerable, most_speed, most_cycles, most_offered}
@@ -82,7 +82,7 @@ pub record ShutsOutAlways : Type 0 where
   -- eleven samples of which the last has the speed 20 or 19
   pub no_constant_verdict : (v : ℤ) → ((c : VerdictCall) → Asks c → c.answer ≡ v) → ⊥
   pub no_constant_mark : (l₀ : List ℤ) (m₀ : List ℕ) → ledger_numbers ≤ length l₀ → map_words ≤ length m₀ → (y : Bool)
-      → ((v : ℕ) (r : Run) (l : List ℤ) (m : List ℕ) → Driven (plan risen no_time byCycles) l₀ m₀ (moments_of (eleven v)) r l m
+      → ((v : ℕ) (r : Run) (l : List ℤ) (m : List ℕ) → Driven (plan risen no_time by_cycles) l₀ m₀ (moments_of (eleven v)) r l m
       → is_set m 10 ≡ y) → ⊥
   -- "one that does nothing": a sample that is taken raises the number offered
   pub sample_is_offered : (c : SampleCall) {r' : Run} → c.answer ≡ Taken r' → r'.progress.offered ≡ suc c.args.0.progress.offered
@@ -90,4 +90,4 @@ pub record ShutsOutAlways : Type 0 where
       → {r' : Run} → c.answer ≡ Taken r' → WorkedThrough r b l m (bytes_in c) r' c.lasts.1.1.0 c.lasts.1.1.1.0
   -- the row of the test card: a run of its four samples that goes on is no run of a judge that keeps its promises
   pub no_judge_that_never_stops : {l₀ : List ℤ} {m₀ : List ℕ} {r : Run} {l : List ℤ} {m : List ℕ}
-      → Driven (plan level allows_three byCycles) l₀ m₀ (moments_of four_fast) r l m → (r.progress.end ≡ stop → ⊥) → ⊥
+      → Driven (plan level allows_three by_cycles) l₀ m₀ (moments_of four_fast) r l m → (r.progress.end ≡ stop → ⊥) → ⊥

@@ -14,7 +14,7 @@ use Rattle.numbers.proofs.Tests.{pass}
 use Rattle.rules.specs.Bench.{most_offered}
 use Rattle.values.specs.Limits.{are_amounts}
 use Rattle.rules.specs.Cycle.{most_bytes}
-use Rattle.rules.specs.declared.Method.TheVariants.{Regular as byCycles}
+use Rattle.rules.specs.declared.Method.TheVariants.{Regular as by_cycles}
 use Rattle.rules.specs.Shown.{ledger_numbers, map_words}
 use Rattle.rules.specs.Table.{behind_tolerances, behind_before, tags}
 use Rattle.rules.specs.Machine.{on, move_at, upto}
@@ -101,7 +101,7 @@ module _ (o : Opening) (room : List ℕ) (l : List ℤ) (m : List ℕ) where
               short = λ _. q;
             }
         go (begins p t granted d) =
-            let w = start_passed (take (length u.cycle) (room_at u)) t byCycles l m granted in
+            let w = start_passed (take (length u.cycle) (room_at u)) t by_cycles l m granted in
             let four : v.place ≡ 4 = ap (λ (z : Stage). z.place) (sym d) in
             staying (omega arith) (λ q. absurd (omega arith)) (λ q. absurd (q (record { ledger = w.long_ledger; map = w.long_map })))
 
@@ -118,7 +118,7 @@ module _ (o : Opening) (room : List ℕ) (l : List ℤ) (m : List ℕ) where
   good_first h =
       let size_is : length (take o.cycle room) ≡ o.cycle = length-take-le o.cycle room (omega (arith, h.size, h.room)) in
       let same : room_at s ≡ room = same_room (leb o.fields 2) (leb 3 o.fields) refl refl in
-      let again : stage_of (opening_of s) room l m ≡ s = λ j. record { place = o.fields; passed = 0; vehicle = o.vehicle; cycle = take (size_is j) room; tolerances = no_tolerances; method = byCycles; amounts = no_amounts; run = s.run } in
+      let again : stage_of (opening_of s) room l m ≡ s = λ j. record { place = o.fields; passed = 0; vehicle = o.vehicle; cycle = take (size_is j) room; tolerances = no_tolerances; method = by_cycles; amounts = no_amounts; run = s.run } in
       record {
         limits = record { place = omega (arith, h.few); passed = zero-le; amounts = refl; number = h.number; size = omega (arith, size_is, h.size) };
         after = after_none s;
@@ -126,7 +126,7 @@ module _ (o : Opening) (room : List ℕ) (l : List ℤ) (m : List ℕ) where
         held = (λ j. take (length (take o.cycle room)) (same j)) ∙ ap (λ (z : Stage). z.cycle) again;
         early = λ _. subst (λ (r : List ℕ). stage_of (opening_of s) r l m ≡ s) (sym same) again;
         told = λ k. record {
-          told = record { place = o.fields; passed = 0; holding = holding o.vehicle (take o.cycle room) no_tolerances byCycles [] no_amounts };
+          told = record { place = o.fields; passed = 0; holding = holding o.vehicle (take o.cycle room) no_tolerances by_cycles [] no_amounts };
           holds = record {
             place = refl;
             passed = refl;

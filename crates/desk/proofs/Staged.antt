@@ -10,7 +10,7 @@ use borrow.Author.Tests.{le-leb, lt-leb, leb-true, leb-false}
 use lib.Dec.{leb}
 use lib.ListN.{length, take}
 use lib.Seq.{length-take-le}
-use Rattle.rules.specs.declared.Method.TheVariants.{Regular as byCycles}
+use Rattle.rules.specs.declared.Method.TheVariants.{Regular as by_cycles}
 use Rattle.rules.specs.Table.{behind_tolerances}
 use Rattle.rules.specs.Machine.{End, Ran, ends}
 use Rattle.laws.specs.Answers.{end_said}
@@ -117,7 +117,7 @@ module _ (o : Opening) (r : Reading) (n : ℕ) (room : List ℕ) (c : Memory) (u
             (record {
               started = true;
               opening = record { fields = 4; vehicle = sym (b.vehicle late) i; cycle = length (sym (b.cycle (omega arith)) i) };
-              reading = reading_of (started_reading (sym (b.vehicle late) i) (started (sym (b.cycle (omega arith)) i) (sym (b.tolerances late) i) byCycles)) z;
+              reading = reading_of (started_reading (sym (b.vehicle late) i) (started (sym (b.cycle (omega arith)) i) (sym (b.tolerances late) i) by_cycles)) z;
               fields = more i;
             })
             (record { started = false; opening = opening_of z; reading = r; fields = n + (u.fields + w.fields) });

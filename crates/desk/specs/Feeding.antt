@@ -10,7 +10,7 @@ use Rattle.rules.specs.Machine.{Ran, upto}
 use Rattle.laws.specs.Answers.{Said, gives, refuses, end_said}
 use Rattle.state.specs.declared.Run.{Run}
 use Rattle.state.specs.State.{Memory, lent}
-use Rattle.rules.specs.declared.Method.TheVariants.{Regular as byCycles}
+use Rattle.rules.specs.declared.Method.TheVariants.{Regular as by_cycles}
 use Rattle.state.specs.Refusals.{not_begun, not_stretched}
 use Rattle.records.specs.Stage.{Stage, take_on, run_on, room_after}
 use Rattle.opening.specs.declared.Opening.{Opening}
@@ -79,7 +79,7 @@ pub record Lent : Type 0 where
 -- no run: until the start the reading holds it
 abbrev pub no_run : Run
 no_run = record {
-  track = record { seconds = 0; ends = record { first = 0; second = 0; third = 0; fourth = 0 }; tolerances = no_tolerances; method = byCycles };
+  track = record { seconds = 0; ends = record { first = 0; second = 0; third = 0; fourth = 0 }; tolerances = no_tolerances; method = by_cycles };
   progress = not_begun;
   stretched = not_stretched;
 }

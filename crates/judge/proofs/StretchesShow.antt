@@ -13,7 +13,7 @@ use Rattle.rules.specs.Words.{fold, gather}
 use Rattle.rules.specs.declared.Moment.{Moment}
 use Rattle.rules.specs.declared.Tolerances.{Tolerances}
 use Rattle.rules.specs.declared.Method.{Method}
-use Rattle.rules.specs.declared.Method.TheVariants.{Regular as byCycles, Shortened as with_stretches}
+use Rattle.rules.specs.declared.Method.TheVariants.{Regular as by_cycles, Shortened as with_stretches}
 use Rattle.rules.specs.Course.{row_m, row_e, Course}
 use Rattle.rules.specs.Shortened.{joint, most_below}
 use Rattle.rules.specs.Plan.{Plan, layout_of, rule_of, course_of}
@@ -36,7 +36,7 @@ one_more_lem false z x y = λ i. record { energy = sym (+ℤ_idr z.energy) i; di
 pub watch_next_lem : (b : List ℕ) (t : ℕ) (y : Method) (s : ℕ → Moment) (n : ℕ)
     → watch_in y t ((layout_of b y).row n) (s n).speed (watch_of b t y s n) ≡ watch_of b t y s (suc n)
 unfolding watch_in
-watch_next_lem b t byCycles s n = go (eqb ((layout_of b byCycles).row n) row_e)
+watch_next_lem b t by_cycles s n = go (eqb ((layout_of b by_cycles).row n) row_e)
   where
     go : (v : Bool) → ◌≡◌ {A = ℕ} (cond v 0 0) 0
     go true = refl
@@ -46,12 +46,12 @@ watch_next_lem b t (with_stretches x) s n = sym (watch_by_row b x.length x.speed
 -- what stops the run though it is not outside
 pub halts_watched : (b : List ℕ) (t : Tolerances) (y : Method) (s : ℕ → Moment) (n : ℕ)
     → ltb most_below (watch_of b t.speed y s (suc n)) ≡ (rule_of b t y).halts (λ i. (s i).speed) n
-halts_watched b t byCycles s n = refl
+halts_watched b t by_cycles s n = refl
 halts_watched b t (with_stretches x) s n = sym (stop_watched (joint b x.length 4) x.speed t.speed (λ i. (s i).speed) n)
 
 none_watched : (b : List ℕ) (t : ℕ) (y : Method) (s : ℕ → Moment) → watch_of b t y s 0 ≡ 0
 unfolding watch
-none_watched b t byCycles s = refl
+none_watched b t by_cycles s = refl
 none_watched b t (with_stretches x) s = refl
 
 -- ---- what M and E have

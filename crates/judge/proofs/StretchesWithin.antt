@@ -11,7 +11,7 @@ use Rattle.numbers.proofs.Firsts.{first_before}
 use Rattle.numbers.proofs.Whole.{between_sized}
 use Rattle.rules.specs.declared.Moment.{Moment}
 use Rattle.rules.specs.declared.Method.{Method}
-use Rattle.rules.specs.declared.Method.TheVariants.{Regular as byCycles, Shortened as with_stretches}
+use Rattle.rules.specs.declared.Method.TheVariants.{Regular as by_cycles, Shortened as with_stretches}
 use Rattle.rules.specs.declared.Stretches.{Stretches}
 use Rattle.rules.specs.declared.Tolerances.{Tolerances}
 use Rattle.rules.specs.Bench.{most_offered}
@@ -78,8 +78,8 @@ module _ (b : List ℕ) (o : Sound b) (t : Tolerances) (s : ℕ → Moment) (n :
       → stretched_by y (positions b) (progress_of (course_of (plan b t y)) s n)
       (stretched_of (plan b t y) s (closed (course_of (plan b t y)) s n) (counted (course_of (plan b t y)) s n)) ≡ true
   unfolding are_stretched
-  stretched_is byCycles =
-      let c = course_of (plan b t byCycles) in
+  stretched_is by_cycles =
+      let c = course_of (plan b t by_cycles) in
       let k = closed_most c s n in
       rw (
         nothing c s row_m (closed c s n) (regular_stretches_none b o interval s row_m (closed c s n) (omega arith) k),

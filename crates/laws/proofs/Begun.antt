@@ -14,7 +14,7 @@ use Rattle.numbers.proofs.Order.{side, digits}
 use Rattle.numbers.proofs.Firsts.{first_is}
 use Rattle.numbers.proofs.Tests.{refuted, true_T, both_T, all_by_lem, all_fails}
 use Rattle.rules.specs.declared.Method.{Method}
-use Rattle.rules.specs.declared.Method.TheVariants.{Regular as byCycles, Shortened as with_stretches}
+use Rattle.rules.specs.declared.Method.TheVariants.{Regular as by_cycles, Shortened as with_stretches}
 use Rattle.rules.specs.declared.Stretches.{Stretches}
 use Rattle.rules.specs.Bench.{most_cycles, most_offered}
 use Rattle.rules.specs.Cycle.{phases, phase_start, phase_end, positions, phase_at}
@@ -92,7 +92,7 @@ pub data Begins (b : List ℕ) (y : Method) (c a : ℕ) : Type 0 where
   nowhere : Absent b y c → most_offered < a → Begins b y c a
 
 module _ (b : List ℕ) where
-  pub regular_rides : (c : ℕ) → Rides b byCycles c (c * positions b)
+  pub regular_rides : (c : ℕ) → Rides b by_cycles c (c * positions b)
   regular_rides c =
       let e : suc c * positions b ≡ c * positions b + positions b = omega arith in
       record { standing = λ d l. refl; begins = refl; row_end_lem = ap after e; phase_end_lem = λ k. refl }
@@ -212,10 +212,10 @@ module _ (b : List ℕ) (o : Sound b) (y : Method) (c a : ℕ) where
 
 module _ (b : List ℕ) (o : Sound b) (k : ℕ) where
   -- by the regular method there is neither
-  pub regular_not_begun : (c : ℕ) → most_cycles ≤ c → k ≤ most b → has_begun (row_part (layout_of b byCycles) c) k ≡ false
-  regular_not_begun c g h = begun_nowhere (row_part (layout_of b byCycles) c) k (λ j l. no_stretch_lem b o c g j (omega arith))
+  pub regular_not_begun : (c : ℕ) → most_cycles ≤ c → k ≤ most b → has_begun (row_part (layout_of b by_cycles) c) k ≡ false
+  regular_not_begun c g h = begun_nowhere (row_part (layout_of b by_cycles) c) k (λ j l. no_stretch_lem b o c g j (omega arith))
 
-  pub regular_not_finished : (c : ℕ) → most_cycles ≤ c → k ≤ most b → finished (row_part (layout_of b byCycles) c) k ≡ false
+  pub regular_not_finished : (c : ℕ) → most_cycles ≤ c → k ≤ most b → finished (row_part (layout_of b by_cycles) c) k ≡ false
   regular_not_finished c g h = lt-leb (suc c * positions b) k (omega (arith, real o, mul-le-mul_right (positions b) g))
 
   module _ (x : Stretches) where

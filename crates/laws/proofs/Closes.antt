@@ -11,7 +11,7 @@ use borrow.Author.Tests.{leb-true, ltb-true}
 use Rattle.rules.specs.Words.{all_below, up}
 use Rattle.numbers.proofs.Tests.{both, all_at, not_refused}
 use Rattle.rules.specs.declared.Method.{Method}
-use Rattle.rules.specs.declared.Method.TheVariants.{Regular as byCycles, Shortened as with_stretches}
+use Rattle.rules.specs.declared.Method.TheVariants.{Regular as by_cycles, Shortened as with_stretches}
 use Rattle.rules.specs.Closing.{is_rate, rate_of, least_finished, weighted_figure, range_figure, closing_refusal, most_rate}
 use Rattle.laws.specs.Near.{NearExact}
 use Rattle.laws.proofs.Weighing.{least_rate, greatest_rate}
@@ -28,7 +28,7 @@ above_zero (negsuc m) e = absurd (false≢true e)
 
 -- either method asks for three finished cycles at least
 pub three_at_least : (y : Method) → 3 ≤ least_finished y
-three_at_least byCycles = omega arith
+three_at_least by_cycles = omega arith
 three_at_least (with_stretches x) = omega arith
 
 module _ (E : ℤ) (n : ℕ) (e d : ℕ → ℤ) where

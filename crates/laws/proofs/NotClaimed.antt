@@ -9,7 +9,7 @@ use lib.IntN.{pos}
 use lib.ListN.{get_or}
 use Rattle.rules.specs.Words.{fold, all_below, unless}
 use Rattle.rules.specs.declared.Method.{Method}
-use Rattle.rules.specs.declared.Method.TheVariants.{Regular as byCycles, Shortened as with_stretches}
+use Rattle.rules.specs.declared.Method.TheVariants.{Regular as by_cycles, Shortened as with_stretches}
 use Rattle.rules.specs.Closing.{weighing, least_finished, closing_refusal}
 use Rattle.laws.specs.Near.{NotClaimed}
 
@@ -24,19 +24,19 @@ IsClosed y E e e' d d' = closing_refusal (pos E) 4 (λ c. pos (two e e' c)) (λ 
 -- W = 100 and R = 10, from rates of 100.9 and 101.9: R* is 9.82..
 above : (y : Method) → IsClosed y 14_400 1009 1019 1000 1000
 unfolding IsClosed closing_refusal fold all_below unless weighing two
-above byCycles = refl
+above by_cycles = refl
 above (with_stretches x) = refl
 
 -- W = 1 and R = 5, from rates that are whole: R* is 5.55..
 below : (y : Method) → IsClosed y 80 1 1 100 100
 unfolding IsClosed closing_refusal fold all_below unless weighing two
-below byCycles = refl
+below by_cycles = refl
 below (with_stretches x) = refl
 
 -- W = 5 and R = 4, from rates of 5.88.. and 6.89..: R* is 2.90..
 far : (y : Method) → IsClosed y 288 1 2 17 29
 unfolding IsClosed closing_refusal fold all_below unless weighing two
-far byCycles = refl
+far by_cycles = refl
 far (with_stretches x) = refl
 
 pub not_claimed : (y : Method) → NotClaimed y

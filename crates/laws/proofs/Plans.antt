@@ -12,7 +12,7 @@ use Rattle.numbers.proofs.Tests.{both_T}
 use Rattle.rules.specs.declared.Moment.{Moment}
 use Rattle.rules.specs.declared.Tolerances.{Tolerances}
 use Rattle.rules.specs.declared.Method.{Method}
-use Rattle.rules.specs.declared.Method.TheVariants.{Regular as byCycles, Shortened as with_stretches}
+use Rattle.rules.specs.declared.Method.TheVariants.{Regular as by_cycles, Shortened as with_stretches}
 use Rattle.rules.specs.Bench.{most_cycles, most_positions}
 use Rattle.rules.specs.Cycle.{phases, positions}
 use Rattle.rules.specs.Course.{Share, row_m, row_e, closed}
@@ -37,24 +37,24 @@ use Rattle.laws.proofs.Shortened.{shortened_back, shortened_wider}
 
 module _ (b : List ℕ) where
   planned_back : (t : Tolerances) (y : Method) → LooksBack (rule_of b t y)
-  planned_back t byCycles = record { halts_by = λ v v' j e. refl }
+  planned_back t by_cycles = record { halts_by = λ v v' j e. refl }
   planned_back t (with_stretches x) = shortened_back b x t
 
   pub planned_phase_ends : (y : Method) (c k : ℕ) → Ends (phase_part (layout_of b y) c k)
-  planned_phase_ends byCycles = regular_phase_ends b
+  planned_phase_ends by_cycles = regular_phase_ends b
   planned_phase_ends (with_stretches x) = shortened_phase_ends b x.length
 
   -- row, phase and position of sample j are those of where it stands
   pub planned_row : (y : Method) (j : ℕ) → (layout_of b y).row j ≡ row_of b (stand_of b y j)
-  planned_row byCycles j = refl
+  planned_row by_cycles j = refl
   planned_row (with_stretches x) j = refl
 
   pub planned_phase : (y : Method) (j : ℕ) → (layout_of b y).phase j ≡ phase_of b (stand_of b y j)
-  planned_phase byCycles j = refl
+  planned_phase by_cycles j = refl
   planned_phase (with_stretches x) j = refl
 
   pub begin_first : (y : Method) (j : ℕ) → (layout_of b y).row j < most_cycles → j - (layout_of b y).begin ((layout_of b y).row j) ≡ place_of b (stand_of b y j)
-  begin_first byCycles j h = omega (arith, div-add-mod' j (positions b))
+  begin_first by_cycles j h = omega (arith, div-add-mod' j (positions b))
   begin_first (with_stretches x) j h = go (stands b x.length j) h
     where
       go : Stands b x.length j → (shortened_layout b x.length).row j < most_cycles
@@ -70,15 +70,15 @@ planned_lawful p = record { back = planned_back p.cycle p.tolerances p.method; n
 
 module _ (b : List ℕ) (o : Sound b) where
   pub planned_orderly : (y : Method) → Orderly (layout_of b y)
-  planned_orderly byCycles = regular_orderly b o
+  planned_orderly by_cycles = regular_orderly b o
   planned_orderly (with_stretches x) = shortened_orderly b x.length o
 
   pub planned_wider : (y : Method) (t t' : Tolerances) → Widened t t' → Wider (rule_of b t y) (rule_of b t' y)
-  planned_wider byCycles = regular_wider b o
+  planned_wider by_cycles = regular_wider b o
   planned_wider (with_stretches x) = shortened_wider b x o
 
   pub planned_places : (y : Method) (c k : ℕ) → c < most_cycles → row_places (layout_of b y) c k ≤ most_positions
-  planned_places byCycles c k h = regular_places b o c k
+  planned_places by_cycles c k h = regular_places b o c k
   planned_places (with_stretches x) c k h = shortened_places b x.length o c k h
 
   -- "Phases that do not exist hold 0.": no sample is of one
@@ -101,7 +101,7 @@ pub e_never_finished : (p : Plan) → Sound p.cycle → (s : ℕ → Moment) (n 
 e_never_finished p o s n = go p.method (closed_most (course_of p) s n)
   where
     go : (y : Method) {k : ℕ} → k ≤ (layout_of p.cycle y).most → finished (row_part (layout_of p.cycle y) row_e) k ≡ false
-    go byCycles {k} l = lt-leb (suc row_e * positions p.cycle) k (omega (arith, real o))
+    go by_cycles {k} l = lt-leb (suc row_e * positions p.cycle) k (omega (arith, real o))
     go (with_stretches x) l = refl
 
 pub planned_in_bounds : (p : Plan) → Sound p.cycle → (s : ℕ → Moment) (n : ℕ) → ((j : ℕ) → j < n → Within (s j))

@@ -7,7 +7,7 @@ use Rattle.rules.specs.declared.End.TheVariants.{None as none, Stop as stop, Lim
 use Rattle.rules.specs.declared.Moment.{Moment}
 use Rattle.rules.specs.declared.Tolerances.{Tolerances}
 use Rattle.rules.specs.declared.Method.{Method}
-use Rattle.rules.specs.declared.Method.TheVariants.{Regular as byCycles, Shortened as with_stretches}
+use Rattle.rules.specs.declared.Method.TheVariants.{Regular as by_cycles, Shortened as with_stretches}
 use Rattle.rules.specs.Bench.{most_speed, most_drawn, most_cycles, most_phases}
 use Rattle.rules.specs.Band.{lo, hi, below_of}
 use Rattle.rules.specs.Tally as tally
@@ -43,7 +43,7 @@ most_rows = row_e + 1
 
 -- where sample j stands, by the method
 abbrev pub stand_of : List ℕ → Method → ℕ → Stand
-stand_of b byCycles j = ride j
+stand_of b by_cycles j = ride j
 stand_of b (with_stretches x) j = stand b x.length j
 
 -- its position there; M and E have none

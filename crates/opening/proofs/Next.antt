@@ -12,7 +12,7 @@ use lib.ListN.{length, take, drop, length-append, length-drop}
 use lib.Seq.{length-take-le, take-append-le, take_all}
 use Rattle.numbers.proofs.Tests.{both, pass}
 use Rattle.rules.specs.declared.Tolerances.{Tolerances}
-use Rattle.rules.specs.declared.Method.TheVariants.{Regular as byCycles}
+use Rattle.rules.specs.declared.Method.TheVariants.{Regular as by_cycles}
 use Rattle.rules.specs.Bench.{tolerable}
 use Rattle.rules.specs.Cycle.{valid, most_bytes}
 use Rattle.rules.specs.Table.{behind_tolerances}
@@ -41,7 +41,7 @@ take_written room v = take-append-le (length v) v (drop (length v) room) (omega 
 -- what became of an opening o on its room, with ledger and map, by a field that led to y
 pub data Next (o : Opening) (room : List ℕ) (l : List ℤ) (m : List ℕ) (y : Stage) : Type 0 where
   waits : y.place ≡ o.fields + 1 → y.place ≤ 3 → (let r = room_after (stage_of o room l m) y room in (stage_of (opening_of y) r l m ≡ y) × Ready (opening_of y) r) → Next o room l m y
-  begins : o.fields ≡ 3 → (t : Tolerances) → start_refusal (take o.cycle room) t byCycles l m ≡ 0 → bring_on (stage_of o room l m) 4 (the_tolerances t) ≡ y → Next o room l m y
+  begins : o.fields ≡ 3 → (t : Tolerances) → start_refusal (take o.cycle room) t by_cycles l m ≡ 0 → bring_on (stage_of o room l m) 4 (the_tolerances t) ≡ y → Next o room l m y
 
 module _ (o : Opening) (room : List ℕ) (l : List ℤ) (m : List ℕ) (h : Ready o room) where
   abbrev x : Stage
@@ -76,7 +76,7 @@ module _ (o : Opening) (room : List ℕ) (l : List ℤ) (m : List ℕ) (h : Read
       → (let r = room_after x y room in (stage_of (opening_of y) r l m ≡ y) × Ready (opening_of y) r)
   on_same y e = subst (λ (r : List ℕ). (stage_of (opening_of y) r l m ≡ y) × Ready (opening_of y) r) (sym (same_room y e))
 
-  granted : (t : Tolerances) → valid (take o.cycle room) ≡ true → tolerable t ≡ true → is_long (lent l m) ≡ true → start_refusal (take o.cycle room) t byCycles l m ≡ 0
+  granted : (t : Tolerances) → valid (take o.cycle room) ≡ true → tolerable t ≡ true → is_long (lent l m) ≡ true → start_refusal (take o.cycle room) t by_cycles l m ≡ 0
   unfolding start_refusal
   granted t c g e = let (a, b) = both _ _ e in sym (pass 1 a (pass 1 b (pass 2 c (pass 3 g (pass 19 refl refl)))))
 

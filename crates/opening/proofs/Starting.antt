@@ -13,7 +13,7 @@ use lib.Seq.{length-take-le}
 use Rattle.rules.specs.Words.{all_below, unless, settled}
 use Rattle.numbers.proofs.Tests.{pass, stop, settled_taken, settled_refused, settled_answer}
 use Rattle.rules.specs.declared.Tolerances.{Tolerances}
-use Rattle.rules.specs.declared.Method.TheVariants.{Regular as byCycles}
+use Rattle.rules.specs.declared.Method.TheVariants.{Regular as by_cycles}
 use Rattle.rules.specs.Bench.{tolerable}
 use Rattle.rules.specs.Cycle.{valid}
 use Rattle.rules.specs.Shown.{ledger_numbers, map_words}
@@ -68,11 +68,11 @@ module _ (o : Opening) (room : List ℕ) (l : List ℤ) (m : List ℕ) where
     number_is = start_number o room l m v
 
     abbrev run : Run
-    run = started (take o.cycle room) (tolerances_in v) byCycles
+    run = started (take o.cycle room) (tolerances_in v) by_cycles
 
-    module _ (n : ℕ) {t : Tolerances} (e : t ≡ tolerances_in v) (a : Answer) {c : Memory} (h : record { answer = answer_said a; memory = c } ≡ start_left (take o.cycle room) t byCycles l m) where
-      promise : StartPromise (take o.cycle room) (tolerances_in v) byCycles l m a c
-      promise = promised (h ∙ ap (λ (z : Tolerances). start_left (take o.cycle room) z byCycles l m) e)
+    module _ (n : ℕ) {t : Tolerances} (e : t ≡ tolerances_in v) (a : Answer) {c : Memory} (h : record { answer = answer_said a; memory = c } ≡ start_left (take o.cycle room) t by_cycles l m) where
+      promise : StartPromise (take o.cycle room) (tolerances_in v) by_cycles l m a c
+      promise = promised (h ∙ ap (λ (z : Tolerances). start_left (take o.cycle room) z by_cycles l m) e)
 
       answers : {r : OpenSaid} → r ≡ (start_opened o room l m v n).answer → record { answer = r; memory = c } ≡ start_opened o room l m v n
       answers p = λ i. record { answer = p i; memory = promise.in_memory i }

@@ -12,7 +12,7 @@ use Rattle.rules.specs.Record.{no_amounts}
 use Rattle.laws.specs.Answers.{Said, gives, refuses}
 use Rattle.state.specs.declared.Run.{Run}
 use Rattle.state.specs.State.{Memory, lent}
-use Rattle.rules.specs.declared.Method.TheVariants.{Regular as byCycles}
+use Rattle.rules.specs.declared.Method.TheVariants.{Regular as by_cycles}
 use Rattle.state.specs.Refusals.{not_begun, not_stretched, started}
 use Rattle.records.specs.Stage.{Stage, take_on, reply_on, room_after}
 use Rattle.opening.specs.declared.OpenStep.{OpenStep}
@@ -37,7 +37,7 @@ stage_of o room l m = record {
   vehicle = o.vehicle;
   cycle = take o.cycle room;
   tolerances = no_tolerances;
-  method = byCycles;
+  method = by_cycles;
   amounts = no_amounts;
   run = record { progress = not_begun; stretched = not_stretched; memory = lent l m };
 }
@@ -72,7 +72,7 @@ open_said a = record { says = open_step_said a.step; opening = a.opening }
 
 -- the run that has started
 abbrev pub run_of : Stage → Run
-run_of x = started x.cycle x.tolerances byCycles
+run_of x = started x.cycle x.tolerances by_cycles
 
 -- a field was taken, of n bytes: the fourth starts the run
 abbrev pub open_taken : Stage → ℕ → Opened

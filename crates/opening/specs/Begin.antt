@@ -5,7 +5,7 @@ use Rattle.rules.specs.Words.{unless, settled}
 use Rattle.rules.specs.Cycle.{valid}
 use Rattle.laws.specs.Answers.{gives, refuses}
 use Rattle.state.specs.State.{lent, Left}
-use Rattle.rules.specs.declared.Method.TheVariants.{Regular as byCycles}
+use Rattle.rules.specs.declared.Method.TheVariants.{Regular as by_cycles}
 use Rattle.state.specs.Refusals.{start_refusal, started}
 use Rattle.step.specs.Step.{start_of}
 use Rattle.rules.specs.Values.{is_number, tolerances_in}
@@ -27,7 +27,7 @@ cycle_answer o v n =
 
 -- the number of the refusal of a start by field 4, 0 where there is none
 abbrev pub start_number : Opening → List ℕ → List ℤ → List ℕ → List ℕ → ℕ
-start_number o room l m v = start_refusal (take o.cycle room) (tolerances_in v) byCycles l m
+start_number o room l m v = start_refusal (take o.cycle room) (tolerances_in v) by_cycles l m
 
 -- what it leaves, with ledger and map
 abbrev pub start_opened : Opening → List ℕ → List ℤ → List ℕ → List ℕ → ℕ → Left OpenSaid
@@ -37,7 +37,7 @@ start_opened o room l m v n =
       answer =
           settled k
           (record {
-            says = gives (starts n (started (take o.cycle room) (tolerances_in v) byCycles));
+            says = gives (starts n (started (take o.cycle room) (tolerances_in v) by_cycles));
             opening = record { fields = o.fields + 1; vehicle = o.vehicle; cycle = o.cycle };
           })
           (refused_at o k);

@@ -14,7 +14,7 @@ use Rattle.laws.specs.Answers.{Said, gives, refuses}
 use Rattle.state.specs.State.{Left, lent, left}
 use Rattle.records.specs.Stage.{Stage, take_on, reply_on, run_on}
 use Rattle.opening.specs.declared.Opening.{Opening}
-use Rattle.opening.specs.Answers.{Opened, opens, starts, unfinished as openUnfinished, OpenLeft, stage_of, run_of, open_ground, not_opened, opened_by, front_opened}
+use Rattle.opening.specs.Answers.{Opened, opens, starts, unfinished as open_unfinished, OpenLeft, stage_of, run_of, open_ground, not_opened, opened_by, front_opened}
 use Rattle.reading.specs.declared.Reading.{Reading}
 use Rattle.reading.specs.Answers.{FieldRead, reads, passes, unfinished, reply_said, ReadSaid, AllSaid, stage_at, reading_of, read_ground}
 use Rattle.reading.proofs.Taking.{from_start}
@@ -26,7 +26,7 @@ use Rattle.reader.specs.Answers.{read_by, all_by, read_left, all_left}
 abbrev pub OpenStays : Said Opened → Type 0
 OpenStays (gives (opens n)) = ⊥
 OpenStays (gives (starts n r)) = ⊥
-OpenStays (gives openUnfinished) = Unit {0}
+OpenStays (gives open_unfinished) = Unit {0}
 OpenStays (refuses n) = Unit {0}
 
 module _ (o : Opening) (room : List ℕ) (l : List ℤ) (m : List ℕ) where

@@ -8,7 +8,7 @@ use native.Mathlib.Omega.{arith}
 use lib.IntN.{ℤ}
 use lib.ListN.{length}
 use borrow.Author.Tests.{le-leb}
-use Rattle.rules.specs.declared.Method.TheVariants.{Regular as byCycles}
+use Rattle.rules.specs.declared.Method.TheVariants.{Regular as by_cycles}
 use Rattle.rules.specs.Shown.{ledger_numbers, map_words}
 use Rattle.rules.specs.Table.{behind_tolerances, behind_before}
 use Rattle.rules.specs.Record.{Told}
@@ -44,7 +44,7 @@ module _ (l₀ : List ℤ) (m₀ : List ℕ) (long : Long l₀ m₀) where
     pub amounts : s.holding.amounts ≡ x.amounts
     -- until an own block nothing is offered; until the start the memory is as it was lent, and behind it as the start left it
     pub empty : x.place ≤ behind_before → s.holding.samples ≡ []
-    pub waits : x.place ≤ 3 → (x.run ≡ record { progress = not_begun; stretched = not_stretched; memory = lent l₀ m₀ }) × (x.method ≡ byCycles)
+    pub waits : x.place ≤ 3 → (x.run ≡ record { progress = not_begun; stretched = not_stretched; memory = lent l₀ m₀ }) × (x.method ≡ by_cycles)
     pub begun : behind_tolerances ≤ x.place → x.place ≤ behind_before → x.run ≡ start_of l₀ m₀
     -- after it the run is that of the samples
     pub reached : behind_tolerances ≤ x.place

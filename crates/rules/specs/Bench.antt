@@ -7,7 +7,7 @@ pub use Rattle.rules.specs.declared.Moment.{Moment}
 pub use Rattle.rules.specs.declared.Tolerances.{Tolerances}
 pub use Rattle.rules.specs.declared.Stretches.{Stretches}
 pub use Rattle.rules.specs.declared.Method.{Method}
-pub use Rattle.rules.specs.declared.Method.TheVariants.{Regular as byCycles, Shortened as with_stretches}
+pub use Rattle.rules.specs.declared.Method.TheVariants.{Regular as by_cycles, Shortened as with_stretches}
 pub use Rattle.rules.specs.declared.End.{End}
 pub use Rattle.rules.specs.declared.End.TheVariants.{None as none, Stop as stop, Limit as limit}
 

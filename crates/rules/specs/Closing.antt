@@ -3,7 +3,7 @@
 use Rattle.std.specs.Prelude.{Bool, true, ◌&&◌, ℕ, ◌+◌, ◌-◌, ◌*◌, ◌/◌, leb, ℤ, pos, neg_ℤ, ◌+ℤ◌}
 use Rattle.std.specs.Int.Signed.{le_z, lt_z}
 use Rattle.rules.specs.Words.{settled, sum, all_below, unless, up, between}
-use Rattle.rules.specs.Bench.{Moment, Method, byCycles, with_stretches}
+use Rattle.rules.specs.Bench.{Moment, Method, by_cycles, with_stretches}
 use Rattle.rules.specs.Course.{Course, closed}
 use Rattle.rules.specs.Parts.{energy}
 pub use Rattle.rules.specs.declared.Charge.{Charge}
@@ -76,7 +76,7 @@ rate_of e d c = rate (up (e c)) (up (d c))
 
 -- "10 | n < 3"; document 02, L5: "10 at closing also when fewer than four cycles were finished", by the shortened method
 abbrev pub least_finished : Method → ℕ
-least_finished byCycles = 3
+least_finished by_cycles = 3
 least_finished (with_stretches x) = 4
 
 -- n finished cycles, and the signed whole energy E

@@ -2,7 +2,7 @@
 -- Assumes nothing.
 use Rattle.std.specs.Prelude.{cond, List, [], ◌++◌, ℕ, suc, ◌+◌, ◌-◌, leb, eqb, ℤ, pos, length, replicate}
 use Rattle.rules.specs.Words.{unless}
-use Rattle.rules.specs.Bench.{Moment, Tolerances, Stretches, Method, byCycles, with_stretches, most_passed, are_stretches}
+use Rattle.rules.specs.Bench.{Moment, Tolerances, Stretches, Method, by_cycles, with_stretches, most_passed, are_stretches}
 use Rattle.rules.specs.Cycle.{valid, start_or}
 use Rattle.rules.specs.Closing.{Amounts, absent, wh, is_transfer_in, doubled, is_charge}
 use Rattle.rules.specs.Table.{Row, Matter, mark, number, cycle, tolerances, stretches, block, energy_before, energy_after, recharge}
@@ -144,7 +144,7 @@ abbrev pub untold : Told
 untold = record {
   place = at_first;
   passed = 0;
-  holding = holding (replicate 17 48) [] (record { speed = 0; time = 0; allowance = 0 }) byCycles [] no_amounts;
+  holding = holding (replicate 17 48) [] (record { speed = 0; time = 0; allowance = 0 }) by_cycles [] no_amounts;
 }
 
 -- what is told, or "refused N field K"

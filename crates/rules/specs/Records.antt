@@ -5,7 +5,7 @@ use Rattle.rules.specs.declared.Charge.{Charge}
 use Rattle.rules.specs.declared.Charge.TheVariants.{Absent as absent, Wh as wh}
 use Rattle.rules.specs.declared.Amounts.{Amounts}
 use Rattle.rules.specs.Words.{up}
-use Rattle.rules.specs.Bench.{Method, byCycles, with_stretches}
+use Rattle.rules.specs.Bench.{Method, by_cycles, with_stretches}
 use Rattle.rules.specs.Table.{run1, behind_tolerances}
 use Rattle.rules.specs.Values.{block_or}
 use Rattle.rules.specs.Record.{Told, Sheet, told, refused_at, untold, sheet_from, sheet_of}
@@ -92,7 +92,7 @@ amounts_of a = up a.before ∷ up a.after ∷ charge_of a.charge ∷ []
 
 -- M's length and E's set speed; 0 by the regular method
 abbrev pub stretches_of : Method → List ℕ
-stretches_of byCycles = 0 ∷ 0 ∷ []
+stretches_of by_cycles = 0 ∷ 0 ∷ []
 stretches_of (with_stretches x) = x.length ∷ x.speed ∷ []
 
 -- told: place, passed over, samples, cycle's bytes, amounts, stretches; refused: number, field

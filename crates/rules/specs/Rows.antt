@@ -149,15 +149,15 @@ holds (exact asked E es ds W R top bottom metres a) =
     let e : ℕ → ℕ = λ c. get_or es c 0 in
     let d : ℕ → ℕ = λ c. get_or ds c 0 in
     let answer = closing_by (pos E) n (λ c. pos (e c)) (λ c. pos (d c)) (pos 0) asked absent in
-    let isUnder : ℕ → Bool = λ b. ltb (R * W * range_denominator E n e d) (exact_range E n e d * (W + b)) in
+    let is_under : ℕ → Bool = λ b. ltb (R * W * range_denominator E n e d) (exact_range E n e d * (W + b)) in
     same_bytes 5 (numbers_of answer) (numbers_of (Closed (together W R Absent)))
-    && eqb (exact_range E n e d * bottom) (top * range_denominator E n e d) && eqb (exact_metres E n e d) metres && eqb (first isUnder 3) a
+    && eqb (exact_range E n e d * bottom) (top * range_denominator E n e d) && eqb (exact_metres E n e d) metres && eqb (first is_under 3) a
 holds (shuts most n m k e) = let c = limited most in eqb (closed_where c n m) k && same_end (ending_where c n m) e
 holds (gathers c k m e done) =
     let p = phase_part two_phases c k in
     let s : ℕ → Moment = λ j. moment (10 * j) (pos j) in
     eq_z (part_energy interval s p m) (pos e) && eqb (part_distance interval s p m) (10 * e) && same (finished p m) done
-holds (short m u xs e k j c os r inM done in_e) =
+holds (short m u xs e k j c os r in_m done in_e) =
     let b = bytes (record { a = 100; b = 100; c = 100 }) in
     let y = course_of (plan b (tolerances 30 0 3) (with_stretches (record { length = m; speed = u }))) in
     let x = driven xs in
@@ -167,5 +167,5 @@ holds (short m u xs e k j c os r inM done in_e) =
     let closed_in : ℕ → ℤ = λ q. part_energy interval x (row_part y.layout q) j in
     eqb (counted y x n) k && eqb (closed_where y n k) j && same_end (ending_where y n k) e && eqb (cycles y.layout j) c
     && o 0 && o 1 && o 2 && o 3 && eqb (shown_row y.layout l) r
-    && eq_z (closed_in row_m) (pos (1_440_000 * inM)) && same (finished (row_part y.layout row_m) j) done && eq_z (closed_in row_e) (pos (1_440_000 * in_e))
+    && eq_z (closed_in row_m) (pos (1_440_000 * in_m)) && same (finished (row_part y.layout row_m) j) done && eq_z (closed_in row_e) (pos (1_440_000 * in_e))
 holds (asks y s w p v z) = eq_z (question y (tolerances s w 0) p v) z

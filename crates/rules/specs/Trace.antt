@@ -3,7 +3,7 @@
 use Rattle.std.specs.Prelude.{Bool, not, cond, ◌&&◌, ◌||◌, List, [], ◌++◌, ℕ, suc, ◌-◌, ◌*◌, ltb, eqb, ℤ, pos, ◌+ℤ◌, length}
 use Rattle.std.specs.Int.Signed.{le_z}
 use Rattle.rules.specs.Words.{all_below, up, spell}
-use Rattle.rules.specs.Bench.{Moment, Method, byCycles, with_stretches, End, none, stop, limit, most_phases, most_cycles}
+use Rattle.rules.specs.Bench.{Moment, Method, by_cycles, with_stretches, End, none, stop, limit, most_phases, most_cycles}
 use Rattle.rules.specs.Course.{Layout, row_m, row_e, outside, judged}
 use Rattle.rules.specs.Parts.{Part, row_part, phase_part, part_energy, part_distance, finished}
 use Rattle.rules.specs.Regular.{moment_in}
@@ -66,7 +66,7 @@ trace_told x = trace_by x.holding.vehicle x.passed x.holding.amounts (plan_told 
 
 -- "method regular | method shortened M U"
 abbrev pub method_line : Method → List ℕ
-method_line byCycles = line (spell "method") (spell "regular")
+method_line by_cycles = line (spell "method") (spell "regular")
 method_line (with_stretches x) = spaced (spell "method") ++ spaced (spell "shortened") ++ spaced (digits x.length) ++ ended (digits x.speed)
 
 -- "fields F blocks B passed P": "accepted fields, passed-over ones among them; own blocks; blocks passed over"

@@ -10,7 +10,7 @@ use native.Mathlib.Omega.{arith}
 use borrow.Author.Tests.{lt-ltb, le-ltb, ne_eqb}
 use Rattle.numbers.proofs.Order.{side}
 use Rattle.rules.specs.declared.Method.{Method}
-use Rattle.rules.specs.declared.Method.TheVariants.{Regular as byCycles, Shortened as with_stretches}
+use Rattle.rules.specs.declared.Method.TheVariants.{Regular as by_cycles, Shortened as with_stretches}
 use Rattle.rules.specs.Bench.{most_cycles}
 use Rattle.rules.specs.Cycle.{positions}
 use Rattle.rules.specs.Course.{row_m, row_e}
@@ -26,7 +26,7 @@ use Rattle.laws.proofs.Begun.{Begins, there, nowhere, has_begun, regular_rides, 
 
 -- where cycle c begins
 pub first_known : (b : List ℕ) (y : Method) (c : ℕ) → c < most_cycles → Begins b y c (first_of y (positions b) c)
-first_known b byCycles c h = there (regular_rides b c)
+first_known b by_cycles c h = there (regular_rides b c)
 first_known b (with_stretches x) c h =
     ⊎_elim (λ (g : c < 2). rw (lt-ltb c 2 g) (there (early_rides b x c g)))
     (λ (g : 2 < suc c).
@@ -39,20 +39,20 @@ module _ (b : List ℕ) (o : Sound b) where
   -- whether M and E have begun, and whether M is finished
   module _ (k : ℕ) where
     pub m_begun : (y : Method) → is_method y ≡ true → k ≤ (layout_of b y).most → has_begun (row_part (layout_of b y) row_m) k ≡ begun_m y (positions b) k
-    m_begun byCycles e h = regular_not_begun b o k row_m (omega arith) h
+    m_begun by_cycles e h = regular_not_begun b o k row_m (omega arith) h
     m_begun (with_stretches x) e h = begun_M b o k x (method_length x e).0
 
     pub m_finished : (y : Method) → k ≤ (layout_of b y).most → finished (row_part (layout_of b y) row_m) k ≡ finished_m y (positions b) k
-    m_finished byCycles h = regular_not_finished b o k row_m (omega arith) h
+    m_finished by_cycles h = regular_not_finished b o k row_m (omega arith) h
     m_finished (with_stretches x) h = refl
 
     pub e_begun : (y : Method) → k ≤ (layout_of b y).most → has_begun (row_part (layout_of b y) row_e) k ≡ begun_e y (positions b) k
-    e_begun byCycles h = regular_not_begun b o k row_e (omega arith) h
+    e_begun by_cycles h = regular_not_begun b o k row_e (omega arith) h
     e_begun (with_stretches x) h = begun_E b o k x
 
   -- where sample n stands
   pub stop_stands : (y : Method) (n : ℕ) → n ≤ (layout_of b y).most → stop_by y (positions b) n ≡ stood_at (layout_of b y) n
-  stop_stands byCycles n h =
+  stop_stands by_cycles n h =
       let row : n / positions b ≤ most_cycles = div-le_of_le-mul (positions b) (omega arith) in
       let place : n % positions b ≡ n - n / positions b * positions b = omega (arith, div-add-mod' n (positions b)) in
       rw (ne_eqb (n / positions b) row_e (λ (e : n / positions b ≡ row_e). omega arith)) (ap (stop_at false (n / positions b)) place)

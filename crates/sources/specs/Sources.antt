@@ -3,7 +3,7 @@
 use Rattle.std.specs.Prelude.{Bool, true, false, cond, ◌&&◌, List, ℕ, suc, ◌+◌, ◌-◌, ◌*◌, ◌/◌, ◌%◌, leb, ltb, eqb, ℤ, pos}
 use Rattle.rules.specs.declared.Gathered.{Gathered}
 use Rattle.rules.specs.declared.Method.{Method}
-use Rattle.rules.specs.declared.Method.TheVariants.{Regular as byCycles, Shortened as with_stretches}
+use Rattle.rules.specs.declared.Method.TheVariants.{Regular as by_cycles, Shortened as with_stretches}
 use Rattle.rules.specs.Bench.{most_cycles, most_positions, most_offered}
 use Rattle.rules.specs.Cycle.{phases, phase_start, phase_end}
 use Rattle.rules.specs.Course.{Layout, row_m, row_e}
@@ -24,7 +24,7 @@ abbrev pub first_around : ℕ → ℕ → ℕ → ℕ
 first_around m n c = cond (ltb c 2) (c * n) (cond (ltb c 4) (m + c * n) (suc most_offered))
 
 abbrev pub first_of : Method → ℕ → ℕ → ℕ
-first_of byCycles n c = c * n
+first_of by_cycles n c = c * n
 first_of (with_stretches x) n c = first_around x.length n c
 
 abbrev pub most_first : ℕ
@@ -72,15 +72,15 @@ outside_on = outside_in
 -- ---- stretches, of which a regular run has none
 
 abbrev pub begun_m : Method → ℕ → ℕ → Bool
-begun_m byCycles n closed = false
+begun_m by_cycles n closed = false
 begun_m (with_stretches x) n closed = ltb (2 * n) closed
 
 abbrev pub finished_m : Method → ℕ → ℕ → Bool
-finished_m byCycles n closed = false
+finished_m by_cycles n closed = false
 finished_m (with_stretches x) n closed = leb (2 * n + x.length) closed
 
 abbrev pub begun_e : Method → ℕ → ℕ → Bool
-begun_e byCycles n closed = false
+begun_e by_cycles n closed = false
 begun_e (with_stretches x) n closed = ltb (4 * n + x.length) closed
 
 abbrev pub stretch_by : Stretch → Bool → Bool → Gathered
@@ -112,7 +112,7 @@ stop_around m n j =
     (stop_at true row_e (j - (4 * n + m)))))
 
 abbrev pub stop_by : Method → ℕ → ℕ → Stop
-stop_by byCycles n j = ride_stop n j
+stop_by by_cycles n j = ride_stop n j
 stop_by (with_stretches x) n j = stop_around x.length n j
 
 abbrev pub stop_on : Run → Stop

@@ -13,7 +13,7 @@ use Rattle.numbers.proofs.Tests.{both}
 use Rattle.numbers.proofs.Whole.{of_nat, eq_z_true, sized_between}
 use Rattle.rules.specs.declared.Stretches.{Stretches}
 use Rattle.rules.specs.declared.Method.{Method}
-use Rattle.rules.specs.declared.Method.TheVariants.{Regular as byCycles, Shortened as with_stretches}
+use Rattle.rules.specs.declared.Method.TheVariants.{Regular as by_cycles, Shortened as with_stretches}
 use Rattle.rules.specs.Bench.{are_stretches, most_offered}
 use Rattle.rules.specs.Shortened.{most_below}
 use Rattle.rules.specs.Shown.{most_stretch_energy, most_stretch_distance}
@@ -69,7 +69,7 @@ unfolding is_stretched
 stretched r = go r.track.method (20 * r.track.seconds)
   where
     go : (y : Method) (n : ℕ) → stretched_by y n r.progress r.stretched ≡ true → Parts r.stretched
-    go byCycles n h = parts r.stretched _ _ _ h
+    go by_cycles n h = parts r.stretched _ _ _ h
     go (with_stretches x) n h = parts r.stretched _ _ _ h
 
 pub stretched_m : (r : Run) → is_stretched r ≡ true → Sized most_stretch_energy r.stretched.in_m.energy × (r.stretched.in_m.distance ≤ most_stretch_distance)

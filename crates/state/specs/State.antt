@@ -6,7 +6,7 @@ use Rattle.rules.specs.declared.Moment.{Moment}
 use Rattle.rules.specs.declared.End.{End}
 use Rattle.rules.specs.declared.End.TheVariants.{None as none, Stop as stop, Limit as limit}
 use Rattle.rules.specs.declared.Method.{Method}
-use Rattle.rules.specs.declared.Method.TheVariants.{Regular as byCycles, Shortened as with_stretches}
+use Rattle.rules.specs.declared.Method.TheVariants.{Regular as by_cycles, Shortened as with_stretches}
 use Rattle.rules.specs.Bench.{tolerable, least_seconds, most_seconds, most_offered, most_cycles}
 use Rattle.rules.specs.Cycle.{phases, phase_end, seconds, valid}
 use Rattle.rules.specs.Shortened.{most_below}
@@ -49,7 +49,7 @@ same_ends d e = eqb d.first e.first && eqb d.second e.second && eqb d.third e.th
 
 -- how many samples can count: those of 64 cycles of n positions, or all that may be offered
 abbrev pub most_by : Method → ℕ → ℕ
-most_by byCycles n = most_cycles * n
+most_by by_cycles n = most_cycles * n
 most_by (with_stretches x) n = most_offered
 
 abbrev pub most_of : Run → ℕ
@@ -87,7 +87,7 @@ are_stretched z m e watched = is_stretch m z.in_m && is_stretch e z.in_e && cond
 
 -- M begins behind two cycles of n positions, E behind four and M; by the regular method there is neither
 abbrev pub stretched_by : Method → ℕ → Progress → Stretched → Bool
-stretched_by byCycles n p z = are_stretched z false false false
+stretched_by by_cycles n p z = are_stretched z false false false
 stretched_by (with_stretches x) n p z =
     let e = 4 * n + x.length in
     are_stretched z (ltb (2 * n) (closed_by p)) (ltb e (closed_by p)) (ltb e p.counted)

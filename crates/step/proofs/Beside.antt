@@ -12,7 +12,7 @@ use Rattle.rules.specs.declared.Moment.{Moment}
 use Rattle.rules.specs.declared.Tolerances.{Tolerances}
 use Rattle.rules.specs.declared.Stretches.{Stretches}
 use Rattle.rules.specs.declared.Method.{Method}
-use Rattle.rules.specs.declared.Method.TheVariants.{Regular as byCycles, Shortened as with_stretches}
+use Rattle.rules.specs.declared.Method.TheVariants.{Regular as by_cycles, Shortened as with_stretches}
 use Rattle.rules.specs.declared.End.{End}
 use Rattle.rules.specs.declared.End.TheVariants.{Stop as stop, Limit as limit}
 use Rattle.rules.specs.Bench.{most_cycles, most_offered}
@@ -118,10 +118,10 @@ module _ (b : List ℕ) (t : Tolerances) (g : Going) (z : Stretched) (x : Moment
     counted_is l = taken false (le-ltb most_below w l)
 
   -- by the regular method the run ends
-  pub limited_is : Counts b t.time byCycles g → most_cycles ≤ g.row
-      → taking (progressed g (ended_by g.progress limit)) z ≡ one_beside b t byCycles (taking g z) x
+  pub limited_is : Counts b t.time by_cycles g → most_cycles ≤ g.row
+      → taking (progressed g (ended_by g.progress limit)) z ≡ one_beside b t by_cycles (taking g z) x
   unfolding judge_or_limit
   limited_is k h =
       let o = sound b k.sound in
-      rw (none_counts b o g.progress.counted (rw (← row_is b o t.time byCycles g k.stands) h))
-      (ap (λ (u : Going). taking u z) (ended_is b t.time byCycles g k.stands limit))
+      rw (none_counts b o g.progress.counted (rw (← row_is b o t.time by_cycles g k.stands) h))
+      (ap (λ (u : Going). taking u z) (ended_is b t.time by_cycles g k.stands limit))

@@ -5,7 +5,7 @@ use mathlib.Core.Path.{◌≡◌, refl, sym, ap, ◌∙◌}
 use Prim.Native.Nat.{ℕ}
 use native.Mathlib.Omega.{arith}
 use Rattle.rules.specs.declared.Method.{Method}
-use Rattle.rules.specs.declared.Method.TheVariants.{Regular as byCycles, Shortened as with_stretches}
+use Rattle.rules.specs.declared.Method.TheVariants.{Regular as by_cycles, Shortened as with_stretches}
 use Rattle.rules.specs.Shortened.{ride, row_of, phase_of}
 use Rattle.rules.specs.Plan.{layout_of}
 use Rattle.laws.specs.Beside.{stand_of, place_of}
@@ -17,7 +17,7 @@ use Rattle.step.specs.Step.{open_row, open_phase}
 use Rattle.step.specs.Where.{until_at, standing}
 
 first_stand : (b : List ℕ) → Sound b → (y : Method) → stand_of b y 0 ≡ ride 0
-first_stand b o byCycles = refl
+first_stand b o by_cycles = refl
 first_stand b o (with_stretches x) = stand_early b x.length 0 (omega (arith, real o))
 
 pub fresh_standing : (b : List ℕ) → Sound b → (w : ℕ) (y y' : Method) (p : Progress) → p.counted ≡ 0 → standing b w y p ≡ standing b w y' p

@@ -11,7 +11,7 @@ use borrow.Author.Tests.{ne_eqb}
 use lib.Dec.{eqb}
 use Rattle.numbers.proofs.Order.{digits}
 use Rattle.rules.specs.declared.Method.{Method}
-use Rattle.rules.specs.declared.Method.TheVariants.{Regular as byCycles, Shortened as with_stretches}
+use Rattle.rules.specs.declared.Method.TheVariants.{Regular as by_cycles, Shortened as with_stretches}
 use Rattle.rules.specs.Bench.{most_positions, most_phases, most_cycles}
 use Rattle.rules.specs.Cycle.{positions, phase_end, phase_at}
 use Rattle.rules.specs.Course.{row_m, row_e, Layout}
@@ -66,7 +66,7 @@ module _ (b : List ℕ) (o : Sound b) where
       omega (arith, mul-le-mul_right (positions b) c, div-add-mod' i (positions b))
 
   pub riding : (y : Method) (n : ℕ) → row_of b (stand_of b y n) < most_cycles → Riding b y n
-  riding byCycles n h = record { place = n; is = refl; next = λ g. refl }
+  riding by_cycles n h = record { place = n; is = refl; next = λ g. refl }
   riding (with_stretches x) n h = go (joints b x.length n)
     where
       go : Joints b x.length n → Riding b (with_stretches x) n

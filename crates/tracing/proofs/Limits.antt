@@ -11,7 +11,7 @@ use Rattle.numbers.specs.Whole.{Sized}
 use Rattle.numbers.proofs.Whole.{sized_add}
 use Rattle.numbers.proofs.Tests.{not_refused}
 use Rattle.rules.specs.declared.Method.{Method}
-use Rattle.rules.specs.declared.Method.TheVariants.{Regular as byCycles, Shortened as with_stretches}
+use Rattle.rules.specs.declared.Method.TheVariants.{Regular as by_cycles, Shortened as with_stretches}
 use Rattle.rules.specs.Bench.{most_cycles}
 use Rattle.laws.specs.Beside.{most_whole}
 use Rattle.laws.proofs.Sound.{sound}
@@ -35,7 +35,7 @@ traceable r b l m e =
 
 -- no method has more cycles
 few_finished : (y : Method) (n k : ℕ) → 1 ≤ n → k ≤ most_by y n → cycles_for y n k ≤ most_cycles
-few_finished byCycles n k g h = div-le_of_le-mul n (omega arith)
+few_finished by_cycles n k g h = div-le_of_le-mul n (omega arith)
 few_finished (with_stretches x) n k g h = omega (arith, finished_most n x.length g k)
 
 module _ {r : Reading} {b : List ℕ} {l : List ℤ} (h : Traceable r b l) where

@@ -3,7 +3,7 @@
 use Rattle.std.specs.Prelude.{Bool, true, ◌&&◌}
 use Rattle.rules.specs.declared.Amounts.{Amounts}
 use Rattle.rules.specs.declared.Method.{Method}
-use Rattle.rules.specs.declared.Method.TheVariants.{Regular as byCycles, Shortened as with_stretches}
+use Rattle.rules.specs.declared.Method.TheVariants.{Regular as by_cycles, Shortened as with_stretches}
 use Rattle.rules.specs.Bench.{are_stretches}
 use Rattle.rules.specs.Closing.{is_charge}
 use Rattle.laws.specs.Beside.{is_transfer}
@@ -14,5 +14,5 @@ are_amounts a = is_transfer a.before && is_transfer a.after && is_charge a.charg
 
 -- a method whose stretches, if it has any, are within their limits
 abbrev pub is_method : Method → Bool
-is_method byCycles = true
+is_method by_cycles = true
 is_method (with_stretches x) = are_stretches x

@@ -11,8 +11,8 @@ abbrev entry : tie.After-tolerances-of → tie.Start
 entry c = c.before.before.before.before.before
 
 -- from where the answer is known, back to the start of the run
-abbrev startFrom : tie.After-slice-known2 → tie.After-start
-startFrom c = c.before.before.before
+abbrev start_from : tie.After-slice-known2 → tie.After-start
+start_from c = c.before.before.before
 
 slice-aggregate-start : tie.Need-slice-aggregate-start
 slice-aggregate-start c = let s = c.before.before.before.before in sym (length-take-le s.args.o.cycle s.args.room.now s.requires.1)
@@ -33,7 +33,7 @@ enum-known-answer-2 : tie.Need-enum-known-answer-2
 enum-known-answer-2 c = search rules
 
 with-field-requires : tie.Need-with-field-requires
-with-field-requires c κs = (entry (startFrom c.before.before.before).before.before.before).requires.0
+with-field-requires c κs = (entry (start_from c.before.before.before).before.before.before).requires.0
 
 same_length : tie.Need-same-length
 same_length c = search rules
@@ -44,7 +44,7 @@ same_length_2 c = search rules
 returns : tie.Need-returns
 returns c =
     let known = c.before.before in
-    let start = startFrom known.before.before in
+    let start = start_from known.before.before in
     let t = start.before.before.before in
     let a = (entry t).args in
     start_refused a.o a.room.now a.ledger.now a.map.now a.v.now a.n t.tolerances-of.ensures _ start.start.ensures
@@ -59,7 +59,7 @@ same-length-4 c = search rules
 returns_2 : tie.Need-returns-2
 returns_2 c =
     let known = c.before.before in
-    let start = startFrom known.before.before in
+    let start = start_from known.before.before in
     let t = start.before.before.before in
     let a = (entry t).args in
     start_taken a.o a.room.now a.ledger.now a.map.now a.v.now a.n t.tolerances-of.ensures _ start.start.ensures
