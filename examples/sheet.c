@@ -1,6 +1,6 @@
 /* Prints the sheet of a record, as `bin/paperwhelk sheet` does:
  *
- *     rt staticlib paperwhelk
+ *     bin/library
  *     gcc -std=c11 -Iinclude examples/sheet.c target/staticlib/libpaperwhelk.a -o sheet
  *     ./sheet examples/closed.rec
  *

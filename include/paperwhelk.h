@@ -2,7 +2,7 @@
  *
  * Both are in one library, proved and built from the project's folder, for x86-64, by the Rattle kit's command rt:
  *
- *     rt staticlib paperwhelk
+ *     bin/library
  *     gcc -std=c11 -Iinclude CALLER.c target/staticlib/libpaperwhelk.a -o CALLER
  *
  * It needs nothing else but the C library's memcpy and memset: no memory of its own, no thread. Nothing is kept between calls, so that calls from several

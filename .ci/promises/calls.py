@@ -42,15 +42,27 @@ def functions_of(path):
     return [(m.group(1), text[m.start():end]) for m, end in zip(starts, ends)]
 
 
+def imported(tree):
+    """The names of one `use`, as `row::{add, sum as total}`: each with its path, and the name that it has here."""
+    path, brace, inside = tree.strip().partition("{")
+    if not brace:
+        there, _, here = path.partition(" as ")
+        return [(there.strip(), (here or there.split("::")[-1]).strip())] if there.strip() else []
+    # the parts between the commas that stand in no further braces
+    parts = re.findall(r"[^,{}]+(?:\{[^{}]*\})?", inside.rpartition("}")[0])
+    return [(path.strip() + there, here) for part in parts for there, here in imported(part)]
+
+
 class Calls:
     def __init__(self):
         self.text = {}
         self.imports = {}
         for path in sorted(glob.glob("crates/*/src/*.rt")):
             crate, file = path.split("/")[1], path.split("/")[3]
-            # the names that the file imports from other crates: `super` and the crate's own modules are none
-            used = re.findall(r"^use (\w+)(?:::\w+)*::(\w+);", open(path).read(), re.M)
-            self.imports[crate, file] = {name: source for source, name in used if os.path.isdir(f"crates/{source}")}
+            # the names that the file imports from other crates, with the crate and the name there: `super`, `crate` and the crate's own modules are none
+            used = [each for tree in re.findall(r"^(?:pub )?use ([^;]+);", open(path).read(), re.M) for each in imported(tree)]
+            own = {here: (there.split("::")[0], there.split("::")[-1]) for there, here in used}
+            self.imports[crate, file] = {here: there for here, there in own.items() if os.path.isdir(f"crates/{there[0]}")}
             for name, text in functions_of(path):
                 self.text[crate, file, name] = text
         self.called = {f: self.calls(f) for f in self.text}
@@ -63,7 +75,7 @@ class Calls:
         code = "\n".join(line for line in self.text[function].splitlines() if not re.match(r"\s*(//|requires|ensures)", line))
         found = set()
         for first, name in re.findall(r"\b(?:(\w+)::)?(?:\w+::)*(\w+(?=\()|[A-Z][A-Z0-9_]+\b)", code):
-            found |= self.named(first, name) or self.named(self.imports[crate, file].get(name, crate), name)
+            found |= self.named(first, name) or self.named(*self.imports[crate, file].get(name, (crate, name)))
         return found
 
     def reached(self, crate, name):
