@@ -1,17 +1,9 @@
 -- `ledger::row::add_outside` meets its contract: the test on the machine's numbers is `is_over`. The count is far from the greatest `i64`.
-use borrow.Author.Tests.{not-true, not-false}
-use mathlib.Core.Path.{refl, ap, ap₂, ◌∙◌}
-use mathlib.Core.List.{List}
 use native.Mathlib.Nat.{le_refl}
 use native.Mathlib.Omega.{arith}
-use lib.IntN.{ℤ, pos}
-use lib.Signed.{lt_z}
 use mir.Syntax.{w64}
-use mir.Val.{SFits}
-use mir.ValLaws.{to_z_pos}
 use Rattle.numbers.proofs.Whole.{of_nat, sized_add}
-use Rattle.numbers.proofs.Signed.{sfits, read}
-use Rattle.ledger.specs.Row.{at}
+use Rattle.numbers.proofs.Signed.{sfits}
 use Rattle.ledger.proofs.row.add_outside.Goals as goal
 
 pub add_at-requires : goal.add_at-requires
