@@ -75,6 +75,44 @@ def unshadow(term, name):
         at = found.start() + 2
 
 
+def named(term, names):
+    """A tuple of as many parts as there are named clauses, at the end of a term, as a record of them."""
+    if len(names) < 2:
+        return term
+    trimmed = term.rstrip()
+
+    def whole():
+        cut = trimmed.rfind(" in\n")
+        head, tail = (trimmed[: cut + 4], trimmed[cut + 4 :].strip()) if cut >= 0 else ("", trimmed.strip())
+        if re.match(r"(?:search|omega|cc|refl|rw|simp|elim|record|grind)\b", tail):
+            return term
+        fields = "; ".join(f"{n} = both.{i}" for i, n in enumerate(names))
+        return f"{head}    let both = {tail} in record {{ {fields} }}"
+
+    if not trimmed.endswith(")"):
+        return whole()
+    depth, i = 0, len(trimmed) - 1
+    cuts = []
+    while i >= 0:
+        depth += {")": 1, "]": 1, "}": 1, "(": -1, "[": -1, "{": -1}.get(trimmed[i], 0)
+        if depth == 0:
+            break
+        if depth == 1 and trimmed[i] == ",":
+            cuts.append(i)
+        i -= 1
+    before = trimmed[:i].rstrip()
+    if before and not before.endswith((" in", ".", "=")):
+        return whole()
+    parts, start = [], i + 1
+    for cut in [*reversed(cuts), len(trimmed) - 1]:
+        parts.append(trimmed[start:cut].strip())
+        start = cut + 1
+    parts = [p for p in parts if p]
+    if len(parts) != len(names):
+        return whole()
+    return trimmed[:i] + "record { " + "; ".join(f"{n} = {p}" for n, p in zip(names, parts)) + " }"
+
+
 class Function:
     def __init__(self, crate, path, made, known):
         self.crate, self.path, self.made, self.known = crate, path, made, known
@@ -119,7 +157,9 @@ class Function:
             text = re.sub(rf"(?<=[\w)'])\.{old}(?![\w'-])", "." + new, text)
 
         def field(m):
-            new = self.fields.get(norm(m[1])) or self.fields.get(norm(m[1].replace("_lem", "")))
+            if re.search(r"\.(?:args|new|result|now|loop|initial|ensures|requires|answer)$", text[: m.start()]):
+                return m[0]
+            new = self.fields.get(norm(m[1])) or self.fields.get(norm(m[1].replace("_lem", ""))) or self.fields.get(norm(m[1].lower()))
             return "." + (new or m[1])
 
         text = re.sub(r"(?<=[\w)'₀-₉])\.([A-Za-z][\w'-]*)", field, text)
@@ -253,6 +293,8 @@ def convert(crate, folder, made, known):
             term = f.helped(term, goal, None)
             term = f.flat(term)
             g = goal or "TODO-" + need[1]
+            if g.startswith("returns"):
+                term = named(term, known.get(f.fn(), {"ensures": []})["ensures"])
             answers += [*pending, f"pub {g} : goal.{g}\n{unfolding}{g} {' '.join(params)} ={space}{term}", ""]
             pending = []
             continue
@@ -330,6 +372,8 @@ def main():
                 continue
             inner = folder.split("/proofs/")[1].replace("/", ".")
             key = f"Rattle-{crate}-proofs.{inner}.Lts"
+            if key not in made and "+" in inner:
+                key += "-" + inner.split("+")[-1]
             if key not in made:
                 print("no names for", folder, [k for k in made if inner.split(".")[-1] in k][:3])
                 continue

@@ -1,0 +1,11 @@
+-- `sheet::lines::text_line` meets its contract.
+use native.Mathlib.Omega.{arith}
+use Rattle.rules.specs.Text.{line}
+use Rattle.sheet.proofs.Overlaid.{wrote_then, wrote_most}
+use Rattle.sheet.proofs.lines.text_line.Goals as goal
+
+pub returns : goal.returns
+unfolding line
+returns c =
+    let call = c in
+    wrote_most (wrote_then call.put_text-next.ensures call.put_text.ensures (omega arith)) (omega arith)
