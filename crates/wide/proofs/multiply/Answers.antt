@@ -35,8 +35,7 @@ loop-left-smaller c = omega arith
 
 pub returns-then-acc-lt-TOP : goal.returns-then-acc-lt-TOP
 returns-then-acc-lt-TOP c =
-    let k = c in
-    exact _ _ _ _ (done _ _ _ _ k.loop-left.invariant.2 k.loop-left-test.false) (omega arith) (omega arith) (omega arith)
+    exact _ _ _ _ (done _ _ _ _ c.loop-left.invariant.2 c.loop-left-test.false) (omega arith) (omega arith) (omega arith)
 
 pub returns-else-acc-lt-TOP : goal.returns-else-acc-lt-TOP
 returns-else-acc-lt-TOP c = large_quotient _ _ (omega arith) (omega arith) _ c.if-acc-lt-TOP.false (omega arith)

@@ -7,4 +7,4 @@ use Rattle.numbers.proofs.Signed.{sfits}
 use Rattle.ledger.proofs.row.add_outside.Goals as goal
 
 pub add_at-requires : goal.add_at-requires
-add_at-requires c = let a = c in (omega arith, sfits w64 tt (sized_add (a.requires.1 8) (of_nat (le_refl _))))
+add_at-requires c = (omega arith, sfits w64 tt (sized_add (c.requires.1 8) (of_nat (le_refl _))))

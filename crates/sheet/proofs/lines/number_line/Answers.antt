@@ -7,5 +7,4 @@ use Rattle.sheet.proofs.lines.number_line.Goals as goal
 pub returns : goal.returns
 unfolding line
 returns c =
-    let call = c in
-    wrote_most (wrote_then call.put_text-next.ensures call.put_number.ensures (omega arith)) (omega arith)
+    wrote_most (wrote_then c.put_text-next.ensures c.put_number.ensures (omega arith)) (omega arith)

@@ -11,6 +11,5 @@ use Rattle.sheet.proofs.lines.signed_line.Goals as goal
 pub returns : goal.returns
 unfolding line
 returns c =
-    let call = c in
-    let v = wrote_is call.put_signed.ensures (ap (λ (z : ℤ). signed z ++ 10 ∷ []) (read call.ranges.z)) in
-    wrote_most (wrote_then call.put_text-next.ensures v (omega arith)) (omega arith)
+    let v = wrote_is c.put_signed.ensures (ap (λ (z : ℤ). signed z ++ 10 ∷ []) (read c.ranges.z)) in
+    wrote_most (wrote_then c.put_text-next.ensures v (omega arith)) (omega arith)

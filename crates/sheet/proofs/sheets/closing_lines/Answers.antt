@@ -5,10 +5,8 @@ use Rattle.sheet.proofs.sheets.closing_lines.Goals as goal
 
 pub returns-in-Closed : goal.returns-in-Closed
 returns-in-Closed c =
-    let call = c in
-    rw call.in-Closed.is call.closed_lines.ensures
+    rw c.in-Closed.is c.closed_lines.ensures
 
 pub returns-in-Refused : goal.returns-in-Refused
 returns-in-Refused c =
-    let call = c in
-    rw call.in-Refused.is (wrote_most call.refused_line.ensures (omega arith))
+    rw c.in-Refused.is (wrote_most c.refused_line.ensures (omega arith))

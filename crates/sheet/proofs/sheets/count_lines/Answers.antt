@@ -21,9 +21,6 @@ drawn_fits c = search rules
 pub returns : goal.returns
 unfolding count_lines
 returns c =
-    let third = c in
-    let second = third in
-    let first = second in
-    let outside = wrote_is first.signed_line-outside.ensures (ap (λ (z : ℤ). line _ (signed z)) (read (outside-fits (goal.at.returns c).After-struct_told-1))) in
-    let drawn = wrote_is third.signed_line.ensures (ap (λ (z : ℤ). line _ (signed z)) (read (drawn_fits (goal.at.returns c).After-struct_told-1))) in
-    wrote_most (wrote_then (wrote_then outside second.number_line-passed.ensures (omega arith)) drawn (omega arith)) (omega arith)
+    let outside = wrote_is c.signed_line-outside.ensures (ap (λ (z : ℤ). line _ (signed z)) (read (outside-fits (goal.at.returns c).After-struct_told-1))) in
+    let drawn = wrote_is c.signed_line.ensures (ap (λ (z : ℤ). line _ (signed z)) (read (drawn_fits (goal.at.returns c).After-struct_told-1))) in
+    wrote_most (wrote_then (wrote_then outside c.number_line-passed.ensures (omega arith)) drawn (omega arith)) (omega arith)

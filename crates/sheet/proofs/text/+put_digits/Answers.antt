@@ -1,10 +1,8 @@
--- `sheet::text::put_digits` meets its contract: it calls itself with the tenth of n, which is the measure, and adds the last digit.
+-- `sheet::text::put_digits` meets its contract: it calls itself with the tenth of n, and adds the last digit.
 use mathlib.Core.List.{[], ◌∷◌}
 use mathlib.Core.Path.{◌≡◌, sym, ap, subst, ◌∙◌}
 use Prim.Native.Nat.{ℕ, ◌+◌, ◌/◌, ◌%◌, ◌≤◌, ◌<◌}
-use native.Mathlib.Nat.{mod-lt}
 use native.Mathlib.Omega.{arith}
-use lib.Dec.{lit<}
 use lib.ListN.{length, length-append}
 use Rattle.rules.specs.Text.{digits}
 use Rattle.sheet.proofs.Digits.{tenth, digits_small, digits_more}
@@ -34,24 +32,23 @@ put_digits-next-requires t c =
     let n = c.args.n in
     (subst (λ (m : ℕ). n / 10 < m) c.decreases (tenth n c.if-n-lt10.false), omega (arith, one_more_lem n c.if-n-lt10.false))
 
-pub bounds-out-next : goal.bounds-out-next
-bounds-out-next t c =
+-- there is room for the last digit
+room : (t : ℕ) (c : After-put_digits-next t) → c.put_digits-next.result < length c.put_digits-next.new.out
+room t c =
     let call = c.put_digits-next in
     omega (arith, call.ensures.place, call.auto.out, c.requires, one_more_lem c.args.n c.if-n-lt10.false)
 
+pub bounds-out-next : goal.bounds-out-next
+bounds-out-next t c = room t (goal.at.bounds-out-next t c).After-put_digits-next
+
 pub overflow_add-result-2 : goal.overflow_add-result-2
-overflow_add-result-2 t c =
-    let call = c.put_digits-next in
-    let room : call.result < length call.new.out = omega (arith, call.ensures.place, call.auto.out, c.requires, one_more_lem c.args.n c.if-n-lt10.false) in
-    omega arith
+overflow_add-result-2 t c = omega (arith, room t (goal.at.overflow_add-result-2 t c).After-put_digits-next)
 
 pub returns : goal.returns
 returns t c =
     let n = c.args.n in
     let call = c.put_digits-next in
-    let room : call.result < length call.new.out = omega (arith, call.ensures.place, call.auto.out, c.requires, one_more_lem n c.if-n-lt10.false) in
-    let small : n % 10 < 10 = mod-lt n (lit< tt) in
     wrote_tight
     (wrote_is
-    (wrote_byte (48 + n % 10) call.ensures room (omega arith))
+    (wrote_byte (48 + n % 10) call.ensures (room t (goal.at.returns t c).After-put_digits-next) (omega arith))
     (sym (digits_more n c.if-n-lt10.false)))

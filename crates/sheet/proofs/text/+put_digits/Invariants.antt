@@ -1,4 +1,4 @@
--- `put_digits` calls itself with the tenth of n.
+-- `sheet::text::put_digits` calls itself with the tenth of n, which is the measure.
 use Rattle.sheet.proofs.text.+put_digits.Given as goal
 
 abbrev pub decreases-put_digits : goal.decreases-put_digits

@@ -1,7 +1,7 @@
 -- `sheet::text::put` meets its contract. The loop's invariant: the first i bytes of the text stand in their places.
 use mathlib.Core.List.{List, ◌++◌}
 use mathlib.Core.Path.{◌≡◌, sym, ap, ◌∙◌}
-use Prim.Native.Nat.{ℕ, ◌+◌, ◌-◌}
+use Prim.Native.Nat.{ℕ, ◌+◌}
 use native.Mathlib.Nat.{le_refl}
 use native.Mathlib.Numerals.{add-one}
 use native.Mathlib.Omega.{arith}
@@ -16,38 +16,20 @@ loop-i-init c = (omega arith, paste-zero c.args.out.now c.args.at c.args.text.no
 
 long : (c : At-loop-i) → length c.loop-i.out ≡ length c.args.out.now
 long c =
-    let s = c.before in
     ap length c.loop-i.invariant.1
-    ∙ length-paste s.args.out.now s.args.at s.args.text.now c.loop-i.i (omega (arith, c.loop-i.invariant.0, s.requires)) c.loop-i.invariant.0
-
-pub bounds-text-i : goal.bounds-text-i
-bounds-text-i c = omega arith
-
-pub overflow_add-out : goal.overflow_add-out
-overflow_add-out c = omega arith
+    ∙ length-paste c.args.out.now c.args.at c.args.text.now c.loop-i.i (omega (arith, c.loop-i.invariant.0, c.requires)) c.loop-i.invariant.0
 
 pub bounds-out-at : goal.bounds-out-at
 bounds-out-at c = omega (arith, long (goal.at.bounds-out-at c).At-loop-i)
 
-pub overflow_add-i : goal.overflow_add-i
-overflow_add-i c = omega arith
-
-pub loop-i-smaller : goal.loop-i-smaller
-loop-i-smaller c = omega arith
-
 pub loop-i-preserved : goal.loop-i-preserved
 loop-i-preserved c =
-    let on = c in
-    let s = on in
-    let i = on.loop-i.i in (
+    let i = c.loop-i.i in (
       omega arith,
-      ap (λ (l : List ℕ). set l (s.args.at + i) (get_or s.args.text.now i 0)) on.loop-i.invariant.1
-          ∙ paste-suc s.args.out.now s.args.at s.args.text.now i 0 (omega arith) (omega arith)
-          ∙ ap (paste s.args.out.now s.args.at s.args.text.now) (sym (add-one i)),
+      ap (λ (l : List ℕ). set l (c.args.at + i) (get_or c.args.text.now i 0)) c.loop-i.invariant.1
+          ∙ paste-suc c.args.out.now c.args.at c.args.text.now i 0 (omega arith) (omega arith)
+          ∙ ap (paste c.args.out.now c.args.at c.args.text.now) (sym (add-one i)),
     )
-
-pub overflow_add-result : goal.overflow_add-result
-overflow_add-result c = omega arith
 
 pub shape_of-out : goal.shape_of-out
 shape_of-out c = long (goal.at.shape_of-out c).At-loop-i
@@ -55,14 +37,12 @@ shape_of-out c = long (goal.at.shape_of-out c).At-loop-i
 pub returns : goal.returns
 unfolding overlaid
 returns c =
-    let on = c in
-    let s = on in
-    let done : on.loop-i.i ≡ length s.args.text.now = omega arith in
+    let done : c.loop-i.i ≡ length c.args.text.now = omega arith in
     record {
       most = le_refl _;
-      place = ap (λ (k : ℕ). s.args.at + k) done;
+      place = ap (λ (k : ℕ). c.args.at + k) done;
       bytes =
-          on.loop-i.invariant.1
-          ∙ ap (paste s.args.out.now s.args.at s.args.text.now) done
-          ∙ ap (λ (l : List ℕ). take s.args.at s.args.out.now ++ l ++ drop (s.args.at + length s.args.text.now) s.args.out.now) (take-length s.args.text.now);
+          c.loop-i.invariant.1
+          ∙ ap (paste c.args.out.now c.args.at c.args.text.now) done
+          ∙ ap (λ (l : List ℕ). take c.args.at c.args.out.now ++ l ++ drop (c.args.at + length c.args.text.now) c.args.out.now) (take-length c.args.text.now);
     }

@@ -14,20 +14,14 @@ use Rattle.sheet.proofs.text.put_signed.Goals as goal
 pub put_number-requires : goal.put_number-requires
 put_number-requires c = simp length-set (omega arith)
 
-pub returns-then-z-lt0 : goal.returns-then-z-lt0
-returns-then-z-lt0 c =
-    let call = c in
-    let test = call in
-    let s = test in
-    let e = signed_negative s.args.z _ (test.size-n.ensures ∙ ap nat_abs (read s.ranges.z)) (sign_read s.ranges.z ∙ test.if-z-lt0.true) in
-    wrote_is
-    (wrote_then (one_byte s.args.out.now s.args.at _ (omega arith)) call.put_number.ensures (omega arith))
-    (ap (λ (d : List ℕ). d ++ s.args.last ∷ []) e)
-
 pub returns : goal.returns
 returns c =
-    let call = c in
-    let test = call in
-    let s = test in
-    let e = signed_natural s.args.z _ (test.size-n.ensures ∙ ap nat_abs (read s.ranges.z)) (sign_read s.ranges.z ∙ test.if-z-lt0.false) in
-    wrote_most (wrote_is call.put_number-2.ensures (ap (λ (d : List ℕ). d ++ s.args.last ∷ []) e)) (omega arith)
+    let e = signed_natural c.args.z _ (c.size-n.ensures ∙ ap nat_abs (read c.ranges.z)) (sign_read c.ranges.z ∙ c.if-z-lt0.false) in
+    wrote_most (wrote_is c.put_number-2.ensures (ap (λ (d : List ℕ). d ++ c.args.last ∷ []) e)) (omega arith)
+
+pub returns-then-z-lt0 : goal.returns-then-z-lt0
+returns-then-z-lt0 c =
+    let e = signed_negative c.args.z _ (c.size-n.ensures ∙ ap nat_abs (read c.ranges.z)) (sign_read c.ranges.z ∙ c.if-z-lt0.true) in
+    wrote_is
+    (wrote_then (one_byte c.args.out.now c.args.at _ (omega arith)) c.put_number.ensures (omega arith))
+    (ap (λ (d : List ℕ). d ++ c.args.last ∷ []) e)

@@ -27,6 +27,5 @@ returns-then-z-lt0 c = let t = facts (goal.at.returns-then-z-lt0 c).Then-z-lt0 i
 
 pub overflow_cast-result-2 : goal.overflow_cast-result-2
 overflow_cast-result-2 c =
-    let s = c in
-    let n = natural w64 s.args.z s.ranges.z (sign_read s.ranges.z ∙ c.if-z-lt0.false) in
-    rw (read s.ranges.z) (n.0, record { fits = omega (arith, n.1) })
+    let n = natural w64 c.args.z c.ranges.z (sign_read c.ranges.z ∙ c.if-z-lt0.false) in
+    rw (read c.ranges.z) (n.0, record { fits = omega (arith, n.1) })
