@@ -75,6 +75,44 @@ def unshadow(term, name):
         at = found.start() + 2
 
 
+def named(term, names):
+    """A tuple of as many parts as there are named clauses, at the end of a term, as a record of them."""
+    if len(names) < 2:
+        return term
+    trimmed = term.rstrip()
+
+    def whole():
+        cut = trimmed.rfind(" in\n")
+        head, tail = (trimmed[: cut + 4], trimmed[cut + 4 :].strip()) if cut >= 0 else ("", trimmed.strip())
+        if re.match(r"(?:search|omega|cc|refl|rw|simp|elim|record|grind)\b", tail):
+            return term
+        fields = "; ".join(f"{n} = both.{i}" for i, n in enumerate(names))
+        return f"{head}    let both = {tail} in record {{ {fields} }}"
+
+    if not trimmed.endswith(")"):
+        return whole()
+    depth, i = 0, len(trimmed) - 1
+    cuts = []
+    while i >= 0:
+        depth += {")": 1, "]": 1, "}": 1, "(": -1, "[": -1, "{": -1}.get(trimmed[i], 0)
+        if depth == 0:
+            break
+        if depth == 1 and trimmed[i] == ",":
+            cuts.append(i)
+        i -= 1
+    before = trimmed[:i].rstrip()
+    if before and not before.endswith((" in", ".", "=")):
+        return whole()
+    parts, start = [], i + 1
+    for cut in [*reversed(cuts), len(trimmed) - 1]:
+        parts.append(trimmed[start:cut].strip())
+        start = cut + 1
+    parts = [p for p in parts if p]
+    if len(parts) != len(names):
+        return whole()
+    return trimmed[:i] + "record { " + "; ".join(f"{n} = {p}" for n, p in zip(names, parts)) + " }"
+
+
 class Function:
     def __init__(self, crate, path, made, known):
         self.crate, self.path, self.made, self.known = crate, path, made, known
@@ -88,7 +126,7 @@ class Function:
         self.changed = dict(zip((a for (a, b), vars in made["loops"]), made["changed"]))
         self.at = {b: norm(q) for (a, b), (_, q) in zip(made["needs"], made["asked_at"])}
         self.imports, self.helpers = set(), {}
-        self.arms = []
+        self.arms, self.within = [], set()
         for arm in made["arms"]:
             for new, old, way in (arm or [None, None, []])[2]:
                 if way:
@@ -119,7 +157,11 @@ class Function:
             text = re.sub(rf"(?<=[\w)'])\.{old}(?![\w'-])", "." + new, text)
 
         def field(m):
-            new = self.fields.get(norm(m[1])) or self.fields.get(norm(m[1].replace("_lem", "")))
+            if re.search(r"\.(?:args|new|result|now|loop|initial|ensures|requires|answer)$", text[: m.start()]):
+                return m[0]
+            new = self.fields.get(norm(m[1])) or self.fields.get(norm(m[1].replace("_lem", ""))) or self.fields.get(norm(m[1].lower()))
+            if new and re.search(r"-\d+$", new) and norm(m[1]) + "-1" == norm(new) and not text[m.end() :].startswith(".given"):
+                return m[0]
             return "." + (new or m[1])
 
         text = re.sub(r"(?<=[\w)'₀-₉])\.([A-Za-z][\w'-]*)", field, text)
@@ -182,7 +224,31 @@ def convert(crate, folder, made, known):
             s = re.sub(rf"\({re.escape(a)} ({ATOM})\)", r"\1", s)
             s = re.sub(rf"(?<![\w.'-]){re.escape(a)} ({ATOM})", r"\1", s)
         return s
+    # a datum and its equation under one name
+    def given(text):
+        while True:
+            m = re.search(r"let (\w+) = ([\w.'-]+\.given) in\s*", text)
+            if not m:
+                return text
+            text = text[: m.start()] + text[m.end() :]
+            text = re.sub(rf"(?<![\w.'-]){m[1]}(?=\.)", lambda _: m[2], text)
+    parsed = [(k, [*given("\n".join(b)).split("\n")] if k == "decl" else b) for k, b in parsed]
     # helpers' places first
+    inside = None
+    for kind, lines in parsed:
+        if kind != "decl":
+            continue
+        m = re.match(r"module _ \((\w+) : tie\.([\w-]+)(?: invariant-loop decreases-loop)?\) where", lines[0])
+        if m:
+            inside = f.places.get(norm(m[2]), m[2])
+        elif not lines[0].startswith("  "):
+            inside = None
+        if inside:
+            for line in lines:
+                m = re.match(rf"  (?:abbrev )?(?:pub )?({NAME}) : ", line)
+                if m:
+                    f.helpers[m[1]] = (inside, True)
+                    f.within.add(m[1])
     for kind, lines in parsed:
         if kind != "decl":
             continue
@@ -253,6 +319,8 @@ def convert(crate, folder, made, known):
             term = f.helped(term, goal, None)
             term = f.flat(term)
             g = goal or "TODO-" + need[1]
+            if g.startswith("returns"):
+                term = named(term, known.get(f.fn(), {"ensures": []})["ensures"])
             answers += [*pending, f"pub {g} : goal.{g}\n{unfolding}{g} {' '.join(params)} ={space}{term}", ""]
             pending = []
             continue
@@ -266,10 +334,13 @@ def convert(crate, folder, made, known):
         body = plain("\n".join(lines))
         body = body.replace(" invariant-loop decreases-loop", "")
         body = f.step(body)
+        body = re.sub(r"not-(?:true|false) _ ([a-z][\w.'-]*\.(?:true|false))(?![\w-])", r"\1", body)
         mine = f.helpers.get(name, (None,))[0]
         body = f.helped_not_self(body, name, mine) if hasattr(f, "helped_not_self") else body
         body = re.sub(r"tie\.([A-Z][\w-]*)", lambda m: f.place(m[1]), body)
-        if mine:
+        if lines[0].startswith(("module", "  ")):
+            pass
+        elif mine:
             saved = dict(f.helpers)
             f.helpers.pop(name)
             sigline, _, rest = body.partition("\n")
@@ -330,6 +401,8 @@ def main():
                 continue
             inner = folder.split("/proofs/")[1].replace("/", ".")
             key = f"Rattle-{crate}-proofs.{inner}.Lts"
+            if key not in made and "+" in inner:
+                key += "-" + inner.split("+")[-1]
             if key not in made:
                 print("no names for", folder, [k for k in made if inner.split(".")[-1] in k][:3])
                 continue

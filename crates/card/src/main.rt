@@ -9,9 +9,9 @@ use rules::limits::{LEDGER_NUMBERS, MAP_WORDS, MOST_BYTES};
 use sheet::MOST_SHEET;
 
 // How many bytes the next record has; more than any where there is none.
-fn next_length() -> u64 {
+fn next_length(rt: HostRuntime) -> u64 {
     let mut bytes = [0u8; 4];
-    if !fill_whole(&mut bytes[..]) {
+    if !fill_whole(rt, &mut bytes[..]) {
         return 18_446_744_073_709_551_615;
     }
     read32(&bytes[..], 0) as u64
@@ -19,17 +19,19 @@ fn next_length() -> u64 {
 
 // The next record: its sheet, and whether there was one.
 fn next_record(
+    rt: HostRuntime,
     buffer: &mut [u8],
     room: &mut [u8],
     ledger: &mut [i64],
     map: &mut [u64],
     lines: &mut [u8],
 ) -> bool {
-    let length = next_length();
+    let length = next_length(rt);
     if 4_294_967_295 < length {
         return false;
     }
     let x = take_record(
+        rt,
         length,
         &mut *buffer,
         &mut *room,
@@ -38,19 +40,20 @@ fn next_record(
         &mut *lines,
     );
     if x.failed {
-        tell(b"card: the input could not be read\n");
+        tell(rt, b"card: the input could not be read\n");
         return false;
     }
-    skip(x.left, &mut *buffer);
-    let out = print(&lines[..], x.printed) && say(b"\n");
+    skip(rt, x.left, &mut *buffer);
+    let out = print(rt, &lines[..], x.printed) && say(rt, b"\n");
     if !out {
-        tell(b"card: the output was lost\n");
+        tell(rt, b"card: the output was lost\n");
     }
     out
 }
 
 // A proved loop has to end, and nothing says that the input does: it counts down from a number that no run uses up.
 fn all_records(
+    rt: HostRuntime,
     buffer: &mut [u8],
     room: &mut [u8],
     ledger: &mut [i64],
@@ -60,6 +63,7 @@ fn all_records(
     let mut turns: u64 = 18_446_744_073_709_551_615;
     while turns > 0 {
         if !next_record(
+            rt,
             &mut *buffer,
             &mut *room,
             &mut *ledger,
@@ -72,13 +76,14 @@ fn all_records(
     }
 }
 
-fn main() {
+fn main(rt: HostRuntime) {
     let mut buffer = [0u8; 4864];
     let mut room = [0u8; MOST_BYTES];
     let mut ledger = [0i64; LEDGER_NUMBERS];
     let mut map = [0u64; MAP_WORDS];
     let mut lines = [0u8; MOST_SHEET];
     all_records(
+        rt,
         &mut buffer[..],
         &mut room[..],
         &mut ledger[..],

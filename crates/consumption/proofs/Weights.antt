@@ -21,7 +21,6 @@ use Rattle.values.specs.Limits.{are_amounts}
 use Rattle.rules.specs.declared.Amounts.{Amounts}
 use Rattle.laws.specs.Beside.{most_transfer, is_transfer}
 use Rattle.rules.specs.Closing.{is_charge, most_rate, is_rate, rate_of}
-use Rattle.laws.specs.Answers.{is}
 use Rattle.rules.specs.Bench.{most_phases, most_cycles}
 use Rattle.rules.specs.Shown.{most_energy}
 use Rattle.ledger.specs.Row.{bounded, energy_in, distance_in}

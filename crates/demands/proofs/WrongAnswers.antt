@@ -11,19 +11,21 @@ use Rattle.laws.proofs.Answers.{given_refused}
 use Rattle.opening.specs.declared.Opening.{Opening}
 use Rattle.opening.specs.declared.OpenStep.TheVariants as step
 use Rattle.opening.specs.Answers.{open_step_said, OpenSaid}
+use Rattle.opening.specs.contracts as opening_contracts
 use Rattle.opening.proofs.refused_at
 use Rattle.opening.proofs.characters_of
 use Rattle.reading.specs.declared.Reading.{Reading}
 use Rattle.reader.specs.declared.Ending.TheVariants.{Whole}
 use Rattle.reader.specs.Answers.{ending_said}
 use Rattle.reader.proofs.Endings.{only_whole}
+use Rattle.reader.specs.contracts as reader_contracts
 use Rattle.reader.proofs.blank
 use Rattle.reader.proofs.reading_of
 use Rattle.reader.proofs.ended
 use Rattle.demands.specs.Calls.{Call}
 
 -- a refusal that is another's number, or no refusal at all
-module _ (c : Call refused_at.ended refused_at.Reads.Learnt) where
+module _ (c : Call opening_contracts.refused_at.ended refused_at.Reads.Learnt) where
   pub refused_another_number_breaks : (n : ℕ) → (n ≡ c.args.1.0 → ⊥) → c.answer.step ≡ step.Refused n → ⊥
   refused_another_number_breaks n h e = let z : refuses n ≡ refuses c.args.1.0 = sym (ap open_step_said e) ∙ ap (λ (x : OpenSaid). x.says) c.kept in h cc
 
@@ -31,7 +33,7 @@ module _ (c : Call refused_at.ended refused_at.Reads.Learnt) where
   refused_as_incomplete_breaks e = given_refused (sym (ap open_step_said e) ∙ ap (λ (x : OpenSaid). x.says) c.kept)
 
 -- an opening whose vehicle is seventeen bytes of 0, or that has a cycle already
-module _ (c : Call blank.ended blank.Reads.Learnt) where
+module _ (c : Call reader_contracts.blank.ended blank.Reads.Learnt) where
   pub blank_of_zeros_breaks : c.answer.vehicle ≡ replicate 17 0 → ⊥
   blank_of_zeros_breaks e =
       let z : ◌≡◌ {A = ℕ} 0 48 = ap (λ (v : List ℕ). get_or v 0 0) (sym e ∙ ap (λ (o : Opening). o.vehicle) c.kept) in
@@ -41,7 +43,7 @@ module _ (c : Call blank.ended blank.Reads.Learnt) where
   blank_with_a_cycle_breaks n e = let z : suc n ≡ 0 = sym e ∙ ap (λ (o : Opening). o.cycle) c.kept in omega arith
 
 -- a reading that starts at another place in the order, or with blocks passed over
-module _ (c : Call reading_of.ended reading_of.Reads.Learnt) where
+module _ (c : Call reader_contracts.reading_of.ended reading_of.Reads.Learnt) where
   pub reading_from_place_1_breaks : (n : ℕ) → c.answer.place ≡ suc n → ⊥
   reading_from_place_1_breaks n e = let z : suc n ≡ 0 = sym e ∙ ap (λ (r : Reading). r.place) c.kept in omega arith
 
@@ -49,7 +51,7 @@ module _ (c : Call reading_of.ended reading_of.Reads.Learnt) where
   reading_with_one_passed_breaks n e = let z : suc n ≡ 0 = sym e ∙ ap (λ (r : Reading). r.passed) c.kept in omega arith
 
 -- an end that is let by before the start, or inside a field
-module _ (c : Call ended.ended ended.Reads.Learnt) where
+module _ (c : Call reader_contracts.ended.ended ended.Reads.Learnt) where
   pub ended_before_the_start_breaks : c.args.0 ≡ false → c.answer ≡ Whole → ⊥
   ended_before_the_start_breaks s e = false≢true (sym s ∙ (only_whole c.args.0 c.args.1.0 (sym c.kept ∙ ap ending_said e)).0)
 
@@ -57,6 +59,6 @@ module _ (c : Call ended.ended ended.Reads.Learnt) where
   ended_with_bytes_left_breaks n s e = let z = (only_whole c.args.0 c.args.1.0 (sym c.kept ∙ ap ending_said e)).1 in omega arith
 
 -- seventeen characters that are not those of the value
-module _ (c : Call characters_of.ended characters_of.Reads.Learnt) where
+module _ (c : Call opening_contracts.characters_of.ended characters_of.Reads.Learnt) where
   pub characters_of_another_breaks : (v : List ℕ) → (v ≡ c.args.0.now → ⊥) → c.answer ≡ v → ⊥
   characters_of_another_breaks v h e = h (sym e ∙ c.kept)

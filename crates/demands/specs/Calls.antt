@@ -5,29 +5,40 @@ use contract.Lifetimes.{Lfts}
 use denote.Triple.Clauses.{Ended, Lasts, AtExit, at_exit}
 use borrow.Fn.World.{ArgsD, ResD}
 use Rattle.state.specs.State.{Memory, lent}
+use Rattle.judge.specs.contracts as judge_contracts
 use Rattle.judge.proofs.start
 use Rattle.judge.proofs.sample
 use Rattle.judge.proofs.block
 use Rattle.judge.proofs.shown
 use Rattle.judge.proofs.totals
+use Rattle.closing.specs.contracts as closing_contracts
 use Rattle.closing.proofs.close as closing
+use Rattle.fields.specs.contracts as fields_contracts
 use Rattle.fields.proofs.front_of
+use Rattle.contents.specs.contracts as contents_contracts
 use Rattle.contents.proofs.content_of
+use Rattle.reader.specs.contracts as reader_contracts
 use Rattle.reader.proofs.open
 use Rattle.reader.proofs.read
 use Rattle.reader.proofs.read_all
 use Rattle.reader.proofs.ended
+use Rattle.figures.specs.contracts as figures_contracts
 use Rattle.figures.proofs.figures_of
+use Rattle.sheet.specs.contracts as sheet_contracts
 use Rattle.sheet.proofs.sheet_lines
 use Rattle.sheet.proofs.refusal_line
+use Rattle.desk.specs.contracts as desk_contracts
 use Rattle.desk.proofs.feed
+use Rattle.tracing.specs.contracts as tracing_contracts
 use Rattle.tracing.proofs.trace_close
+use Rattle.prints.specs.contracts as prints_contracts
 use Rattle.prints.proofs.close
 use Rattle.prints.proofs.refuse
+use Rattle.paperwhelk.specs.contracts as paperwhelk_contracts
 use Rattle.paperwhelk.proofs.verdict.paperwhelk_verdict
 use Rattle.paperwhelk.proofs.sheets.paperwhelk_sheet
 
--- Of each function f the kit makes `f.ended`, its parameters and result, `f.Reads.Asked`, what its `requires` asks of a caller,
+-- Of each function f the kit makes `ended`, beside its contract: its parameters and result; `f.Reads.Asked`, what its `requires` asks of a caller;
 -- and `f.Reads.Learnt`, what a caller learns by its `ensures`: all that is known of a program that keeps the contract, ours or a second one.
 module _ (T : Ended) where
   abbrev pub Ask : Type 1
@@ -62,67 +73,67 @@ left {T} c = at_exit T c.κs c.args c.lasts
 -- ---- the operations' calls
 
 abbrev pub StartCall : Type 0
-StartCall = Call start.ended start.Reads.Learnt
+StartCall = Call judge_contracts.start.ended start.Reads.Learnt
 
 abbrev pub SampleCall : Type 0
-SampleCall = Call sample.ended sample.Reads.Learnt
+SampleCall = Call judge_contracts.sample.ended sample.Reads.Learnt
 
 abbrev pub BlockCall : Type 0
-BlockCall = Call block.ended block.Reads.Learnt
+BlockCall = Call judge_contracts.block.ended block.Reads.Learnt
 
 abbrev pub ShownCall : Type 0
-ShownCall = Call shown.ended shown.Reads.Learnt
+ShownCall = Call judge_contracts.shown.ended shown.Reads.Learnt
 
 abbrev pub TotalsCall : Type 0
-TotalsCall = Call totals.ended totals.Reads.Learnt
+TotalsCall = Call judge_contracts.totals.ended totals.Reads.Learnt
 
 abbrev pub ClosingCall : Type 0
-ClosingCall = Call closing.ended closing.Reads.Learnt
+ClosingCall = Call closing_contracts.close.ended closing.Reads.Learnt
 
 abbrev pub FrontCall : Type 0
-FrontCall = Call front_of.ended front_of.Reads.Learnt
+FrontCall = Call fields_contracts.front_of.ended front_of.Reads.Learnt
 
 abbrev pub ContentCall : Type 0
-ContentCall = Call content_of.ended content_of.Reads.Learnt
+ContentCall = Call contents_contracts.content_of.ended content_of.Reads.Learnt
 
 abbrev pub OpenCall : Type 0
-OpenCall = Call open.ended open.Reads.Learnt
+OpenCall = Call reader_contracts.open.ended open.Reads.Learnt
 
 abbrev pub ReadCall : Type 0
-ReadCall = Call read.ended read.Reads.Learnt
+ReadCall = Call reader_contracts.read.ended read.Reads.Learnt
 
 abbrev pub AllCall : Type 0
-AllCall = Call read_all.ended read_all.Reads.Learnt
+AllCall = Call reader_contracts.read_all.ended read_all.Reads.Learnt
 
 abbrev pub EndedCall : Type 0
-EndedCall = Call ended.ended ended.Reads.Learnt
+EndedCall = Call reader_contracts.ended.ended ended.Reads.Learnt
 
 abbrev pub FiguresCall : Type 0
-FiguresCall = Call figures_of.ended figures_of.Reads.Learnt
+FiguresCall = Call figures_contracts.figures_of.ended figures_of.Reads.Learnt
 
 abbrev pub SheetCall : Type 0
-SheetCall = Call sheet_lines.ended sheet_lines.Reads.Learnt
+SheetCall = Call sheet_contracts.sheet_lines.ended sheet_lines.Reads.Learnt
 
 abbrev pub RefusalCall : Type 0
-RefusalCall = Call refusal_line.ended refusal_line.Reads.Learnt
+RefusalCall = Call sheet_contracts.refusal_line.ended refusal_line.Reads.Learnt
 
 abbrev pub FeedCall : Type 0
-FeedCall = Call feed.ended feed.Reads.Learnt
+FeedCall = Call desk_contracts.feed.ended feed.Reads.Learnt
 
 abbrev pub CloseCall : Type 0
-CloseCall = Call close.ended close.Reads.Learnt
+CloseCall = Call prints_contracts.close.ended close.Reads.Learnt
 
 abbrev pub RefuseCall : Type 0
-RefuseCall = Call refuse.ended refuse.Reads.Learnt
+RefuseCall = Call prints_contracts.refuse.ended refuse.Reads.Learnt
 
 abbrev pub TraceCall : Type 0
-TraceCall = Call trace_close.ended trace_close.Reads.Learnt
+TraceCall = Call tracing_contracts.trace_close.ended trace_close.Reads.Learnt
 
 abbrev pub VerdictCall : Type 0
-VerdictCall = Call paperwhelk_verdict.ended paperwhelk_verdict.Reads.Learnt
+VerdictCall = Call paperwhelk_contracts.verdict.paperwhelk_verdict.ended paperwhelk_verdict.Reads.Learnt
 
 abbrev pub RecordSheetCall : Type 0
-RecordSheetCall = Call paperwhelk_sheet.ended paperwhelk_sheet.Reads.Learnt
+RecordSheetCall = Call paperwhelk_contracts.sheets.paperwhelk_sheet.ended paperwhelk_sheet.Reads.Learnt
 
 -- ---- the memory that it is lent and leaves: ledger and map together
 

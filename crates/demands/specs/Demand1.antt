@@ -32,30 +32,42 @@ use Rattle.desk.specs.declared.Outcome.TheVariants as outcome
 use Rattle.figures.specs.Figured.{blank as no_figures}
 use Rattle.sheet.specs.Overlaid.{most_sheet}
 use Rattle.tracing.specs.Traced.{most_trace}
+use Rattle.judge.specs.contracts as judge_contracts
 use Rattle.judge.proofs.start
 use Rattle.judge.proofs.sample
 use Rattle.judge.proofs.block
 use Rattle.judge.proofs.shown
 use Rattle.judge.proofs.totals
+use Rattle.closing.specs.contracts as closing_contracts
 use Rattle.closing.proofs.close as closing
+use Rattle.reader.specs.contracts as reader_contracts
 use Rattle.reader.proofs.blank
 use Rattle.reader.proofs.open
 use Rattle.reader.proofs.reading_of
 use Rattle.reader.proofs.read
 use Rattle.reader.proofs.read_all
 use Rattle.reader.proofs.ended
+use Rattle.figures.specs.contracts as figures_contracts
 use Rattle.figures.proofs.figures_of
+use Rattle.sheet.specs.contracts as sheet_contracts
 use Rattle.sheet.proofs.sheet_lines
 use Rattle.sheet.proofs.refusal_line
+use Rattle.desk.specs.contracts as desk_contracts
 use Rattle.desk.proofs.empty
 use Rattle.desk.proofs.desk_refusal
 use Rattle.desk.proofs.feed
+use Rattle.prints.specs.contracts as prints_contracts
 use Rattle.prints.proofs.refuse
 use Rattle.prints.proofs.close
+use Rattle.tracing.specs.contracts as tracing_contracts
 use Rattle.tracing.proofs.trace_close
+use Rattle.intake.specs.contracts as intake_contracts
 use Rattle.intake.proofs.take_record
+use Rattle.traced.specs.contracts as traced_contracts
 use Rattle.traced.proofs.trace_record
+use Rattle.walk.specs.contracts as walk_contracts
 use Rattle.walk.proofs.whole.list_record
+use Rattle.paperwhelk.specs.contracts as paperwhelk_contracts
 use Rattle.paperwhelk.proofs.verdict.paperwhelk_verdict
 use Rattle.paperwhelk.proofs.sheets.paperwhelk_sheet
 use Rattle.demands.specs.Calls.{AsksNothing, left, StartCall, SampleCall, BlockCall, ShownCall, TotalsCall, ClosingCall}
@@ -72,32 +84,32 @@ use Rattle.demands.specs.Cases.{wrong_number, or_else, recharge_number, opening_
 -- `statement` says that the function's own code meets its contract. It is total correctness: a call that meets what the contract asks
 -- is safe and ends (the kit's guides/DESIGN.md, 'Where each guarantee comes from'); and nothing is asked
 pub record TakesEveryInput (M : Type 1) : Type 2 where
-  pub start_takes_every_input : start.Statement.statement M × AsksNothing start.ended start.Reads.Asked
-  pub sample_takes_every_input : sample.Statement.statement M × AsksNothing sample.ended sample.Reads.Asked
-  pub block_takes_every_input : block.Statement.statement M × AsksNothing block.ended block.Reads.Asked
-  pub shown_takes_every_input : shown.Statement.statement M × AsksNothing shown.ended shown.Reads.Asked
-  pub totals_takes_every_input : totals.Statement.statement M × AsksNothing totals.ended totals.Reads.Asked
-  pub closing_takes_every_input : closing.Statement.statement M × AsksNothing closing.ended closing.Reads.Asked
-  pub blank_takes_every_input : blank.Statement.statement M × AsksNothing blank.ended blank.Reads.Asked
-  pub open_takes_every_input : open.Statement.statement M × AsksNothing open.ended open.Reads.Asked
-  pub reading_of_takes_every_input : reading_of.Statement.statement M × AsksNothing reading_of.ended reading_of.Reads.Asked
-  pub read_takes_every_input : read.Statement.statement M × AsksNothing read.ended read.Reads.Asked
-  pub read_all_takes_every_input : read_all.Statement.statement M × AsksNothing read_all.ended read_all.Reads.Asked
-  pub ended_takes_every_input : ended.Statement.statement M × AsksNothing ended.ended ended.Reads.Asked
-  pub figures_of_takes_every_input : figures_of.Statement.statement M × AsksNothing figures_of.ended figures_of.Reads.Asked
-  pub sheet_lines_takes_every_input : sheet_lines.Statement.statement M × AsksNothing sheet_lines.ended sheet_lines.Reads.Asked
-  pub refusal_line_takes_every_input : refusal_line.Statement.statement M × AsksNothing refusal_line.ended refusal_line.Reads.Asked
-  pub empty_takes_every_input : empty.Statement.statement M × AsksNothing empty.ended empty.Reads.Asked
-  pub desk_refusal_takes_every_input : desk_refusal.Statement.statement M × AsksNothing desk_refusal.ended desk_refusal.Reads.Asked
-  pub feed_takes_every_input : feed.Statement.statement M × AsksNothing feed.ended feed.Reads.Asked
-  pub refuse_takes_every_input : refuse.Statement.statement M × AsksNothing refuse.ended refuse.Reads.Asked
-  pub close_takes_every_input : close.Statement.statement M × AsksNothing close.ended close.Reads.Asked
-  pub trace_close_takes_every_input : trace_close.Statement.statement M × AsksNothing trace_close.ended trace_close.Reads.Asked
-  pub take_record_takes_every_input : take_record.Statement.statement M × AsksNothing take_record.ended take_record.Reads.Asked
-  pub trace_record_takes_every_input : trace_record.Statement.statement M × AsksNothing trace_record.ended trace_record.Reads.Asked
-  pub list_record_takes_every_input : list_record.Statement.statement M × AsksNothing list_record.ended list_record.Reads.Asked
-  pub verdict_takes_every_input : paperwhelk_verdict.Statement.statement M × AsksNothing paperwhelk_verdict.ended paperwhelk_verdict.Reads.Asked
-  pub sheet_takes_every_input : paperwhelk_sheet.Statement.statement M × AsksNothing paperwhelk_sheet.ended paperwhelk_sheet.Reads.Asked
+  pub start_takes_every_input : start.Statement.statement M × AsksNothing judge_contracts.start.ended start.Reads.Asked
+  pub sample_takes_every_input : sample.Statement.statement M × AsksNothing judge_contracts.sample.ended sample.Reads.Asked
+  pub block_takes_every_input : block.Statement.statement M × AsksNothing judge_contracts.block.ended block.Reads.Asked
+  pub shown_takes_every_input : shown.Statement.statement M × AsksNothing judge_contracts.shown.ended shown.Reads.Asked
+  pub totals_takes_every_input : totals.Statement.statement M × AsksNothing judge_contracts.totals.ended totals.Reads.Asked
+  pub closing_takes_every_input : closing.Statement.statement M × AsksNothing closing_contracts.close.ended closing.Reads.Asked
+  pub blank_takes_every_input : blank.Statement.statement M × AsksNothing reader_contracts.blank.ended blank.Reads.Asked
+  pub open_takes_every_input : open.Statement.statement M × AsksNothing reader_contracts.open.ended open.Reads.Asked
+  pub reading_of_takes_every_input : reading_of.Statement.statement M × AsksNothing reader_contracts.reading_of.ended reading_of.Reads.Asked
+  pub read_takes_every_input : read.Statement.statement M × AsksNothing reader_contracts.read.ended read.Reads.Asked
+  pub read_all_takes_every_input : read_all.Statement.statement M × AsksNothing reader_contracts.read_all.ended read_all.Reads.Asked
+  pub ended_takes_every_input : ended.Statement.statement M × AsksNothing reader_contracts.ended.ended ended.Reads.Asked
+  pub figures_of_takes_every_input : figures_of.Statement.statement M × AsksNothing figures_contracts.figures_of.ended figures_of.Reads.Asked
+  pub sheet_lines_takes_every_input : sheet_lines.Statement.statement M × AsksNothing sheet_contracts.sheet_lines.ended sheet_lines.Reads.Asked
+  pub refusal_line_takes_every_input : refusal_line.Statement.statement M × AsksNothing sheet_contracts.refusal_line.ended refusal_line.Reads.Asked
+  pub empty_takes_every_input : empty.Statement.statement M × AsksNothing desk_contracts.empty.ended empty.Reads.Asked
+  pub desk_refusal_takes_every_input : desk_refusal.Statement.statement M × AsksNothing desk_contracts.desk_refusal.ended desk_refusal.Reads.Asked
+  pub feed_takes_every_input : feed.Statement.statement M × AsksNothing desk_contracts.feed.ended feed.Reads.Asked
+  pub refuse_takes_every_input : refuse.Statement.statement M × AsksNothing prints_contracts.refuse.ended refuse.Reads.Asked
+  pub close_takes_every_input : close.Statement.statement M × AsksNothing prints_contracts.close.ended close.Reads.Asked
+  pub trace_close_takes_every_input : trace_close.Statement.statement M × AsksNothing tracing_contracts.trace_close.ended trace_close.Reads.Asked
+  pub take_record_takes_every_input : take_record.Statement.statement M × AsksNothing intake_contracts.take_record.ended take_record.Reads.Asked
+  pub trace_record_takes_every_input : trace_record.Statement.statement M × AsksNothing traced_contracts.trace_record.ended trace_record.Reads.Asked
+  pub list_record_takes_every_input : list_record.Statement.statement M × AsksNothing walk_contracts.whole.list_record.ended list_record.Reads.Asked
+  pub verdict_takes_every_input : paperwhelk_verdict.Statement.statement M × AsksNothing paperwhelk_contracts.verdict.paperwhelk_verdict.ended paperwhelk_verdict.Reads.Asked
+  pub sheet_takes_every_input : paperwhelk_sheet.Statement.statement M × AsksNothing paperwhelk_contracts.sheets.paperwhelk_sheet.ended paperwhelk_sheet.Reads.Asked
 
 -- ---- "Each refusal has a number": that of document 01's order for the call, and one of its list
 

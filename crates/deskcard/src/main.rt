@@ -10,9 +10,9 @@ use traced::trace_record;
 use walk::whole::{MOST_LINES, list_record};
 
 // How many bytes the next record has; more than any where there is none.
-fn next_length() -> u64 {
+fn next_length(rt: HostRuntime) -> u64 {
     let mut bytes = [0u8; 4];
-    if !fill_whole(&mut bytes[..]) {
+    if !fill_whole(rt, &mut bytes[..]) {
         return 18_446_744_073_709_551_615;
     }
     read32(&bytes[..], 0) as u64
@@ -20,6 +20,7 @@ fn next_length() -> u64 {
 
 // The trace of the next record: whether it was read and printed; what was not read of it is skipped.
 fn next_trace(
+    rt: HostRuntime,
     most: u64,
     buffer: &mut [u8],
     room: &mut [u8],
@@ -28,6 +29,7 @@ fn next_trace(
     lines: &mut [u8],
 ) -> bool {
     let x = trace_record(
+        rt,
         most,
         &mut *buffer,
         &mut *room,
@@ -35,16 +37,17 @@ fn next_trace(
         &mut *map,
         &mut *lines,
     );
-    skip(x.left, &mut *buffer);
+    skip(rt, x.left, &mut *buffer);
     if x.failed {
-        tell(b"deskcard: the input could not be read\n");
+        tell(rt, b"deskcard: the input could not be read\n");
         return false;
     }
-    print(&lines[..], x.printed)
+    print(rt, &lines[..], x.printed)
 }
 
 // Its field list, likewise.
 fn next_list(
+    rt: HostRuntime,
     most: u64,
     buffer: &mut [u8],
     room: &mut [u8],
@@ -53,6 +56,7 @@ fn next_list(
     lines: &mut [u8],
 ) -> bool {
     let x = list_record(
+        rt,
         most,
         &mut *buffer,
         &mut *room,
@@ -60,16 +64,17 @@ fn next_list(
         &mut *map,
         &mut *lines,
     );
-    skip(x.left, &mut *buffer);
+    skip(rt, x.left, &mut *buffer);
     if x.failed {
-        tell(b"deskcard: the input could not be read\n");
+        tell(rt, b"deskcard: the input could not be read\n");
         return false;
     }
-    !x.lost && print(&lines[..], x.printed)
+    !x.lost && print(rt, &lines[..], x.printed)
 }
 
 // The one or the other, by the letter.
 fn next_text(
+    rt: HostRuntime,
     letter: u8,
     most: u64,
     buffer: &mut [u8],
@@ -80,6 +85,7 @@ fn next_text(
 ) -> bool {
     if letter == b't' {
         return next_trace(
+            rt,
             most,
             &mut *buffer,
             &mut *room,
@@ -89,6 +95,7 @@ fn next_text(
         );
     }
     next_list(
+        rt,
         most,
         &mut *buffer,
         &mut *room,
@@ -100,6 +107,7 @@ fn next_text(
 
 // The next record, and whether there was one.
 fn next_record(
+    rt: HostRuntime,
     letter: u8,
     buffer: &mut [u8],
     room: &mut [u8],
@@ -107,11 +115,12 @@ fn next_record(
     map: &mut [u64],
     lines: &mut [u8],
 ) -> bool {
-    let most = next_length();
+    let most = next_length(rt);
     if 4_294_967_295 < most {
         return false;
     }
     let out = next_text(
+        rt,
         letter,
         most,
         &mut *buffer,
@@ -120,15 +129,16 @@ fn next_record(
         &mut *map,
         &mut *lines,
     );
-    let said = out && say(b"\n");
+    let said = out && say(rt, b"\n");
     if !said {
-        tell(b"deskcard: the output was lost\n");
+        tell(rt, b"deskcard: the output was lost\n");
     }
     said
 }
 
 // A proved loop has to end, and nothing says that the input does: it counts down from a number that no run uses up.
 fn all_records(
+    rt: HostRuntime,
     letter: u8,
     buffer: &mut [u8],
     room: &mut [u8],
@@ -139,6 +149,7 @@ fn all_records(
     let mut turns: u64 = 18_446_744_073_709_551_615;
     while turns > 0 {
         if !next_record(
+            rt,
             letter,
             &mut *buffer,
             &mut *room,
@@ -152,18 +163,19 @@ fn all_records(
     }
 }
 
-fn main() {
+fn main(rt: HostRuntime) {
     let mut letter = [0u8; 1];
     let mut buffer = [0u8; 4864];
     let mut room = [0u8; MOST_BYTES];
     let mut ledger = [0i64; LEDGER_NUMBERS];
     let mut map = [0u64; MAP_WORDS];
     let mut lines = [0u8; MOST_LINES];
-    if !fill_whole(&mut letter[..]) {
-        tell(b"deskcard: there is no letter\n");
+    if !fill_whole(rt, &mut letter[..]) {
+        tell(rt, b"deskcard: there is no letter\n");
         return;
     }
     all_records(
+        rt,
         letter[0],
         &mut buffer[..],
         &mut room[..],

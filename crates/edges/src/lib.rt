@@ -2,8 +2,23 @@
 #![tactic(auto)]
 
 ghost use Rattle.std.specs.Prelude.{true, ◌≡◌, ◌≤◌, length};
+ghost use Rattle.std.specs.Io.{WritesAtMost};
 ghost use Rattle.edges.specs.Answers.{meant, is_again, Within};
 ghost use Rattle.edges.specs.Answers.{input as theInput, output as theOutput, messages as theMessages};
+
+use std::io;
+use std::io::{Read, Write};
+use std::os::fd::AsRawFd;
+
+// The numbers of the descriptors.
+const STDIN_FILENO: i32 = 0;
+
+const STDOUT_FILENO: i32 = 1;
+
+const STDERR_FILENO: i32 = 2;
+
+// The error number of a call that a signal interrupted.
+const EINTR: i32 = 4;
 
 // What one answer of the system means: so many bytes were moved, the end of the input, an interruption before the first byte, or a fault.
 #[derive(Clone, Copy)]
@@ -21,21 +36,21 @@ const TRIES: u64 = 18_446_744_073_709_551_615;
 fn input() -> i32
     ensures { result ≡ theInput }
 {
-    libc::STDIN_FILENO
+    STDIN_FILENO
 }
 
 // Standard output.
 fn output() -> i32
     ensures { result ≡ theOutput }
 {
-    libc::STDOUT_FILENO
+    STDOUT_FILENO
 }
 
 // Standard error.
 fn messages() -> i32
     ensures { result ≡ theMessages }
 {
-    libc::STDERR_FILENO
+    STDERR_FILENO
 }
 
 // What an answer of the system's read or write means, with the error number that it left.
@@ -48,7 +63,7 @@ fn meaning(answer: isize, error: i32) -> Got
     if answer == 0 {
         return Got::End;
     }
-    if error == libc::EINTR {
+    if error == EINTR {
         return Got::Again;
     }
     Got::Failed
@@ -66,30 +81,55 @@ fn is_again(got: Got) -> bool
     }
 }
 
-// One call that reads.
-fn read_once(part: &mut [u8]) -> Got
-    ensures { Within (length part.old) result }
-{
-    let answer = libc::read(input(), &mut *part);
-    meaning(answer, os::errno())
+// The error number that a call left; 0 where it left none.
+fn number_of(error: io::Error) -> i32 {
+    error.raw_os_error().unwrap_or(0)
 }
 
-// One call that writes.
-fn write_once(fd: i32, text: &[u8]) -> Got
+// One call that reads.
+fn read_once(rt: HostRuntime, part: &mut [u8]) -> Got
+    ensures { Within (length part.old) result }
+{
+    let mut from = rt.stdin();
+    prove!(from.as_raw_fd() == input());
+    match from.read(&mut *part) {
+        Ok(answer) => meaning(answer as isize, 0),
+        Err(error) => meaning(-1, number_of(error)),
+    }
+}
+
+// One call that writes, as std hands its answer on.
+fn write_to(rt: HostRuntime, fd: i32, text: &[u8]) -> io::Result<usize>
+    ensures { WritesAtMost result text.now }
+{
+    if fd == output() {
+        let mut to = rt.stdout();
+        prove!(to.as_raw_fd() == fd);
+        return to.write(text);
+    }
+    let mut to = rt.stderr();
+    prove!(to.as_raw_fd() == messages());
+    to.write(text)
+}
+
+// One call that writes: to standard output, or else to standard error.
+fn write_once(rt: HostRuntime, fd: i32, text: &[u8]) -> Got
     ensures { Within (length text.now) result }
 {
-    let moved = libc::write(fd, text);
-    meaning(moved, os::errno())
+    match write_to(rt, fd, text) {
+        Ok(moved) => meaning(moved as isize, 0),
+        Err(error) => meaning(-1, number_of(error)),
+    }
 }
 
 // Reads from standard input to the front of the part, which has place for a byte, so that no bytes are the end of the input.
-pub fn fill(part: &mut [u8]) -> Got
+pub fn fill(rt: HostRuntime, part: &mut [u8]) -> Got
     requires { 1 ≤ length part.old }
     ensures { Within (length part.old) result }
 {
     let mut tries = TRIES;
     while tries > 0 {
-        let got = read_once(&mut *part);
+        let got = read_once(rt, &mut *part);
         if !is_again(got) {
             return got;
         }
@@ -99,10 +139,10 @@ pub fn fill(part: &mut [u8]) -> Got
 }
 
 // Reads from standard input until the part is full; false where the input ends before, or reading fails.
-pub fn fill_whole(part: &mut [u8]) -> bool {
+pub fn fill_whole(rt: HostRuntime, part: &mut [u8]) -> bool {
     let mut from = 0;
     while from < part.len() {
-        let got = fill(&mut part[from..]);
+        let got = fill(rt, &mut part[from..]);
         let Got::Bytes(n) = got else {
             return false;
         };
@@ -112,12 +152,12 @@ pub fn fill_whole(part: &mut [u8]) -> bool {
 }
 
 // Writes from the front of the text.
-fn put_some(fd: i32, text: &[u8]) -> Got
+fn put_some(rt: HostRuntime, fd: i32, text: &[u8]) -> Got
     ensures { Within (length text.now) result }
 {
     let mut tries = TRIES;
     while tries > 0 {
-        let got = write_once(fd, text);
+        let got = write_once(rt, fd, text);
         if !is_again(got) {
             return got;
         }
@@ -127,12 +167,12 @@ fn put_some(fd: i32, text: &[u8]) -> Got
 }
 
 // Writes the text: how many of its bytes the system took, all of them or those before it took no more.
-fn put(fd: i32, text: &[u8]) -> usize
+fn put(rt: HostRuntime, fd: i32, text: &[u8]) -> usize
     ensures { result ≤ length text.now }
 {
     let mut from = 0;
     while from < text.len() {
-        let got = put_some(fd, &text[from..]);
+        let got = put_some(rt, fd, &text[from..]);
         let Got::Bytes(n) = got else {
             return from;
         };
@@ -142,35 +182,34 @@ fn put(fd: i32, text: &[u8]) -> usize
 }
 
 // The text goes to standard output: whether all of it did.
-pub fn say(text: &[u8]) -> bool {
-    put(output(), text) == text.len()
+pub fn say(rt: HostRuntime, text: &[u8]) -> bool {
+    put(rt, output(), text) == text.len()
 }
 
 // The first bytes of the lines, so many of them, go to standard output: how many did; none where there are not so many.
-pub fn send(lines: &[u8], n: usize) -> usize
+pub fn send(rt: HostRuntime, lines: &[u8], n: usize) -> usize
     ensures { (result ≤ n) × (result ≤ length lines.now) }
 {
     if lines.len() < n {
         return 0;
     }
-    put(output(), &lines[..n])
+    put(rt, output(), &lines[..n])
 }
 
 // The same: whether all did.
-pub fn print(lines: &[u8], n: usize) -> bool
+pub fn print(rt: HostRuntime, lines: &[u8], n: usize) -> bool
     ensures { result ≡ true → n ≤ length lines.now }
 {
-    send(lines, n) == n
+    send(rt, lines, n) == n
 }
 
 // The text goes to standard error: whether all of it did.
-pub fn tell(text: &[u8]) -> bool {
-    put(messages(), text) == text.len()
+pub fn tell(rt: HostRuntime, text: &[u8]) -> bool {
+    put(rt, messages(), text) == text.len()
 }
 
 // A number goes to standard output, by its digits: whether all of them did.
-pub fn say_number(n: u64) -> bool {
-    let mut digits = [0u8; 20];
-    let k = io::decimal(n, &mut digits);
-    say(&digits[..k])
+pub fn say_number(rt: HostRuntime, n: u64) -> bool {
+    let mut digits = itoa::Buffer::new();
+    say(rt, digits.format(n).as_bytes())
 }

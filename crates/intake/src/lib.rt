@@ -81,6 +81,7 @@ fn answer_to(t: Turn, room: &[u8], ledger: &[i64], map: &[u64], lines: &mut [u8]
 
 // A record of at most so many bytes: what is printed of it stands in the lines.
 fn read_record(
+    rt: HostRuntime,
     most: u64,
     buffer: &mut [u8],
     room: &mut [u8],
@@ -92,12 +93,13 @@ fn read_record(
     ensures { Recorded (laid_of empty_desk room.old ledger.old map.old) most lines.old
         result room.new ledger.new map.new lines.new }
 {
-    let t = read_through(most, &mut *buffer, &mut *room, &mut *ledger, &mut *map);
+    let t = read_through(rt, most, &mut *buffer, &mut *room, &mut *ledger, &mut *map);
     answer_to(t, &room[..], &ledger[..], &map[..], &mut *lines)
 }
 
 // The same, of any buffer: one that is too short for a field is refused 1 before all else.
 pub fn take_record(
+    rt: HostRuntime,
     most: u64,
     buffer: &mut [u8],
     room: &mut [u8],
@@ -121,6 +123,7 @@ pub fn take_record(
         };
     }
     read_record(
+        rt,
         most,
         &mut *buffer,
         &mut *room,
@@ -131,14 +134,14 @@ pub fn take_record(
 }
 
 // The bytes of a record that are not looked at.
-pub fn skip(most: u64, buffer: &mut [u8]) {
+pub fn skip(rt: HostRuntime, most: u64, buffer: &mut [u8]) {
     if buffer.len() == 0 {
         return;
     }
     let mut left = most;
     while left > 0 {
         let end = at_most(buffer.len(), left);
-        let got = fill(&mut buffer[..end]);
+        let got = fill(rt, &mut buffer[..end]);
         let Got::Bytes(n) = got else {
             return;
         };

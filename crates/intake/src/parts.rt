@@ -121,6 +121,7 @@ fn turn_by(
 
 // Reads once behind the bytes held at the front, as far as the buffer and the record go.
 pub fn read_behind(
+    rt: HostRuntime,
     desk: Desk,
     held: usize,
     left: u64,
@@ -136,7 +137,7 @@ pub fn read_behind(
 {
     let space = buffer.len() - held;
     let end = held + at_most(space, left);
-    let got = fill(&mut buffer[held..end]);
+    let got = fill(rt, &mut buffer[held..end]);
     turn_by(
         got,
         desk,
@@ -151,6 +152,7 @@ pub fn read_behind(
 
 // Turn after turn, to the end of a record of at most so many bytes.
 pub fn read_through(
+    rt: HostRuntime,
     most: u64,
     buffer: &mut [u8],
     room: &mut [u8],
@@ -167,6 +169,7 @@ pub fn read_through(
     let mut left = most;
     while left > 0 {
         let t = read_once(
+            rt,
             desk,
             used,
             held,

@@ -9,6 +9,7 @@ use desk::Desk;
 
 // One turn: the bytes held behind those taken move to the front, and what is read comes behind them.
 pub fn read_once(
+    rt: HostRuntime,
     desk: Desk,
     used: usize,
     held: usize,
@@ -29,6 +30,7 @@ pub fn read_once(
 {
     let kept = to_front(&mut *buffer, used, used + held);
     read_behind(
+        rt,
         desk,
         kept,
         left,

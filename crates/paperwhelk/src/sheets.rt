@@ -8,7 +8,6 @@ ghost use Rattle.sheet.specs.Overlaid.{most_sheet};
 ghost use Rattle.prints.specs.Printed.{Prints};
 ghost use Rattle.paperwhelk.specs.Exported.{sheet_answer, sheet_left};
 
-use bytes::copy;
 use desk::{Outcome, empty, feed};
 use prints::{close, refuse};
 use rules::limits::{LEDGER_NUMBERS, MAP_WORDS, MOST_BYTES};
@@ -44,7 +43,8 @@ fn hand_over(lines: &[u8], n: usize, out: &mut [u8]) -> i32
     if out.len() < n {
         return -16;
     }
-    copy(&lines[..n], &mut *out) as i32
+    out[..n].copy_from_slice(&lines[..n]);
+    n as i32
 }
 
 // How many bytes the record's sheet has, which stands at the front of out, or minus 16 where it does not fit.

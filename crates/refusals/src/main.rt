@@ -58,27 +58,35 @@ fn open_number_of(step: OpenStep) -> u32 {
     }
 }
 
-fn lost() {
-    edges::tell(b"refusals: the output was lost\n");
+fn lost(rt: HostRuntime) {
+    edges::tell(rt, b"refusals: the output was lost\n");
 }
 
-fn put(text: &[u8]) {
-    if !edges::say(text) {
-        lost();
+fn put(rt: HostRuntime, text: &[u8]) {
+    if !edges::say(rt, text) {
+        lost(rt);
     }
 }
 
-fn say(what: &[u8], number: u32) {
-    put(what);
-    put(b": ");
-    if !edges::say_number(number as u64) {
-        lost();
+fn say(rt: HostRuntime, what: &[u8], number: u32) {
+    put(rt, what);
+    put(rt, b": ");
+    if !edges::say_number(rt, number as u64) {
+        lost(rt);
     }
-    put(b"\n");
+    put(rt, b"\n");
 }
 
 // On a ledger of so many numbers and a map of so many words, all zero.
-fn try_read(what: &[u8], r: Reading, input: &[u8], cycle: &[u8], numbers: usize, words: usize) {
+fn try_read(
+    rt: HostRuntime,
+    what: &[u8],
+    r: Reading,
+    input: &[u8],
+    cycle: &[u8],
+    numbers: usize,
+    words: usize,
+) {
     let mut ledger = [0i64; 576];
     let mut map = [0u64; 750];
     if 576 < numbers {
@@ -89,11 +97,11 @@ fn try_read(what: &[u8], r: Reading, input: &[u8], cycle: &[u8], numbers: usize,
     }
     let x = read(r, input, cycle, &mut ledger[..numbers], &mut map[..words]);
     let step = x.step;
-    say(what, number_of(step));
+    say(rt, what, number_of(step));
 }
 
 // On a room of so many bytes too.
-fn try_open(what: &[u8], o: Opening, input: &[u8], bytes: usize, numbers: usize) {
+fn try_open(rt: HostRuntime, what: &[u8], o: Opening, input: &[u8], bytes: usize, numbers: usize) {
     let mut room = [0u8; 4811];
     let mut ledger = [0i64; 576];
     let mut map = [0u64; 750];
@@ -111,7 +119,7 @@ fn try_open(what: &[u8], o: Opening, input: &[u8], bytes: usize, numbers: usize)
         &mut map[..],
     );
     let step = x.step;
-    say(what, open_number_of(step));
+    say(rt, what, open_number_of(step));
 }
 
 // An opening at the tolerances, with so many bytes of a cycle in the room.
@@ -122,108 +130,117 @@ fn at_tolerances(fields: u32, cycle: usize) -> Opening {
     o
 }
 
-fn openings() {
+fn openings(rt: HostRuntime) {
     let unknown = &UNKNOWN[..];
     let wide = &WIDE[..];
     let full = at_tolerances(4, 9);
     let last = at_tolerances(3, 9);
     try_open(
+        rt,
         b"open, room too short, unknown tag",
         blank(),
         unknown,
         4810,
         576,
     );
-    try_open(b"open, unknown tag", blank(), unknown, 4811, 576);
-    try_open(b"open, four fields before it", full, unknown, 4811, 576);
+    try_open(rt, b"open, unknown tag", blank(), unknown, 4811, 576);
+    try_open(rt, b"open, four fields before it", full, unknown, 4811, 576);
     try_open(
+        rt,
         b"start, ledger too short, no cycle, wide",
         last,
         wide,
         4811,
         575,
     );
-    try_open(b"start, no cycle, wide", last, wide, 4811, 576);
+    try_open(rt, b"start, no cycle, wide", last, wide, 4811, 576);
 }
 
 // An unknown tag, with the cycle of another run.
-fn try_other(what: &[u8], r: Reading, numbers: usize, words: usize) {
-    try_read(what, r, &UNKNOWN[..], &OTHER_CYCLE[..], numbers, words);
+fn try_other(rt: HostRuntime, what: &[u8], r: Reading, numbers: usize, words: usize) {
+    try_read(rt, what, r, &UNKNOWN[..], &OTHER_CYCLE[..], numbers, words);
 }
 
 // With the run's own cycle and memory.
-fn try_field(what: &[u8], r: Reading, input: &[u8]) {
-    try_read(what, r, input, &CYCLE[..], 576, 750);
+fn try_field(rt: HostRuntime, what: &[u8], r: Reading, input: &[u8]) {
+    try_read(rt, what, r, input, &CYCLE[..], 576, 750);
 }
 
-fn grounds() {
+fn grounds(rt: HostRuntime) {
     let r = reading_with(2561, 0);
     let beyond = reading_with(2561, 4_000_001);
-    try_other(b"read, ledger too short, other cycle", r, 575, 750);
-    try_other(b"read, map too short, other cycle", r, 576, 749);
-    try_other(b"read, state out of bounds, other cycle", beyond, 576, 750);
-    try_other(b"read, other cycle, unknown tag", r, 576, 750);
-    try_field(b"read, unknown tag", r, &UNKNOWN[..]);
+    try_other(rt, b"read, ledger too short, other cycle", r, 575, 750);
+    try_other(rt, b"read, map too short, other cycle", r, 576, 749);
+    try_other(
+        rt,
+        b"read, state out of bounds, other cycle",
+        beyond,
+        576,
+        750,
+    );
+    try_other(rt, b"read, other cycle, unknown tag", r, 576, 750);
+    try_field(rt, b"read, unknown tag", r, &UNKNOWN[..]);
 }
 
 // What `figures_of` tests before it forms the figures.
-fn try_figures(what: &[u8], r: Reading, cycle: &[u8]) {
+fn try_figures(rt: HostRuntime, what: &[u8], r: Reading, cycle: &[u8]) {
     let ledger = [0i64; 576];
     let map = [0u64; 750];
     let x = figures::figures_of(r, cycle, &ledger[..], &map[..]);
-    say(what, x.refusal);
+    say(rt, what, x.refusal);
 }
 
-fn figures() {
+fn figures(rt: HostRuntime) {
     let r = reading_with(2561, 0);
     let beyond = reading_with(2561, 4_000_001);
     try_figures(
+        rt,
         b"figures, state out of bounds, other cycle",
         beyond,
         &OTHER_CYCLE[..],
     );
-    try_figures(b"figures, other cycle", r, &OTHER_CYCLE[..]);
-    try_figures(b"figures, own cycle", r, &CYCLE[..]);
+    try_figures(rt, b"figures, other cycle", r, &OTHER_CYCLE[..]);
+    try_figures(rt, b"figures, own cycle", r, &CYCLE[..]);
 }
 
 // Blocks of one sample: one that begins at sample 4,000,000, one at 0, one with a speed of 1501, another vehicle's.
-fn counts() {
+fn counts(rt: HostRuntime) {
     let full = reading_with(4_000_000, 4_000_000);
     let almost = reading_with(4_000_000, 3_999_999);
     let next = b"\x05\x00\x1b00000000000000000\x00\x3d\x09\x00\x00\x64\x17\x70\xff\x88";
     let again = b"\x05\x00\x1b00000000000000000\x00\x00\x00\x00\x00\x64\x17\x70\xff\x88";
     let fast = b"\x05\x00\x1b00000000000000000\x00\x3d\x09\x00\x05\xdd\x17\x70\xff\x88";
     let foreign = b"\x05\x00\x1b10000000000000000\x00\x00\x00\x00\x05\xdd\x17\x70\xff\x88";
-    try_field(b"read, offered full", full, next);
-    try_field(b"read, offered full, first number wrong", full, again);
-    try_field(b"read, offered full, sample too fast", full, fast);
-    try_field(b"read, passed over full", full, foreign);
-    try_field(b"read, one more passed over", almost, foreign);
+    try_field(rt, b"read, offered full", full, next);
+    try_field(rt, b"read, offered full, first number wrong", full, again);
+    try_field(rt, b"read, offered full, sample too fast", full, fast);
+    try_field(rt, b"read, passed over full", full, foreign);
+    try_field(rt, b"read, one more passed over", almost, foreign);
 }
 
-fn main() {
-    openings();
-    grounds();
-    counts();
-    of_places::places();
-    figures();
-    of_judge::starts();
-    of_stretches::starts();
-    of_judge::samples();
-    of_judge::blocks();
-    of_judge::figures();
-    of_state::intervals();
-    of_state::counts();
-    of_stretches::methods();
-    of_stretches::counts();
-    of_stretches::in_regular();
-    of_stretches::in_m();
-    of_stretches::in_e();
-    of_stretches::watches();
-    of_bounds::ledgers();
-    of_bounds::amounts();
-    of_desk::feeds();
-    of_desk::early_closings();
-    of_desk::closings();
-    of_intake::buffers();
+fn main(rt: HostRuntime) {
+    openings(rt);
+    grounds(rt);
+    counts(rt);
+    of_places::places(rt);
+    figures(rt);
+    of_judge::starts(rt);
+    of_stretches::starts(rt);
+    of_judge::samples(rt);
+    of_judge::blocks(rt);
+    of_judge::figures(rt);
+    of_state::intervals(rt);
+    of_state::counts(rt);
+    of_stretches::methods(rt);
+    of_stretches::counts(rt);
+    of_stretches::in_regular(rt);
+    of_stretches::in_m(rt);
+    of_stretches::in_e(rt);
+    of_stretches::watches(rt);
+    of_bounds::ledgers(rt);
+    of_bounds::amounts(rt);
+    of_desk::feeds(rt);
+    of_desk::early_closings(rt);
+    of_desk::closings(rt);
+    of_intake::buffers(rt);
 }

@@ -19,16 +19,16 @@ fn started(cycle: usize) -> Desk {
     }
 }
 
-pub fn say_line(what: &[u8], lines: &[u8], n: usize) {
-    put(what);
-    put(b": ");
+pub fn say_line(rt: HostRuntime, what: &[u8], lines: &[u8], n: usize) {
+    put(rt, what);
+    put(rt, b": ");
     if lines.len() < n {
         return;
     }
-    put(&lines[..n]);
+    put(rt, &lines[..n]);
 }
 
-fn try_feed(what: &[u8], desk: Desk) {
+fn try_feed(rt: HostRuntime, what: &[u8], desk: Desk) {
     let mut room = [0u8; 4811];
     let mut ledger = [0i64; 576];
     let mut map = [0u64; 750];
@@ -37,34 +37,43 @@ fn try_feed(what: &[u8], desk: Desk) {
     let on = x.desk;
     let outcome = x.outcome;
     match outcome {
-        Outcome::More => say_line(what, &lines[..], 0),
+        Outcome::More => say_line(rt, what, &lines[..], 0),
         Outcome::Refused(n) => {
             let printed = prints::refuse(on, n, &mut lines);
-            say_line(what, &lines[..], printed);
+            say_line(rt, what, &lines[..], printed);
         }
     }
 }
 
 // With the run's own cycle at the front of the room, and so many bytes left over.
-fn try_close(what: &[u8], desk: Desk, left: usize, room: &[u8], ledger: &[i64]) {
+fn try_close(rt: HostRuntime, what: &[u8], desk: Desk, left: usize, room: &[u8], ledger: &[i64]) {
     let map = [0u64; 750];
     let mut lines = [0u8; 512];
     let printed = prints::close(desk, left, room, ledger, &map[..], &mut lines);
-    say_line(what, &lines[..], printed);
+    say_line(rt, what, &lines[..], printed);
 }
 
 // 1 and 8.
-pub fn feeds() {
-    try_feed(b"feed, 8000009 fields, unknown tag", with_fields(8_000_009));
-    try_feed(b"feed, 8000010 fields, unknown tag", with_fields(8_000_010));
-    try_feed(b"feed, unknown tag", empty());
+pub fn feeds(rt: HostRuntime) {
+    try_feed(
+        rt,
+        b"feed, 8000009 fields, unknown tag",
+        with_fields(8_000_009),
+    );
+    try_feed(
+        rt,
+        b"feed, 8000010 fields, unknown tag",
+        with_fields(8_000_010),
+    );
+    try_feed(rt, b"feed, unknown tag", empty());
 }
 
 // Before the start: 1 and 15.
-pub fn early_closings() {
+pub fn early_closings(rt: HostRuntime) {
     let room = [0u8; 4811];
     let ledger = [0i64; 576];
     try_close(
+        rt,
         b"close, 8000010 fields, not started",
         with_fields(8_000_010),
         0,
@@ -72,17 +81,25 @@ pub fn early_closings() {
         &ledger[..],
     );
     try_close(
+        rt,
         b"close, room too short, not started",
         empty(),
         0,
         &room[..4810],
         &ledger[..],
     );
-    try_close(b"close, not started", empty(), 0, &room[..], &ledger[..]);
+    try_close(
+        rt,
+        b"close, not started",
+        empty(),
+        0,
+        &room[..],
+        &ledger[..],
+    );
 }
 
 // After it: 1, 2 and 15.
-pub fn closings() {
+pub fn closings(rt: HostRuntime) {
     // T = 2, one phase, points of 100
     let mut room = [0u8; 4811];
     room[0] = 1;
@@ -92,6 +109,7 @@ pub fn closings() {
     room[8] = 100;
     let ledger = [0i64; 576];
     try_close(
+        rt,
         b"close, ledger too short, bytes left over",
         started(9),
         5,
@@ -99,6 +117,7 @@ pub fn closings() {
         &ledger[..575],
     );
     try_close(
+        rt,
         b"close, other cycle, bytes left over",
         started(8),
         5,
@@ -106,6 +125,7 @@ pub fn closings() {
         &ledger[..],
     );
     try_close(
+        rt,
         b"close, bytes left over",
         started(9),
         5,

@@ -55,20 +55,28 @@ pub fn number_of(answer: Answer) -> u32 {
     }
 }
 
-fn try_start(what: &[u8], cycle: &[u8], speed: u32, ledger: &mut [i64], map: &mut [u64]) {
+fn try_start(
+    rt: HostRuntime,
+    what: &[u8],
+    cycle: &[u8],
+    speed: u32,
+    ledger: &mut [i64],
+    map: &mut [u64],
+) {
     let t = tolerances(speed);
     let answer = judge::start(cycle, t, Method::Regular, &mut *ledger, &mut *map);
-    say(what, number_of(answer));
+    say(rt, what, number_of(answer));
 }
 
 // 1, 2 and 3.
-pub fn starts() {
+pub fn starts(rt: HostRuntime) {
     let broken = &BROKEN[..];
     let mut ledger = [0i64; 576];
     let mut map = [0u64; 750];
     let mut few = [0i64; 575];
     let mut short = [0u64; 749];
     try_start(
+        rt,
         b"start, a ledger of 575, a broken end",
         broken,
         30,
@@ -76,6 +84,7 @@ pub fn starts() {
         &mut map,
     );
     try_start(
+        rt,
         b"start, a map of 749, a broken end",
         broken,
         30,
@@ -83,6 +92,7 @@ pub fn starts() {
         &mut short,
     );
     try_start(
+        rt,
         b"start, a broken end, a tolerance of 101",
         broken,
         101,
@@ -90,6 +100,7 @@ pub fn starts() {
         &mut map,
     );
     try_start(
+        rt,
         b"start, a tolerance of 101",
         &CYCLE[..],
         101,
@@ -99,7 +110,7 @@ pub fn starts() {
 }
 
 // On memory of zeros, but for the first number of the ledger.
-fn try_sample(what: &[u8], run: Run, cycle: &[u8], speed: u16, number: i64) {
+fn try_sample(rt: HostRuntime, what: &[u8], run: Run, cycle: &[u8], speed: u16, number: i64) {
     let mut ledger = [0i64; 576];
     let mut map = [0u64; 750];
     ledger[0] = number;
@@ -109,16 +120,17 @@ fn try_sample(what: &[u8], run: Run, cycle: &[u8], speed: u16, number: i64) {
         current: -120,
     };
     let answer = judge::sample(run, cycle, &mut ledger[..], &mut map[..], x);
-    say(what, number_of(answer));
+    say(rt, what, number_of(answer));
 }
 
 // 1, 2, 7 and 5.
-pub fn samples() {
+pub fn samples(rt: HostRuntime) {
     let run = stopped(4);
     let full = stopped(4_000_000);
     let cycle = &CYCLE[..];
     let other = &OTHER_CYCLE[..];
     try_sample(
+        rt,
         b"sample, a ledger number out of bounds, another cycle",
         run,
         other,
@@ -126,32 +138,34 @@ pub fn samples() {
         14_400_000_000_001,
     );
     try_sample(
+        rt,
         b"sample, another cycle, 4000000 offered",
         full,
         other,
         100,
         0,
     );
-    try_sample(b"sample, 4000000 offered", full, cycle, 100, 0);
+    try_sample(rt, b"sample, 4000000 offered", full, cycle, 100, 0);
     try_sample(
+        rt,
         b"sample, 4000000 offered, a speed of 1501",
         full,
         cycle,
         1501,
         0,
     );
-    try_sample(b"sample, a speed of 1501", run, cycle, 1501, 0);
+    try_sample(rt, b"sample, a speed of 1501", run, cycle, 1501, 0);
 }
 
-fn try_block(what: &[u8], run: Run, cycle: &[u8], first: u32, samples: &[u8]) {
+fn try_block(rt: HostRuntime, what: &[u8], run: Run, cycle: &[u8], first: u32, samples: &[u8]) {
     let mut ledger = [0i64; 576];
     let mut map = [0u64; 750];
     let answer = judge::block(run, cycle, &mut ledger[..], &mut map[..], first, samples);
-    say(what, number_of(answer));
+    say(rt, what, number_of(answer));
 }
 
 // 1, 2, 8, 6, 7 and 5.
-pub fn blocks() {
+pub fn blocks(rt: HostRuntime) {
     let run = stopped(4);
     let full = stopped(4_000_000);
     let beyond = stopped(4_000_001);
@@ -162,52 +176,62 @@ pub fn blocks() {
     let fast = &FAST[..];
     let long = [0u8; 1206];
     try_block(
+        rt,
         b"block, a state out of bounds, another cycle",
         beyond,
         other,
         4,
         none,
     );
-    try_block(b"block, another cycle, 0 bytes", run, other, 4, none);
-    try_block(b"block, 0 bytes", run, cycle, 4, none);
-    try_block(b"block, 7 bytes", run, cycle, 4, &GOOD[..7]);
-    try_block(b"block, 201 samples", run, cycle, 4, &long[..]);
-    try_block(b"block, 0 bytes, first number wrong", run, cycle, 0, none);
-    try_block(b"block, first number wrong", run, cycle, 0, good);
+    try_block(rt, b"block, another cycle, 0 bytes", run, other, 4, none);
+    try_block(rt, b"block, 0 bytes", run, cycle, 4, none);
+    try_block(rt, b"block, 7 bytes", run, cycle, 4, &GOOD[..7]);
+    try_block(rt, b"block, 201 samples", run, cycle, 4, &long[..]);
     try_block(
+        rt,
+        b"block, 0 bytes, first number wrong",
+        run,
+        cycle,
+        0,
+        none,
+    );
+    try_block(rt, b"block, first number wrong", run, cycle, 0, good);
+    try_block(
+        rt,
         b"block, first number wrong, 4000000 offered",
         full,
         cycle,
         0,
         good,
     );
-    try_block(b"block, 4000000 offered", full, cycle, 4_000_000, good);
+    try_block(rt, b"block, 4000000 offered", full, cycle, 4_000_000, good);
     try_block(
+        rt,
         b"block, 4000000 offered, a speed of 1501",
         full,
         cycle,
         4_000_000,
         fast,
     );
-    try_block(b"block, a speed of 1501", run, cycle, 4, fast);
+    try_block(rt, b"block, a speed of 1501", run, cycle, 4, fast);
 }
 
-fn try_shown(what: &[u8], run: Run, ledger: &[i64], map: &[u64]) {
+fn try_shown(rt: HostRuntime, what: &[u8], run: Run, ledger: &[i64], map: &[u64]) {
     match judge::shown(run, &OTHER_CYCLE[..], ledger, map) {
-        ShownAnswer::Counted(_) => say(what, 0),
-        ShownAnswer::Refused(n) => say(what, n),
+        ShownAnswer::Counted(_) => say(rt, what, 0),
+        ShownAnswer::Refused(n) => say(rt, what, n),
     }
 }
 
-fn try_totals(what: &[u8], run: Run, ledger: &[i64], map: &[u64]) {
+fn try_totals(rt: HostRuntime, what: &[u8], run: Run, ledger: &[i64], map: &[u64]) {
     match judge::totals(run, &OTHER_CYCLE[..], ledger, map) {
-        TotalsAnswer::Summed(_) => say(what, 0),
-        TotalsAnswer::Refused(n) => say(what, n),
+        TotalsAnswer::Summed(_) => say(rt, what, 0),
+        TotalsAnswer::Refused(n) => say(rt, what, n),
     }
 }
 
 // 1 and 2.
-pub fn figures() {
+pub fn figures(rt: HostRuntime) {
     let beyond = stopped(4_000_001);
     let run = stopped(4);
     let numbers = [0i64; 576];
@@ -215,17 +239,19 @@ pub fn figures() {
     let ledger = &numbers[..];
     let map = &words[..];
     try_shown(
+        rt,
         b"shown, a state out of bounds, another cycle",
         beyond,
         ledger,
         map,
     );
-    try_shown(b"shown, another cycle", run, ledger, map);
+    try_shown(rt, b"shown, another cycle", run, ledger, map);
     try_totals(
+        rt,
         b"totals, a state out of bounds, another cycle",
         beyond,
         ledger,
         map,
     );
-    try_totals(b"totals, another cycle", run, ledger, map);
+    try_totals(rt, b"totals, another cycle", run, ledger, map);
 }

@@ -68,7 +68,7 @@ pub fn fresh_run() -> Run {
 }
 
 // One sample more, on memory of zeros.
-pub fn try_run(what: &[u8], run: Run) {
+pub fn try_run(rt: HostRuntime, what: &[u8], run: Run) {
     let mut ledger = [0i64; 576];
     let mut map = [0u64; 750];
     let x = Sample {
@@ -77,68 +77,110 @@ pub fn try_run(what: &[u8], run: Run) {
         current: -120,
     };
     let answer = judge::sample(run, &CYCLE[..], &mut ledger[..], &mut map[..], x);
-    say(what, number_of(answer));
+    say(rt, what, number_of(answer));
 }
 
-fn try_state(what: &[u8], progress: Progress) {
-    try_run(what, run_with(progress));
+fn try_state(rt: HostRuntime, what: &[u8], progress: Progress) {
+    try_run(rt, what, run_with(progress));
 }
 
 // Of one sample, which counts.
-fn try_held(what: &[u8], speed: u64, energy: i64) {
-    try_state(what, progress_of(1, 1, End::None, speed, energy));
+fn try_held(rt: HostRuntime, what: &[u8], speed: u64, energy: i64) {
+    try_state(rt, what, progress_of(1, 1, End::None, speed, energy));
 }
 
 // Of no sample.
-fn try_blank(what: &[u8], speed: u64, energy: i64) {
-    try_state(what, progress_of(0, 0, End::None, speed, energy));
+fn try_blank(rt: HostRuntime, what: &[u8], speed: u64, energy: i64) {
+    try_state(rt, what, progress_of(0, 0, End::None, speed, energy));
 }
 
 // Of a run that sample 3 has stopped.
-fn try_stopped(what: &[u8], speed: u64, energy: i64) {
-    try_state(what, progress_of(4, 3, End::Stop, speed, energy));
+fn try_stopped(rt: HostRuntime, what: &[u8], speed: u64, energy: i64) {
+    try_state(rt, what, progress_of(4, 3, End::Stop, speed, energy));
 }
 
 // Of a run at its limit.
-fn try_ended(what: &[u8], speed: u64, energy: i64) {
-    try_state(what, progress_of(2561, 2560, End::Limit, speed, energy));
+fn try_ended(rt: HostRuntime, what: &[u8], speed: u64, energy: i64) {
+    try_state(rt, what, progress_of(2561, 2560, End::Limit, speed, energy));
 }
 
 // The last counted sample's speed and product; nothing where no interval is open: before the first sample, after a stop, after the limit.
-pub fn intervals() {
-    try_held(b"state, a speed of 1500 held", 1500, 0);
-    try_held(b"state, a speed of 1501 held", 1501, 0);
-    try_held(b"state, an energy of 150000000 held", 0, 150_000_000);
-    try_held(b"state, an energy of 150000001 held", 0, 150_000_001);
-    try_held(b"state, an energy of -150000000 held", 0, -150_000_000);
-    try_held(b"state, an energy of -150000001 held", 0, -150_000_001);
-    try_blank(b"state, no sample, nothing held", 0, 0);
-    try_blank(b"state, no sample, a speed held", 1, 0);
-    try_blank(b"state, no sample, an energy held", 0, 1);
-    try_stopped(b"state, stopped, nothing held", 0, 0);
-    try_stopped(b"state, stopped, a speed held", 1, 0);
-    try_stopped(b"state, stopped, an energy held", 0, -1);
-    try_ended(b"state, at the limit, nothing held", 0, 0);
-    try_ended(b"state, at the limit, a speed held", 1, 0);
-    try_ended(b"state, at the limit, an energy held", 0, 1);
+pub fn intervals(rt: HostRuntime) {
+    try_held(rt, b"state, a speed of 1500 held", 1500, 0);
+    try_held(rt, b"state, a speed of 1501 held", 1501, 0);
+    try_held(rt, b"state, an energy of 150000000 held", 0, 150_000_000);
+    try_held(rt, b"state, an energy of 150000001 held", 0, 150_000_001);
+    try_held(rt, b"state, an energy of -150000000 held", 0, -150_000_000);
+    try_held(rt, b"state, an energy of -150000001 held", 0, -150_000_001);
+    try_blank(rt, b"state, no sample, nothing held", 0, 0);
+    try_blank(rt, b"state, no sample, a speed held", 1, 0);
+    try_blank(rt, b"state, no sample, an energy held", 0, 1);
+    try_stopped(rt, b"state, stopped, nothing held", 0, 0);
+    try_stopped(rt, b"state, stopped, a speed held", 1, 0);
+    try_stopped(rt, b"state, stopped, an energy held", 0, -1);
+    try_ended(rt, b"state, at the limit, nothing held", 0, 0);
+    try_ended(rt, b"state, at the limit, a speed held", 1, 0);
+    try_ended(rt, b"state, at the limit, an energy held", 0, 1);
 }
 
-fn try_counts(what: &[u8], offered: u32, counted: u32, end: End) {
-    try_state(what, progress_of(offered, counted, end, 0, 0));
+fn try_counts(rt: HostRuntime, what: &[u8], offered: u32, counted: u32, end: End) {
+    try_state(rt, what, progress_of(offered, counted, end, 0, 0));
 }
 
 // "the limit reached, only once the sample after its last position is taken": till then 2560 count and the run goes on.
-pub fn counts() {
+pub fn counts(rt: HostRuntime) {
     let goes_on = End::None;
     let stopped = End::Stop;
     let limit = End::Limit;
-    try_counts(b"state, no end, 2560 counted of 2560", 2560, 2560, goes_on);
-    try_counts(b"state, no end, 2561 counted of 2561", 2561, 2561, goes_on);
-    try_counts(b"state, no end, 1 counted of 2", 2, 1, goes_on);
-    try_counts(b"state, a stop, 2559 counted of 2560", 2560, 2559, stopped);
-    try_counts(b"state, a stop, 2560 counted of 2561", 2561, 2560, stopped);
-    try_counts(b"state, a stop, 3 counted of 3", 3, 3, stopped);
-    try_counts(b"state, the limit, 2560 counted of 2561", 2561, 2560, limit);
-    try_counts(b"state, the limit, 2560 counted of 2560", 2560, 2560, limit);
-    try_counts(b"state, the limit, 2559 counted of 2561", 2561, 2559, limit);
+    try_counts(
+        rt,
+        b"state, no end, 2560 counted of 2560",
+        2560,
+        2560,
+        goes_on,
+    );
+    try_counts(
+        rt,
+        b"state, no end, 2561 counted of 2561",
+        2561,
+        2561,
+        goes_on,
+    );
+    try_counts(rt, b"state, no end, 1 counted of 2", 2, 1, goes_on);
+    try_counts(
+        rt,
+        b"state, a stop, 2559 counted of 2560",
+        2560,
+        2559,
+        stopped,
+    );
+    try_counts(
+        rt,
+        b"state, a stop, 2560 counted of 2561",
+        2561,
+        2560,
+        stopped,
+    );
+    try_counts(rt, b"state, a stop, 3 counted of 3", 3, 3, stopped);
+    try_counts(
+        rt,
+        b"state, the limit, 2560 counted of 2561",
+        2561,
+        2560,
+        limit,
+    );
+    try_counts(
+        rt,
+        b"state, the limit, 2560 counted of 2560",
+        2560,
+        2560,
+        limit,
+    );
+    try_counts(
+        rt,
+        b"state, the limit, 2559 counted of 2561",
+        2561,
+        2559,
+        limit,
+    );
 }

@@ -6,13 +6,14 @@ use intake::take_record;
 use rules::limits::{LEDGER_NUMBERS, MAP_WORDS, MOST_BYTES};
 use sheet::MOST_SHEET;
 
-fn main() {
+fn main(rt: HostRuntime) {
     let mut buffer = [0u8; 4864];
     let mut room = [0u8; MOST_BYTES];
     let mut ledger = [0i64; LEDGER_NUMBERS];
     let mut map = [0u64; MAP_WORDS];
     let mut lines = [0u8; MOST_SHEET];
     let x = take_record(
+        rt,
         18_446_744_073_709_551_615,
         &mut buffer[..],
         &mut room[..],
@@ -21,10 +22,10 @@ fn main() {
         &mut lines[..],
     );
     if x.failed {
-        tell(b"report: the input could not be read\n");
+        tell(rt, b"report: the input could not be read\n");
         return;
     }
-    if !print(&lines[..], x.printed) {
-        tell(b"report: the output was lost\n");
+    if !print(rt, &lines[..], x.printed) {
+        tell(rt, b"report: the output was lost\n");
     }
 }

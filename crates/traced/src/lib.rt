@@ -40,6 +40,7 @@ fn print_trace(walk: Walk, room: &[u8], ledger: &[i64], map: &[u64], lines: &mut
 
 // A record of at most so many bytes: its trace stands in the lines.
 fn trace_through(
+    rt: HostRuntime,
     most: u64,
     buffer: &mut [u8],
     room: &mut [u8],
@@ -51,7 +52,7 @@ fn trace_through(
     ensures { Recorded (laid_of empty_desk room.old ledger.old map.old) most lines.old
         result buffer.new room.new ledger.new map.new lines.new }
 {
-    let walk = pass_through(most, &mut *buffer, &mut *room, &mut *ledger, &mut *map);
+    let walk = pass_through(rt, most, &mut *buffer, &mut *room, &mut *ledger, &mut *map);
     let turn = walk.turn;
     let left = turn.left;
     let turned = turn.turned;
@@ -71,6 +72,7 @@ fn trace_through(
 
 // The same, of any buffer: one that is too short for a field is refused 1 before all else.
 pub fn trace_record(
+    rt: HostRuntime,
     most: u64,
     buffer: &mut [u8],
     room: &mut [u8],
@@ -94,6 +96,7 @@ pub fn trace_record(
         };
     }
     trace_through(
+        rt,
         most,
         &mut *buffer,
         &mut *room,

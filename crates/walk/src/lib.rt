@@ -60,6 +60,7 @@ fn begin(most: u64) -> Walk
 
 // One turn: the lines of the fields that it took stand at the front of the lines.
 fn walk_on(
+    rt: HostRuntime,
     walk: Walk,
     buffer: &mut [u8],
     room: &mut [u8],
@@ -79,6 +80,7 @@ fn walk_on(
     let turn = walk.turn;
     let desk = turn.desk;
     let t = read_once(
+        rt,
         desk,
         turn.used,
         turn.held,

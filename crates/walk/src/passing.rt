@@ -12,6 +12,7 @@ use listing::passing::pass_fields;
 
 // One turn.
 fn pass_on(
+    rt: HostRuntime,
     walk: Walk,
     buffer: &mut [u8],
     room: &mut [u8],
@@ -29,6 +30,7 @@ fn pass_on(
     let turn = walk.turn;
     let desk = turn.desk;
     let t = read_once(
+        rt,
         desk,
         turn.used,
         turn.held,
@@ -48,6 +50,7 @@ fn pass_on(
 
 // Turn after turn, to the last one of a record of at most so many bytes.
 pub fn pass_through(
+    rt: HostRuntime,
     most: u64,
     buffer: &mut [u8],
     room: &mut [u8],
@@ -61,7 +64,7 @@ pub fn pass_through(
     let mut walk = begin(most);
     let mut left = most;
     while left > 0 {
-        let on = pass_on(walk, &mut *buffer, &mut *room, &mut *ledger, &mut *map);
+        let on = pass_on(rt, walk, &mut *buffer, &mut *room, &mut *ledger, &mut *map);
         let turn = on.turn;
         let turned = turn.turned;
         walk = on;

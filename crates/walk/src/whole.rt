@@ -67,6 +67,7 @@ fn finish(walk: Walk, sent: u64, buffer: &[u8], lines: &mut [u8]) -> Listed
 
 // Turn after turn: the lines of a turn go out before the next one is made, those of the last one stand in the lines.
 fn list_through(
+    rt: HostRuntime,
     most: u64,
     buffer: &mut [u8],
     room: &mut [u8],
@@ -83,7 +84,7 @@ fn list_through(
     let mut sent: u64 = 0;
     while left > 0 {
         let n = walk.printed;
-        let went = send(&lines[..], n);
+        let went = send(rt, &lines[..], n);
         if went < n {
             return Listed {
                 sent,
@@ -95,6 +96,7 @@ fn list_through(
         }
         sent = more_sent(sent, went);
         walk = walk_on(
+            rt,
             walk,
             &mut *buffer,
             &mut *room,
@@ -141,6 +143,7 @@ fn short_line(lines: &mut [u8]) -> usize
 // The field list of a record of at most so many bytes goes out, but for what is then to go out of the lines. A buffer that is too short for a field, and lines
 // that are too short for a turn, are refused 1 before all else.
 pub fn list_record(
+    rt: HostRuntime,
     most: u64,
     buffer: &mut [u8],
     room: &mut [u8],
@@ -166,6 +169,7 @@ pub fn list_record(
         };
     }
     list_through(
+        rt,
         most,
         &mut *buffer,
         &mut *room,

@@ -2,6 +2,7 @@
 -- Assumes nothing.
 use mathlib.Core.Path.{refl, ap}
 use Rattle.desk.specs.Feeding.{FedSaid, Consumed}
+use Rattle.desk.specs.contracts
 use Rattle.desk.proofs.empty
 use Rattle.desk.proofs.feed_on
 use Rattle.desk.proofs.desk_refusal
@@ -14,23 +15,23 @@ use Rattle.demands.proofs.NoDoubt.{same}
 abbrev answer_of : Consumed → FedSaid
 answer_of y = record { outcome = y.outcome; used = y.used; desk = y.laid.desk }
 
-pub empty_one_answer : OneAnswer empty.ended empty.Reads.Learnt
+pub empty_one_answer : OneAnswer contracts.empty.ended empty.Reads.Learnt
 empty_one_answer κs a r r' w w' p q = (same p q, refl)
 
-pub empty_asks_nothing : AsksNothing empty.ended empty.Reads.Asked
+pub empty_asks_nothing : AsksNothing contracts.empty.ended empty.Reads.Asked
 empty_asks_nothing κs a = tt
 
-pub feed_on_one_answer : OneAnswer feed_on.ended feed_on.Reads.Learnt
+pub feed_on_one_answer : OneAnswer contracts.feed_on.ended feed_on.Reads.Learnt
 feed_on_one_answer κs a r r' w w' p q = (same_fed r r' (ap answer_of (same p q)), λ i. (tt, (tt, ((same p q i).laid.room, ((same p q i).laid.memory.ledger, ((same p q i).laid.memory.map, tt))))))
 
-pub desk_refusal_one_answer : OneAnswer desk_refusal.ended desk_refusal.Reads.Learnt
+pub desk_refusal_one_answer : OneAnswer contracts.desk_refusal.ended desk_refusal.Reads.Learnt
 desk_refusal_one_answer κs a r r' w w' p q = (same p q, refl)
 
-pub desk_refusal_asks_nothing : AsksNothing desk_refusal.ended desk_refusal.Reads.Asked
+pub desk_refusal_asks_nothing : AsksNothing contracts.desk_refusal.ended desk_refusal.Reads.Asked
 desk_refusal_asks_nothing κs a = tt
 
-pub feed_one_answer : OneAnswer feed.ended feed.Reads.Learnt
+pub feed_one_answer : OneAnswer contracts.feed.ended feed.Reads.Learnt
 feed_one_answer κs a r r' w w' p q = (same_fed r r' (ap answer_of (same p q)), λ i. (tt, (tt, ((same p q i).laid.room, ((same p q i).laid.memory.ledger, ((same p q i).laid.memory.map, tt))))))
 
-pub feed_asks_nothing : AsksNothing feed.ended feed.Reads.Asked
+pub feed_asks_nothing : AsksNothing contracts.feed.ended feed.Reads.Asked
 feed_asks_nothing κs a = tt

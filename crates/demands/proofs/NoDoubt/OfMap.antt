@@ -1,6 +1,7 @@
 -- No doubt about `map`: each contract has one answer, and those of the operations ask nothing.
 -- Assumes nothing.
 use mathlib.Core.Path.{refl}
+use Rattle.map.specs.contracts
 use Rattle.map.proofs.is_set
 use Rattle.map.proofs.mark_if
 use Rattle.map.proofs.clear_map
@@ -9,20 +10,20 @@ use Rattle.map.proofs.count_marks
 use Rattle.demands.specs.Calls.{AsksNothing, OneAnswer}
 use Rattle.demands.proofs.NoDoubt.{same}
 
-pub is_set_one_answer : OneAnswer is_set.ended is_set.Reads.Learnt
+pub is_set_one_answer : OneAnswer contracts.is_set.ended is_set.Reads.Learnt
 is_set_one_answer κs a r r' w w' p q = (same p q, refl)
 
-pub is_set_asks_nothing : AsksNothing is_set.ended is_set.Reads.Asked
+pub is_set_asks_nothing : AsksNothing contracts.is_set.ended is_set.Reads.Asked
 is_set_asks_nothing κs a = tt
 
-pub mark_if_one_answer : OneAnswer mark_if.ended mark_if.Reads.Learnt
+pub mark_if_one_answer : OneAnswer contracts.mark_if.ended mark_if.Reads.Learnt
 mark_if_one_answer κs a r r' w w' p q = (refl, λ i. (same p q i, (tt, (tt, tt))))
 
-pub clear_map_one_answer : OneAnswer clear_map.ended clear_map.Reads.Learnt
+pub clear_map_one_answer : OneAnswer contracts.clear_map.ended clear_map.Reads.Learnt
 clear_map_one_answer κs a r r' w w' p q = (refl, λ i. (same p q i, tt))
 
-pub open_map_one_answer : OneAnswer open_map.ended open_map.Reads.Learnt
+pub open_map_one_answer : OneAnswer contracts.open_map.ended open_map.Reads.Learnt
 open_map_one_answer κs a r r' w w' p q = (refl, λ i. (same p q i, (tt, tt)))
 
-pub count_marks_one_answer : OneAnswer count_marks.ended count_marks.Reads.Learnt
+pub count_marks_one_answer : OneAnswer contracts.count_marks.ended count_marks.Reads.Learnt
 count_marks_one_answer κs a r r' w w' p q = (same p.0 q.0, refl)

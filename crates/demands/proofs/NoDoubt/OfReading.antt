@@ -1,6 +1,7 @@
 -- No doubt about `reading`: each contract has one answer, and those of the operations ask nothing.
 -- Assumes nothing.
 use mathlib.Core.Path.{refl, ap}
+use Rattle.reading.specs.contracts
 use Rattle.reading.proofs.read_refusal
 use Rattle.reading.proofs.with_along
 use Rattle.reading.proofs.along_at
@@ -13,23 +14,23 @@ use Rattle.reading.proofs.Answered.{same_stepped, same_passage}
 use Rattle.demands.specs.Calls.{AsksNothing, OneAnswer}
 use Rattle.demands.proofs.NoDoubt.{same}
 
-pub read_refusal_one_answer : OneAnswer read_refusal.ended read_refusal.Reads.Learnt
+pub read_refusal_one_answer : OneAnswer contracts.read_refusal.ended read_refusal.Reads.Learnt
 read_refusal_one_answer κs a r r' w w' p q = (same p q, refl)
 
-pub read_refusal_asks_nothing : AsksNothing read_refusal.ended read_refusal.Reads.Asked
+pub read_refusal_asks_nothing : AsksNothing contracts.read_refusal.ended read_refusal.Reads.Asked
 read_refusal_asks_nothing κs a = tt
 
-pub with_along_one_answer : OneAnswer with_along.ended with_along.Reads.Learnt
+pub with_along_one_answer : OneAnswer contracts.with_along.ended with_along.Reads.Learnt
 with_along_one_answer κs a r r' w w' p q = (same p q, refl)
 
-pub with_along_asks_nothing : AsksNothing with_along.ended with_along.Reads.Asked
+pub with_along_asks_nothing : AsksNothing contracts.with_along.ended with_along.Reads.Asked
 with_along_asks_nothing κs a = tt
 
-pub along_at_one_answer : OneAnswer along_at.ended along_at.Reads.Learnt
+pub along_at_one_answer : OneAnswer contracts.along_at.ended along_at.Reads.Learnt
 along_at_one_answer κs a r r' w w' p q = (same p q, refl)
 
-pub one_field_one_answer : OneAnswer one_field.ended one_field.Reads.Learnt
+pub one_field_one_answer : OneAnswer contracts.one_field.ended one_field.Reads.Learnt
 one_field_one_answer κs a r r' w w' p q = (same_stepped r r' (ap (λ (y : Left (ReadSaid Along)). y.answer) (same p q)), λ i. (tt, (tt, (tt, (tt, ((same p q i).memory.ledger, ((same p q i).memory.map, (tt, tt))))))))
 
-pub all_fields_one_answer : OneAnswer all_fields.ended all_fields.Reads.Learnt
+pub all_fields_one_answer : OneAnswer contracts.all_fields.ended all_fields.Reads.Learnt
 all_fields_one_answer κs a r r' w w' p q = (same_passage r r' (ap (λ (y : Left (AllSaid Along)). y.answer) (same p q)), λ i. (tt, (tt, (tt, (tt, ((same p q i).memory.ledger, ((same p q i).memory.map, (tt, tt))))))))

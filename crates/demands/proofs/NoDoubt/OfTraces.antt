@@ -1,5 +1,6 @@
 -- No doubt about `traces`: each contract has one answer, and those of the operations ask nothing.
 -- Assumes nothing.
+use Rattle.traces.specs.contracts
 use Rattle.traces.proofs.opening.method_line
 use Rattle.traces.proofs.opening.fields_line
 use Rattle.traces.proofs.opening.stop_at_cycle
@@ -14,35 +15,35 @@ use Rattle.traces.proofs.closing.charge_line
 use Rattle.demands.specs.Calls.{OneAnswer}
 use Rattle.demands.proofs.NoDoubt.{same}
 
-pub method_line_one_answer : OneAnswer method_line.ended method_line.Reads.Learnt
+pub method_line_one_answer : OneAnswer contracts.opening.method_line.ended method_line.Reads.Learnt
 method_line_one_answer κs a r r' w w' p q = (same p.place q.place, λ i. (same p.bytes q.bytes i, (tt, (tt, tt))))
 
-pub fields_line_one_answer : OneAnswer fields_line.ended fields_line.Reads.Learnt
+pub fields_line_one_answer : OneAnswer contracts.opening.fields_line.ended fields_line.Reads.Learnt
 fields_line_one_answer κs a r r' w w' p q = (same p.place q.place, λ i. (same p.bytes q.bytes i, (tt, (tt, (tt, (tt, tt))))))
 
-pub stop_at_cycle_one_answer : OneAnswer stop_at_cycle.ended stop_at_cycle.Reads.Learnt
+pub stop_at_cycle_one_answer : OneAnswer contracts.opening.stop_at_cycle.ended stop_at_cycle.Reads.Learnt
 stop_at_cycle_one_answer κs a r r' w w' p q = (same p.place q.place, λ i. (same p.bytes q.bytes i, (tt, (tt, (tt, tt)))))
 
-pub stop_in_e_one_answer : OneAnswer stop_in_e.ended stop_in_e.Reads.Learnt
+pub stop_in_e_one_answer : OneAnswer contracts.opening.stop_in_e.ended stop_in_e.Reads.Learnt
 stop_in_e_one_answer κs a r r' w w' p q = (same p.place q.place, λ i. (same p.bytes q.bytes i, (tt, tt)))
 
-pub plan_lines_one_answer : OneAnswer plan_lines.ended plan_lines.Reads.Learnt
+pub plan_lines_one_answer : OneAnswer contracts.opening.plan_lines.ended plan_lines.Reads.Learnt
 plan_lines_one_answer κs a r r' w w' p q = (same p.place q.place, λ i. (same p.bytes q.bytes i, (tt, (tt, (tt, (tt, (tt, tt)))))))
 
-pub phase_line_one_answer : OneAnswer phase_line.ended phase_line.Reads.Learnt
+pub phase_line_one_answer : OneAnswer contracts.parts.phase_line.ended phase_line.Reads.Learnt
 phase_line_one_answer κs a r r' w w' p q = (same p.place q.place, λ i. (same p.bytes q.bytes i, (tt, (tt, (tt, (tt, tt))))))
 
-pub row_line_one_answer : OneAnswer row_line.ended row_line.Reads.Learnt
+pub row_line_one_answer : OneAnswer contracts.parts.row_line.ended row_line.Reads.Learnt
 row_line_one_answer κs a r r' w w' p q = (same p.place q.place, λ i. (same p.bytes q.bytes i, (tt, (tt, (tt, (tt, tt))))))
 
-pub stretch_line_one_answer : OneAnswer stretch_line.ended stretch_line.Reads.Learnt
+pub stretch_line_one_answer : OneAnswer contracts.parts.stretch_line.ended stretch_line.Reads.Learnt
 stretch_line_one_answer κs a r r' w w' p q = (same p.place q.place, λ i. (same p.bytes q.bytes i, (tt, (tt, (tt, tt)))))
 
-pub sum_lines_one_answer : OneAnswer sum_lines.ended sum_lines.Reads.Learnt
+pub sum_lines_one_answer : OneAnswer contracts.closing.sum_lines.ended sum_lines.Reads.Learnt
 sum_lines_one_answer κs a r r' w w' p q = (same p.place q.place, λ i. (same p.bytes q.bytes i, (tt, (tt, (tt, (tt, (tt, (tt, tt))))))))
 
-pub weight_line_one_answer : OneAnswer weight_line.ended weight_line.Reads.Learnt
+pub weight_line_one_answer : OneAnswer contracts.closing.weight_line.ended weight_line.Reads.Learnt
 weight_line_one_answer κs a r r' w w' p q = (same p.place q.place, λ i. (same p.bytes q.bytes i, (tt, (tt, (tt, (tt, tt))))))
 
-pub charge_line_one_answer : OneAnswer charge_line.ended charge_line.Reads.Learnt
+pub charge_line_one_answer : OneAnswer contracts.closing.charge_line.ended charge_line.Reads.Learnt
 charge_line_one_answer κs a r r' w w' p q = (same p.place q.place, λ i. (same p.bytes q.bytes i, (tt, (tt, tt))))

@@ -1,6 +1,7 @@
 -- No doubt about `values`: each contract has one answer, and those of the operations ask nothing.
 -- Assumes nothing.
 use mathlib.Core.Path.{refl}
+use Rattle.values.specs.contracts
 use Rattle.values.proofs.is_tolerable
 use Rattle.values.proofs.is_moment
 use Rattle.values.proofs.is_transfer_in
@@ -14,62 +15,62 @@ use Rattle.values.proofs.is_method
 use Rattle.demands.specs.Calls.{AsksNothing, OneAnswer}
 use Rattle.demands.proofs.NoDoubt.{same}
 
-pub is_tolerable_one_answer : OneAnswer is_tolerable.ended is_tolerable.Reads.Learnt
+pub is_tolerable_one_answer : OneAnswer contracts.is_tolerable.ended is_tolerable.Reads.Learnt
 is_tolerable_one_answer κs a r r' w w' p q = (same p q, refl)
 
-pub is_tolerable_asks_nothing : AsksNothing is_tolerable.ended is_tolerable.Reads.Asked
+pub is_tolerable_asks_nothing : AsksNothing contracts.is_tolerable.ended is_tolerable.Reads.Asked
 is_tolerable_asks_nothing κs a = tt
 
-pub is_moment_one_answer : OneAnswer is_moment.ended is_moment.Reads.Learnt
+pub is_moment_one_answer : OneAnswer contracts.is_moment.ended is_moment.Reads.Learnt
 is_moment_one_answer κs a r r' w w' p q = (same p q, refl)
 
-pub is_moment_asks_nothing : AsksNothing is_moment.ended is_moment.Reads.Asked
+pub is_moment_asks_nothing : AsksNothing contracts.is_moment.ended is_moment.Reads.Asked
 is_moment_asks_nothing κs a = tt
 
-pub is_transfer_in_one_answer : OneAnswer is_transfer_in.ended is_transfer_in.Reads.Learnt
+pub is_transfer_in_one_answer : OneAnswer contracts.is_transfer_in.ended is_transfer_in.Reads.Learnt
 is_transfer_in_one_answer κs a r r' w w' p q = (same p q, refl)
 
-pub is_transfer_in_asks_nothing : AsksNothing is_transfer_in.ended is_transfer_in.Reads.Asked
+pub is_transfer_in_asks_nothing : AsksNothing contracts.is_transfer_in.ended is_transfer_in.Reads.Asked
 is_transfer_in_asks_nothing κs a = tt
 
-pub is_charge_one_answer : OneAnswer is_charge.ended is_charge.Reads.Learnt
+pub is_charge_one_answer : OneAnswer contracts.is_charge.ended is_charge.Reads.Learnt
 is_charge_one_answer κs a r r' w w' p q = (same p q, refl)
 
-pub is_charge_asks_nothing : AsksNothing is_charge.ended is_charge.Reads.Asked
+pub is_charge_asks_nothing : AsksNothing contracts.is_charge.ended is_charge.Reads.Asked
 is_charge_asks_nothing κs a = tt
 
-pub are_amounts_one_answer : OneAnswer are_amounts.ended are_amounts.Reads.Learnt
+pub are_amounts_one_answer : OneAnswer contracts.are_amounts.ended are_amounts.Reads.Learnt
 are_amounts_one_answer κs a r r' w w' p q = (same p q, refl)
 
-pub are_amounts_asks_nothing : AsksNothing are_amounts.ended are_amounts.Reads.Asked
+pub are_amounts_asks_nothing : AsksNothing contracts.are_amounts.ended are_amounts.Reads.Asked
 are_amounts_asks_nothing κs a = tt
 
-pub is_between_one_answer : OneAnswer is_between.ended is_between.Reads.Learnt
+pub is_between_one_answer : OneAnswer contracts.is_between.ended is_between.Reads.Learnt
 is_between_one_answer κs a r r' w w' p q = (same p q, refl)
 
-pub is_between_asks_nothing : AsksNothing is_between.ended is_between.Reads.Asked
+pub is_between_asks_nothing : AsksNothing contracts.is_between.ended is_between.Reads.Asked
 is_between_asks_nothing κs a = tt
 
-pub is_sample_one_answer : OneAnswer is_sample.ended is_sample.Reads.Learnt
+pub is_sample_one_answer : OneAnswer contracts.is_sample.ended is_sample.Reads.Learnt
 is_sample_one_answer κs a r r' w w' p q = (same p q, refl)
 
-pub is_sample_asks_nothing : AsksNothing is_sample.ended is_sample.Reads.Asked
+pub is_sample_asks_nothing : AsksNothing contracts.is_sample.ended is_sample.Reads.Asked
 is_sample_asks_nothing κs a = tt
 
-pub moment_of_one_answer : OneAnswer moment_of.ended moment_of.Reads.Learnt
+pub moment_of_one_answer : OneAnswer contracts.moment_of.ended moment_of.Reads.Learnt
 moment_of_one_answer κs a r r' w w' p q = (same p q, refl)
 
-pub moment_of_asks_nothing : AsksNothing moment_of.ended moment_of.Reads.Asked
+pub moment_of_asks_nothing : AsksNothing contracts.moment_of.ended moment_of.Reads.Asked
 moment_of_asks_nothing κs a = tt
 
-pub are_stretches_one_answer : OneAnswer are_stretches.ended are_stretches.Reads.Learnt
+pub are_stretches_one_answer : OneAnswer contracts.are_stretches.ended are_stretches.Reads.Learnt
 are_stretches_one_answer κs a r r' w w' p q = (same p q, refl)
 
-pub are_stretches_asks_nothing : AsksNothing are_stretches.ended are_stretches.Reads.Asked
+pub are_stretches_asks_nothing : AsksNothing contracts.are_stretches.ended are_stretches.Reads.Asked
 are_stretches_asks_nothing κs a = tt
 
-pub is_method_one_answer : OneAnswer is_method.ended is_method.Reads.Learnt
+pub is_method_one_answer : OneAnswer contracts.is_method.ended is_method.Reads.Learnt
 is_method_one_answer κs a r r' w w' p q = (same p q, refl)
 
-pub is_method_asks_nothing : AsksNothing is_method.ended is_method.Reads.Asked
+pub is_method_asks_nothing : AsksNothing contracts.is_method.ended is_method.Reads.Asked
 is_method_asks_nothing κs a = tt

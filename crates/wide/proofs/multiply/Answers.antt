@@ -1,6 +1,5 @@
 -- `wide::multiply` meets its contract. The invariant: what is summed and what is still to add make the whole. Assumes nothing.
 use mathlib.Core.Path.{ap}
-use mathlib.Core.Logic.{⊎_elim}
 use Prim.Native.Nat.{ℕ, ◌+◌, ◌*◌}
 use native.Mathlib.Omega.{arith}
 use native.Mathlib.Nat.{div-add-mod', mod-lt, le-mul_of_pos_right}
@@ -8,6 +7,7 @@ use Rattle.wide.specs.Ratio.{value}
 use Rattle.wide.proofs.Answers.{large_quotient, exact}
 use Rattle.wide.proofs.Halves.{odd, even, done}
 use Rattle.wide.proofs.multiply.Goals as goal
+use Rattle.wide.proofs.multiply.Goals.{then-left-eq1, else-left-eq1}
 
 pub loop-left-init : goal.loop-left-init
 loop-left-init c =
@@ -35,8 +35,7 @@ loop-left-smaller c = omega arith
 
 pub returns-then-acc-lt-TOP : goal.returns-then-acc-lt-TOP
 returns-then-acc-lt-TOP c =
-    let k = c in
-    exact _ _ _ _ (done _ _ _ _ k.loop-left.invariant.2 k.loop-left-test.false) (omega arith) (omega arith) (omega arith)
+    exact _ _ _ _ (done _ _ _ _ c.loop-left.invariant.2 c.loop-left-test.false) (omega arith) (omega arith) (omega arith)
 
 pub returns-else-acc-lt-TOP : goal.returns-else-acc-lt-TOP
 returns-else-acc-lt-TOP c = large_quotient _ _ (omega arith) (omega arith) _ c.if-acc-lt-TOP.false (omega arith)
@@ -44,7 +43,9 @@ returns-else-acc-lt-TOP c = large_quotient _ _ (omega arith) (omega arith) _ c.i
 pub loop-left-preserved : goal.loop-left-preserved
 loop-left-preserved c =
     let inv = c.loop-left.invariant in
-    ⊎_elim
-    (λ w. (rw w.2 w.1.ensures.0, c.add-step.ensures.0, odd _ _ _ _ _ _ inv.2 c.add-step.ensures.1 w.0.taken (rw w.2 w.1.ensures.1)))
-    (λ w. (rw w.1 inv.0, c.add-step.ensures.0, even _ _ _ _ _ _ inv.2 c.add-step.ensures.1 w.0.left (rw w.1)))
-    c.if-left-eq1.branch
+    elim c.if-left-eq1.branch [
+      | then-left-eq1 w ↦
+          (rw w.acc-is w.add-acc.ensures.0, c.add-step.ensures.0, odd _ _ _ _ _ _ inv.2 c.add-step.ensures.1 w.if-left-eq1.true (rw w.acc-is w.add-acc.ensures.1))
+      | else-left-eq1 w ↦
+          (rw w.acc-is inv.0, c.add-step.ensures.0, even _ _ _ _ _ _ inv.2 c.add-step.ensures.1 w.if-left-eq1.false (rw w.acc-is))
+    ]

@@ -1,5 +1,4 @@
 -- `wide::whole` meets its contract. Assumes nothing.
-use borrow.Author.Rules.{rules}
 use native.Mathlib.Omega.{arith}
 use native.Mathlib.Nat.{div-add-mod', mod-lt, div-mul-le_self}
 use Rattle.wide.proofs.Answers.{no_divisor, large_divisor, large_quotient, exact}

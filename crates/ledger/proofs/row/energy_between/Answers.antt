@@ -5,7 +5,7 @@ use Rattle.laws.proofs.Bounds.{within}
 use Rattle.ledger.proofs.row.energy_between.Goals as goal
 
 pub overflow_add-result : goal.overflow_add-result
-overflow_add-result c = let s = c in sum_fits w64 tt (within s.args.x s.requires.0).energy (within s.args.y s.requires.1).energy
+overflow_add-result c = sum_fits w64 tt (within c.args.x c.requires.0).energy (within c.args.y c.requires.1).energy
 
 pub returns : goal.returns
-returns c = let s = c in sum_read w64 tt (within s.args.x s.requires.0).energy (within s.args.y s.requires.1).energy
+returns c = sum_read w64 tt (within c.args.x c.requires.0).energy (within c.args.y c.requires.1).energy

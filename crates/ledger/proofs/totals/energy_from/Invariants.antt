@@ -1,10 +1,10 @@
 -- `ledger::totals::energy_from` meets its contract. The loop's invariant: the sum is that of the cycles passed, from a on.
 use mathlib.Core.List.{List}
-use Prim.Native.Nat.{ℕ, ◌+◌, ◌-◌}
+use mathlib.Core.Path.{◌≡◌}
+use Prim.Native.Nat.{ℕ, ◌+◌, ◌-◌, ◌≤◌}
 use lib.IntN.{ℤ}
-use mir.Syntax.{w64}
 use Rattle.rules.specs.Bench.{most_cycles}
-use Rattle.numbers.proofs.Sums.{Summed}
+use Rattle.rules.specs.Words.{sumℤ}
 use Rattle.ledger.specs.Row.{energy_in}
 use Rattle.ledger.proofs.totals.energy_from.Given as goal
 
@@ -13,7 +13,7 @@ abbrev pub from : List ℤ → ℕ → ℕ → ℤ
 from l a k = energy_in l (a + k)
 
 abbrev pub invariant-loop-k : goal.invariant-loop-k
-invariant-loop-k l = Summed w64 (most_cycles - l.a) (from l.ledger l.a) l.sum l.k
+invariant-loop-k l = (l.k ≤ most_cycles - l.a) × (l.sum ≡ sumℤ (from l.ledger l.a) l.k)
 
 abbrev pub decreases-loop-k : goal.decreases-loop-k
 decreases-loop-k l = l.rest - l.k

@@ -1,9 +1,9 @@
 -- `ledger::totals::sum_by` meets its contract. The loop's invariant: the sum is that of the numbers passed.
 use mathlib.Core.List.{List}
-use Prim.Native.Nat.{ℕ, ◌+◌, ◌-◌, ◌*◌}
+use mathlib.Core.Path.{◌≡◌}
+use Prim.Native.Nat.{ℕ, ◌+◌, ◌-◌, ◌*◌, ◌≤◌}
 use lib.IntN.{ℤ}
-use mir.Syntax.{w64}
-use Rattle.numbers.proofs.Sums.{Summed}
+use Rattle.rules.specs.Words.{sumℤ}
 use Rattle.ledger.specs.Row.{at}
 use Rattle.ledger.proofs.totals.sum_by.Given as goal
 
@@ -12,7 +12,7 @@ abbrev pub from : List ℤ → ℕ → ℕ → ℕ → ℤ
 from l a d k = at l (a + d * k)
 
 abbrev pub invariant-loop-k : goal.invariant-loop-k
-invariant-loop-k l = Summed w64 l.n (from l.ledger l.a l.d) l.sum l.k
+invariant-loop-k l = (l.k ≤ l.n) × (l.sum ≡ sumℤ (from l.ledger l.a l.d) l.k)
 
 abbrev pub decreases-loop-k : goal.decreases-loop-k
 decreases-loop-k l = l.n - l.k

