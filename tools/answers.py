@@ -151,6 +151,11 @@ class Function:
             a, n = self.parents.get(a), n + 1
         return n if a else 0
 
+    def back(self, a, b):
+        """How many steps lead from what is seen at a to the place b."""
+        k = self.depth(a, b)
+        return k + 1 if k and not a.startswith("In-") else k
+
     def step(self, text):
         """The names of steps and clauses."""
         for old, new in self.arms:
@@ -172,6 +177,11 @@ class Function:
         if len(own) > 1:
             text = re.sub(r"\.requires\.(\d)", lambda m: ".requires." + own[int(m[1])] if int(m[1]) < len(own) else m[0], text)
         for field_, callee in self.callees.items():
+            params = self.made["params"].get(callee, [])
+            def moved(m):
+                n = m[3].count("1")
+                return f".{field_}.{m[2]}." + params[n] if n < len(params) else m[0]
+            text = re.sub(rf"(\.{re.escape(field_)})\.(new|auto)\.((?:1\.)*0)(?![\w.])", moved, text)
             for kind in ("ensures",):
                 names = self.known.get(callee, {kind: []})[kind]
                 if len(names) > 1:
@@ -181,15 +191,14 @@ class Function:
     def flat(self, text):
         return re.sub(r"(?:\.before)+(?![\w-])", "", text)
 
-    def helped(self, text, goal, place):
+    def helped(self, text, goal, place, me="c"):
         """Calls of helpers that take a place."""
         for name, (p, keeps) in self.helpers.items():
             def call(m):
                 if goal:
                     return f"{name} (goal.at.{goal} c).{p}"
-                k = self.depth(place, p)
-                return f"{name} c" + ".before" * k
-            text = re.sub(rf"(?<![\w.'-]){re.escape(name)} ({ATOM})", call, text)
+                return f"{name} {me}" + ".before" * self.back(place, p)
+            text = re.sub(rf"(?<![\w.'-]){re.escape(name)} (?!=)({ATOM})", call, text)
         return text
 
 
@@ -256,7 +265,7 @@ def convert(crate, folder, made, known):
         if m and m[1] not in accessors and not m[2].startswith(("Need-", "invariant", "decreases")):
             f.helpers[m[1]] = (f.places.get(norm(m[2]), m[2]), True)
     invariant_text = "\n".join("\n".join(lines) for kind, lines in parsed if kind == "decl" and re.match(r"abbrev (?:invariant|decreases)-", lines[0]))
-    shared = []
+    shared, where = [], None
     pending = []
     for kind, lines in parsed:
         if kind == "comment":
@@ -321,6 +330,11 @@ def convert(crate, folder, made, known):
             g = goal or "TODO-" + need[1]
             if g.startswith("returns"):
                 term = named(term, known.get(f.fn(), {"ensures": []})["ensures"])
+            asked = re.match(r"(\w+)(?:-[\w-]+)?-requires(?:-\d+)?$", g)
+            if asked:
+                for callee in f.made["params"]:
+                    if callee.split("::")[-1] == asked[1]:
+                        term = named(term, known.get(callee, {"requires": []})["requires"])
             answers += [*pending, f"pub {g} : goal.{g}\n{unfolding}{g} {' '.join(params)} ={space}{term}", ""]
             pending = []
             continue
@@ -339,15 +353,22 @@ def convert(crate, folder, made, known):
         body = f.helped_not_self(body, name, mine) if hasattr(f, "helped_not_self") else body
         body = re.sub(r"tie\.([A-Z][\w-]*)", lambda m: f.place(m[1]), body)
         if lines[0].startswith(("module", "  ")):
-            pass
+            mod = re.match(r"module _ \((\w+) : ([^()]+)\) where", body)
+            where = mod[2] if mod else where
+            def walk(m):
+                k = f.back(where, m[3]) if where else 0
+                return f"{m[1]} : {m[3]}\n  {m[1]} = c" + ".before" * k if k else m[0]
+            body = re.sub(rf"({NAME}) : (([\w-]+))\n  \1 = c(?:\.before)+$", walk, body, flags=re.M)
         elif mine:
             saved = dict(f.helpers)
             f.helpers.pop(name)
-            sigline, _, rest = body.partition("\n")
-            body = f.helped(sigline, None, mine) + "\n" + f.helped(rest, None, mine)
+            me = re.match(rf"(?:abbrev )?(?:pub )?{re.escape(name)} : \((\w+) :", lines[0])
+            me = me or re.search(rf"^{re.escape(name)} (\w+)", "\n".join(lines[1:]), re.M)
+            me = me[1] if me else "c"
+            body = f.helped(body, None, mine, me)
             f.helpers = saved
             # c.before.x is c.x, but a bare place keeps its way
-            body = re.sub(r"(\bc(?:\.before)+)(?=\.)(?!\.before)", "c", body)
+            body = re.sub(rf"(\b{me}(?:\.before)+)(?=\.)(?!\.before)", me, body)
         answers += [*pending, body, ""]
         pending = []
     body = "\n".join(answers)

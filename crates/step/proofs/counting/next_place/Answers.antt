@@ -1,9 +1,7 @@
 -- `step::counting::next_place` meets its contract: the next sample stands at the next position of the cycle, or is looked for.
--- Assumes nothing.
 use mathlib.Core.Path.{◌≡◌, sym, ap, ◌∙◌}
 use Prim.Native.Nat.{◌<◌}
 use native.Mathlib.Omega.{arith}
-use borrow.Author.Rules.{rules}
 use Rattle.rules.specs.Cycle.{phase_at}
 use Rattle.rules.specs.Regular.{cycle_of, position_of}
 use Rattle.rules.specs.Shortened.{row_of}
@@ -12,11 +10,11 @@ use Rattle.laws.specs.Beside.{stand_of, place_of}
 use Rattle.laws.proofs.Sound.{Sound, sound}
 use Rattle.step.proofs.Standing.{place_phase, Riding, position_is, row_is, phase_is, position_most, rides}
 use Rattle.step.proofs.Placing.{next_within}
-use Rattle.step.proofs.counting.next_place.Statement.{statement}
-use Rattle.step.proofs.counting.next_place.Tie as tie
+use Rattle.step.proofs.counting.next_place.Goals as goal
+use Rattle.step.proofs.counting.next_place.Goals.{Start}
 
 -- the sound cycle, and where the run stands, at the entry
-module _ (c : tie.Start) where
+module _ (c : Start) where
   good : Sound c.args.cycle.now
   good = sound _ c.requires.0.sound
 
@@ -42,48 +40,25 @@ module _ (c : tie.Start) where
   small_position : c.args.g.position < most_positions
   small_position = position_most c.args.cycle.now good c.args.w c.args.y c.args.g c.requires.0.stands
 
-add-if1 : tie.Need-overflow-add-if1
-add-if1 c = omega (arith, small_position c.before)
+pub overflow_add-position : goal.overflow_add-position
+overflow_add-position c = omega (arith, small_position (goal.at.overflow_add-position c).Start)
 
-seconds-of-requires : tie.Need-seconds-of-requires
-seconds-of-requires c κs = let s = good c.before in omega arith
+pub seconds_of-requires : goal.seconds_of-requires
+seconds_of-requires c = let s = good (goal.at.seconds_of-requires c).Start in omega arith
 
-mul-if1 : tie.Need-overflow-mul-if1
-mul-if1 c = let s = good c.before.before in omega arith
+pub overflow_mul-seconds_of : goal.overflow_mul-seconds_of
+overflow_mul-seconds_of c = let s = good (goal.at.overflow_mul-seconds_of c).Start in omega arith
 
-add-t10 : tie.Need-overflow-add-t10
-add-t10 c = omega (arith, small_position c.before.before.before)
+pub overflow_add-result : goal.overflow_add-result
+overflow_add-result c = omega (arith, small_position (goal.at.overflow_add-result c).Start)
 
-next-phase-requires : tie.Need-next-phase-requires
-next-phase-requires c κs =
-    let start = c.before.before.before in
-    (start.requires.0.sound, omega arith, at_phase start)
+pub next_phase-requires : goal.next_phase-requires
+next_phase-requires c =
+    let start = c in
+    (start.requires.0.sound, omega arith, at_phase (goal.at.next_phase-requires c).Start)
 
-returns : tie.Need-returns
-returns c =
-    let start = c.before.before.before.before in
-    next_within start.args.cycle.now (good start) start.args.y start.args.g.progress.counted (riding start)
-    (omega (arith, at_position start)) _ _ _ (at_row start) (at_position start) c.next-phase.ensures
-
-add-place-at : tie.Need-overflow-add-place-at
-add-place-at c = search rules
-
-place-at-requires : tie.Need-place-at-requires
-place-at-requires c κs = search rules
-
-returns_2 : tie.Need-returns-2
-returns_2 c = search rules
-
-pub next-place-spec : {M : Type 1} → statement M
-next-place-spec =
-    tie.close
-    (tie.spec
-    add-if1
-    seconds-of-requires
-    mul-if1
-    add-t10
-    next-phase-requires
-    returns
-    add-place-at
-    place-at-requires
-    returns_2)
+pub returns-then-position-seconds_of : goal.returns-then-position-seconds_of
+returns-then-position-seconds_of c =
+    let start = c in
+    next_within start.args.cycle.now (good (goal.at.returns-then-position-seconds_of c).Start) start.args.y start.args.g.progress.counted (riding (goal.at.returns-then-position-seconds_of c).Start)
+    (omega (arith, at_position (goal.at.returns-then-position-seconds_of c).Start)) _ _ _ (at_row (goal.at.returns-then-position-seconds_of c).Start) (at_position (goal.at.returns-then-position-seconds_of c).Start) c.next_phase.ensures
