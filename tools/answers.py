@@ -264,6 +264,16 @@ def convert(crate, folder, made, known):
         m = re.match(rf"(?:abbrev )?(?:pub )?({NAME}) : (?:\(\w+ : )?tie\.([\w-]+)", lines[0])
         if m and m[1] not in accessors and not m[2].startswith(("Need-", "invariant", "decreases")):
             f.helpers[m[1]] = (f.places.get(norm(m[2]), m[2]), True)
+    # a helper that looks at the arguments alone is over the start
+    for kind, lines in parsed:
+        m = kind == "decl" and re.match(rf"(?:abbrev )?(?:pub )?({NAME}) : (\((\w+) : )?tie\.([\w-]+)", lines[0])
+        if not m or m[1] not in f.helpers or m[1] in f.within or f.helpers[m[1]][0] == "Start":
+            continue
+        seen = f.flat(plain("\n".join(lines)))
+        me = m[3] or (re.search(rf"^{re.escape(m[1])} (\w+)", "\n".join(lines[1:]), re.M) or [None, "c"])[1]
+        if set(re.findall(rf"(?<![\w.'-]){me}\.([\w-]+)", seen)) <= {"args", "requires", "pre"} and not re.search(rf"(?<![\w.'-]){me}(?![\w.'-])", re.sub(rf"\({me} :|^{re.escape(m[1])} {me}|^λ {me}", "", "\n".join(seen.split("\n")), flags=re.M)):
+            f.helpers[m[1]] = ("Start", True)
+            lines[0] = lines[0].replace("tie." + m[4], "tie.Start", 1)
     invariant_text = "\n".join("\n".join(lines) for kind, lines in parsed if kind == "decl" and re.match(r"abbrev (?:invariant|decreases)-", lines[0]))
     shared, where = [], None
     pending = []
