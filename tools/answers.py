@@ -124,8 +124,15 @@ class Function:
         self.callees = {p[2][1]: p[3] for p in made["places"] if p[3]}
         self.loops = {a: (b, vars) for (a, b), vars in made["loops"]}
         self.changed = dict(zip((a for (a, b), vars in made["loops"]), made["changed"]))
+        # a handle that came in with the port is no variable of the old invariants
+        for loop, (new, vars) in list(self.loops.items()):
+            if "rt" in vars:
+                at = vars.index("rt")
+                self.loops[loop] = (new, vars[:at] + vars[at + 1 :])
+                self.changed[loop] = self.changed[loop][:at] + self.changed[loop][at + 1 :]
         self.at = {b: norm(q) for (a, b), (_, q) in zip(made["needs"], made["asked_at"])}
         self.imports, self.helpers = set(), {}
+        self.renamed = {b for a, b in news.items() if a != b}
         self.arms, self.within = [], set()
         for arm in made["arms"]:
             for new, old, way in (arm or [None, None, []])[2]:
@@ -154,7 +161,7 @@ class Function:
     def back(self, a, b):
         """How many steps lead from what is seen at a to the place b."""
         k = self.depth(a, b)
-        return k + 1 if k and not a.startswith("In-") else k
+        return k + 1 if k and a in self.renamed and not a.startswith("In-") else k
 
     def step(self, text):
         """The names of steps and clauses."""
@@ -335,6 +342,7 @@ def convert(crate, folder, made, known):
             term = f.step(plain(term))
             # a test of !x says what it says of x
             term = re.sub(r"not-(?:true|false) _ ([a-z][\w.'-]*\.(?:true|false))(?![\w-])", r"\1", term)
+            term = term.replace("read (record", "read {w = w64} (record") if "w64" in text else term
             term = f.helped(term, goal, None)
             term = f.flat(term)
             g = goal or "TODO-" + need[1]
@@ -358,6 +366,7 @@ def convert(crate, folder, made, known):
         body = plain("\n".join(lines))
         body = body.replace(" invariant-loop decreases-loop", "")
         body = f.step(body)
+        body = body.replace("read (record", "read {w = w64} (record") if "w64" in text else body
         body = re.sub(r"not-(?:true|false) _ ([a-z][\w.'-]*\.(?:true|false))(?![\w-])", r"\1", body)
         mine = f.helpers.get(name, (None,))[0]
         body = f.helped_not_self(body, name, mine) if hasattr(f, "helped_not_self") else body

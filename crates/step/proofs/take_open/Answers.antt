@@ -96,14 +96,17 @@ judge_one-requires c =
     let s = entry (goal.at.judge_one-requires c).After-close_interval-closed in
     let k = kept (goal.at.judge_one-requires c).Start in
     let g = s.args.g in
-    let ledger = e.close_interval-closed.ensures.ledger_after in record { counts = (
+    let ledger = e.close_interval-closed.ensures.ledger_after in record {
+      counts = (
         counts (goal.at.judge_one-requires c).Start,
         c.if-g-ge-MOST_CYCLES.false,
         s.requires.offered_lt_most_offered.1,
         subst⁻¹ (λ (z : List ℤ). ledger_numbers ≤ length z) ledger
             (omega (arith, k.long_ledger, length_closed g.open_row g.open_phase s.args.ledger.now g.progress.held s.args.x)),
         k.long_map,
-      ); by_index = λ i h. subst⁻¹ (λ (z : List ℤ). Sized most_held (at z i)) ledger (closed_small k s.requires.offered_lt_most_offered.0 g.open_row g.open_phase s.args.x s.requires.offered_lt_most_offered.1 (open_phase_lem (goal.at.judge_one-requires c).Start) i h) }
+      );
+      by_index = λ i h. subst⁻¹ (λ (z : List ℤ). Sized most_held (at z i)) ledger (closed_small k s.requires.offered_lt_most_offered.0 g.open_row g.open_phase s.args.x s.requires.offered_lt_most_offered.1 (open_phase_lem (goal.at.judge_one-requires c).Start) i h);
+    }
 
 pub returns : goal.returns
 returns c =

@@ -54,7 +54,7 @@ returns c =
     let g = start.args.g in
     -- the last of M does not come so far
     let not_last : g.row ≡ row_m → g.progress.counted + 1 < joint b y.length 2 = λ e. elim c.if-g-eq-ROW_M.branch as (λ _. g.progress.counted + 1 < joint b y.length 2) [
-      then-g-eq-ROW_M+else-seconds_of-y w ↦ omega (arith, w.seconds_of.ensures, w.if-seconds_of-y.false)
+      | then-g-eq-ROW_M+else-seconds_of-y w ↦ omega (arith, w.seconds_of.ensures, w.if-seconds_of-y.false)
       | else-g-eq-ROW_M w ↦ absurd (w.if-g-eq-ROW_M.false e)
     ] in
     c.moved_by.ensures
