@@ -230,10 +230,11 @@ def convert(crate, folder, made, known):
             parsed.append(("decl", lines))
     # accessors that only walk back
     accessors = set()
-    for kind, lines in parsed:
+    for kind, lines in [*parsed, *parsed]:
         if kind == "decl":
             m = re.match(rf"(?:abbrev )?(?:pub )?({NAME}) : tie\.\S+ (?:invariant-loop decreases-loop )?→ tie\.\S+", lines[0])
-            if m and re.match(rf"{re.escape(m[1])} c = c(\.before)*$", " ".join(l.strip() for l in lines[1:])):
+            ways = "|".join(re.escape(a) + " " for a in accessors) or "(?!)"
+            if m and re.match(rf"{re.escape(m[1])} c = (?:(?:{ways})?c(\.before)*|\((?:{ways})c(\.before)*\)(\.before)*)$", " ".join(l.strip() for l in lines[1:])):
                 accessors.add(m[1])
     def plain(s):
         for a in accessors:
@@ -248,6 +249,13 @@ def convert(crate, folder, made, known):
                 return text
             text = text[: m.start()] + text[m.end() :]
             text = re.sub(rf"(?<![\w.'-]){m[1]}(?=\.)", lambda _: m[2], text)
+    def clause(text):
+        for m in list(re.finditer(r"let (\w+) = ([\w.'-]+\.ensures) in\s*", text)):
+            if re.search(rf"(?<![\w.'-]){m[1]}\.\d", text):
+                text = text.replace(m[0], "", 1)
+                text = re.sub(rf"(?<![\w.'-]){m[1]}(?![\w'-])", lambda _: m[2], text)
+        return text
+    parsed = [(k, clause("\n".join(b)).split("\n") if k == "decl" else b) for k, b in parsed]
     parsed = [(k, [*given("\n".join(b)).split("\n")] if k == "decl" else b) for k, b in parsed]
     # helpers' places first
     inside = None
@@ -342,6 +350,7 @@ def convert(crate, folder, made, known):
             term = f.step(plain(term))
             # a test of !x says what it says of x
             term = re.sub(r"not-(?:true|false) _ ([a-z][\w.'-]*\.(?:true|false))(?![\w-])", r"\1", term)
+            term = term.replace(".in_default.rest", ".in_default.in_default-own.rest")
             term = term.replace("read (record", "read {w = w64} (record") if "w64" in text else term
             term = f.helped(term, goal, None)
             term = f.flat(term)
