@@ -124,8 +124,15 @@ class Function:
         self.callees = {p[2][1]: p[3] for p in made["places"] if p[3]}
         self.loops = {a: (b, vars) for (a, b), vars in made["loops"]}
         self.changed = dict(zip((a for (a, b), vars in made["loops"]), made["changed"]))
+        # a handle that came in with the port is no variable of the old invariants
+        for loop, (new, vars) in list(self.loops.items()):
+            if "rt" in vars:
+                at = vars.index("rt")
+                self.loops[loop] = (new, vars[:at] + vars[at + 1 :])
+                self.changed[loop] = self.changed[loop][:at] + self.changed[loop][at + 1 :]
         self.at = {b: norm(q) for (a, b), (_, q) in zip(made["needs"], made["asked_at"])}
         self.imports, self.helpers = set(), {}
+        self.renamed = {b for a, b in news.items() if a != b}
         self.arms, self.within = [], set()
         for arm in made["arms"]:
             for new, old, way in (arm or [None, None, []])[2]:
@@ -151,6 +158,11 @@ class Function:
             a, n = self.parents.get(a), n + 1
         return n if a else 0
 
+    def back(self, a, b):
+        """How many steps lead from what is seen at a to the place b."""
+        k = self.depth(a, b)
+        return k + 1 if k and a in self.renamed and not a.startswith("In-") else k
+
     def step(self, text):
         """The names of steps and clauses."""
         for old, new in self.arms:
@@ -172,6 +184,11 @@ class Function:
         if len(own) > 1:
             text = re.sub(r"\.requires\.(\d)", lambda m: ".requires." + own[int(m[1])] if int(m[1]) < len(own) else m[0], text)
         for field_, callee in self.callees.items():
+            params = self.made["params"].get(callee, [])
+            def moved(m):
+                n = m[3].count("1")
+                return f".{field_}.{m[2]}." + params[n] if n < len(params) else m[0]
+            text = re.sub(rf"(\.{re.escape(field_)})\.(new|auto)\.((?:1\.)*0)(?![\w.])", moved, text)
             for kind in ("ensures",):
                 names = self.known.get(callee, {kind: []})[kind]
                 if len(names) > 1:
@@ -181,15 +198,14 @@ class Function:
     def flat(self, text):
         return re.sub(r"(?:\.before)+(?![\w-])", "", text)
 
-    def helped(self, text, goal, place):
+    def helped(self, text, goal, place, me="c"):
         """Calls of helpers that take a place."""
         for name, (p, keeps) in self.helpers.items():
             def call(m):
                 if goal:
                     return f"{name} (goal.at.{goal} c).{p}"
-                k = self.depth(place, p)
-                return f"{name} c" + ".before" * k
-            text = re.sub(rf"(?<![\w.'-]){re.escape(name)} ({ATOM})", call, text)
+                return f"{name} {me}" + ".before" * self.back(place, p)
+            text = re.sub(rf"(?<![\w.'-]){re.escape(name)} (?!=)({ATOM})", call, text)
         return text
 
 
@@ -214,10 +230,11 @@ def convert(crate, folder, made, known):
             parsed.append(("decl", lines))
     # accessors that only walk back
     accessors = set()
-    for kind, lines in parsed:
+    for kind, lines in [*parsed, *parsed]:
         if kind == "decl":
             m = re.match(rf"(?:abbrev )?(?:pub )?({NAME}) : tie\.\S+ (?:invariant-loop decreases-loop )?→ tie\.\S+", lines[0])
-            if m and re.match(rf"{re.escape(m[1])} c = c(\.before)*$", " ".join(l.strip() for l in lines[1:])):
+            ways = "|".join(re.escape(a) + " " for a in accessors) or "(?!)"
+            if m and re.match(rf"{re.escape(m[1])} c = (?:(?:{ways})?c(\.before)*|\((?:{ways})c(\.before)*\)(\.before)*)$", " ".join(l.strip() for l in lines[1:])):
                 accessors.add(m[1])
     def plain(s):
         for a in accessors:
@@ -232,6 +249,13 @@ def convert(crate, folder, made, known):
                 return text
             text = text[: m.start()] + text[m.end() :]
             text = re.sub(rf"(?<![\w.'-]){m[1]}(?=\.)", lambda _: m[2], text)
+    def clause(text):
+        for m in list(re.finditer(r"let (\w+) = ([\w.'-]+\.ensures) in\s*", text)):
+            if re.search(rf"(?<![\w.'-]){m[1]}\.\d", text):
+                text = text.replace(m[0], "", 1)
+                text = re.sub(rf"(?<![\w.'-]){m[1]}(?![\w'-])", lambda _: m[2], text)
+        return text
+    parsed = [(k, clause("\n".join(b)).split("\n") if k == "decl" else b) for k, b in parsed]
     parsed = [(k, [*given("\n".join(b)).split("\n")] if k == "decl" else b) for k, b in parsed]
     # helpers' places first
     inside = None
@@ -255,8 +279,18 @@ def convert(crate, folder, made, known):
         m = re.match(rf"(?:abbrev )?(?:pub )?({NAME}) : (?:\(\w+ : )?tie\.([\w-]+)", lines[0])
         if m and m[1] not in accessors and not m[2].startswith(("Need-", "invariant", "decreases")):
             f.helpers[m[1]] = (f.places.get(norm(m[2]), m[2]), True)
+    # a helper that looks at the arguments alone is over the start
+    for kind, lines in parsed:
+        m = kind == "decl" and re.match(rf"(?:abbrev )?(?:pub )?({NAME}) : (\((\w+) : )?tie\.([\w-]+)", lines[0])
+        if not m or m[1] not in f.helpers or m[1] in f.within or f.helpers[m[1]][0] == "Start":
+            continue
+        seen = f.flat(plain("\n".join(lines)))
+        me = m[3] or (re.search(rf"^{re.escape(m[1])} (\w+)", "\n".join(lines[1:]), re.M) or [None, "c"])[1]
+        if set(re.findall(rf"(?<![\w.'-]){me}\.([\w-]+)", seen)) <= {"args", "requires", "pre"} and not re.search(rf"(?<![\w.'-]){me}(?![\w.'-])", re.sub(rf"\({me} :|^{re.escape(m[1])} {me}|^λ {me}", "", "\n".join(seen.split("\n")), flags=re.M)):
+            f.helpers[m[1]] = ("Start", True)
+            lines[0] = lines[0].replace("tie." + m[4], "tie.Start", 1)
     invariant_text = "\n".join("\n".join(lines) for kind, lines in parsed if kind == "decl" and re.match(r"abbrev (?:invariant|decreases)-", lines[0]))
-    shared = []
+    shared, where = [], None
     pending = []
     for kind, lines in parsed:
         if kind == "comment":
@@ -316,11 +350,18 @@ def convert(crate, folder, made, known):
             term = f.step(plain(term))
             # a test of !x says what it says of x
             term = re.sub(r"not-(?:true|false) _ ([a-z][\w.'-]*\.(?:true|false))(?![\w-])", r"\1", term)
+            term = term.replace(".in_default.rest", ".in_default.in_default-own.rest")
+            term = term.replace("read (record", "read {w = w64} (record") if "w64" in text else term
             term = f.helped(term, goal, None)
             term = f.flat(term)
             g = goal or "TODO-" + need[1]
             if g.startswith("returns"):
                 term = named(term, known.get(f.fn(), {"ensures": []})["ensures"])
+            asked = re.match(r"(\w+)(?:-[\w-]+)?-requires(?:-\d+)?$", g)
+            if asked:
+                for callee in f.made["params"]:
+                    if callee.split("::")[-1] == asked[1]:
+                        term = named(term, known.get(callee, {"requires": []})["requires"])
             answers += [*pending, f"pub {g} : goal.{g}\n{unfolding}{g} {' '.join(params)} ={space}{term}", ""]
             pending = []
             continue
@@ -334,20 +375,28 @@ def convert(crate, folder, made, known):
         body = plain("\n".join(lines))
         body = body.replace(" invariant-loop decreases-loop", "")
         body = f.step(body)
+        body = body.replace("read (record", "read {w = w64} (record") if "w64" in text else body
         body = re.sub(r"not-(?:true|false) _ ([a-z][\w.'-]*\.(?:true|false))(?![\w-])", r"\1", body)
         mine = f.helpers.get(name, (None,))[0]
         body = f.helped_not_self(body, name, mine) if hasattr(f, "helped_not_self") else body
         body = re.sub(r"tie\.([A-Z][\w-]*)", lambda m: f.place(m[1]), body)
         if lines[0].startswith(("module", "  ")):
-            pass
+            mod = re.match(r"module _ \((\w+) : ([^()]+)\) where", body)
+            where = mod[2] if mod else where
+            def walk(m):
+                k = f.back(where, m[3]) if where else 0
+                return f"{m[1]} : {m[3]}\n  {m[1]} = c" + ".before" * k if k else m[0]
+            body = re.sub(rf"({NAME}) : (([\w-]+))\n  \1 = c(?:\.before)+$", walk, body, flags=re.M)
         elif mine:
             saved = dict(f.helpers)
             f.helpers.pop(name)
-            sigline, _, rest = body.partition("\n")
-            body = f.helped(sigline, None, mine) + "\n" + f.helped(rest, None, mine)
+            me = re.match(rf"(?:abbrev )?(?:pub )?{re.escape(name)} : \((\w+) :", lines[0])
+            me = me or re.search(rf"^{re.escape(name)} (\w+)", "\n".join(lines[1:]), re.M)
+            me = me[1] if me else "c"
+            body = f.helped(body, None, mine, me)
             f.helpers = saved
             # c.before.x is c.x, but a bare place keeps its way
-            body = re.sub(r"(\bc(?:\.before)+)(?=\.)(?!\.before)", "c", body)
+            body = re.sub(rf"(\b{me}(?:\.before)+)(?=\.)(?!\.before)", me, body)
         answers += [*pending, body, ""]
         pending = []
     body = "\n".join(answers)

@@ -61,6 +61,7 @@ module _ (x : Stage) (f : Field) where
   enough_for q (there (there (there (there (there (there here)))))) (the_tolerances t) e s m = absurd (false≢true cc)
   enough_for q (there (there (there (there (there (there (there here))))))) (the_tolerances t) e s m = absurd (false≢true cc)
   enough_for q (there (there (there (there (there (there (there (there here)))))))) (the_tolerances t) e s m = absurd (false≢true cc)
+  enough_for q (there (there (there (there (there (there (there (there (there z))))))))) (the_tolerances t) e s m = elim z [ ]
   enough_for q i (the_stretches y) e s m = tt
   enough_for q i (own_samples xs) e s m = tt
   enough_for q i (before z) e s m = tt

@@ -69,6 +69,7 @@ module _ (l₀ : List ℤ) (m₀ : List ℕ) (long : Long l₀ m₀) where
       go q (there (there (there (there (there (there here)))))) a = same energy_after
       go q (there (there (there (there (there (there (there here))))))) a = same recharge
       go q (there (there (there (there (there (there (there (there here)))))))) a = same stretches
+      go q (there (there (there (there (there (there (there (there (there z))))))))) a = elim z [ ]
 
   -- ---- and both hold it
 

@@ -9,18 +9,12 @@ use Rattle.numbers.proofs.Signed.{read}
 use Rattle.rules.specs.Text.{line, signed, count_lines}
 use Rattle.sheet.proofs.Overlaid.{wrote_then, wrote_most, wrote_is}
 use Rattle.sheet.proofs.sheets.count_lines.Goals as goal
-use Rattle.sheet.proofs.sheets.count_lines.Goals.{After-struct_told-1}
-
--- what the types say of the two signed figures
-outside-fits : (c : After-struct_told-1) → SFits w64 c.args.f.outside
-outside-fits c = search rules
-
-drawn_fits : (c : After-struct_told-1) → SFits w64 c.args.f.drawn
-drawn_fits c = search rules
 
 pub returns : goal.returns
 unfolding count_lines
 returns c =
-    let outside = wrote_is c.signed_line-outside.ensures (ap (λ (z : ℤ). line _ (signed z)) (read (outside-fits (goal.at.returns c).After-struct_told-1))) in
-    let drawn = wrote_is c.signed_line.ensures (ap (λ (z : ℤ). line _ (signed z)) (read (drawn_fits (goal.at.returns c).After-struct_told-1))) in
+    let outside_fits : SFits w64 c.args.f.outside = search rules in
+    let drawn_fits : SFits w64 c.args.f.drawn = search rules in
+    let outside = wrote_is c.signed_line-outside.ensures (ap (λ (z : ℤ). line _ (signed z)) (read outside_fits)) in
+    let drawn = wrote_is c.signed_line.ensures (ap (λ (z : ℤ). line _ (signed z)) (read drawn_fits)) in
     wrote_most (wrote_then (wrote_then outside c.number_line-passed.ensures (omega arith)) drawn (omega arith)) (omega arith)
