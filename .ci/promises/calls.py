@@ -75,7 +75,9 @@ class Calls:
         code = "\n".join(line for line in self.text[function].splitlines() if not re.match(r"\s*(//|requires|ensures)", line))
         found = set()
         for first, name in re.findall(r"\b(?:(\w+)::)?(?:\w+::)*(\w+(?=\()|[A-Z][A-Z0-9_]+\b)", code):
-            found |= self.named(first, name) or self.named(*self.imports[crate, file].get(name, (crate, name)))
+            # by the crate's name, by a module of another crate, or as it was imported
+            module = self.imports[crate, file].get(first, (first, ""))[0]
+            found |= self.named(module, name) or self.named(*self.imports[crate, file].get(name, (crate, name)))
         return found
 
     def reached(self, crate, name):
