@@ -341,7 +341,7 @@ def convert(crate, folder, made, known):
         if need:
             key = norm(need[1])
             key = key[len("overflow-"):] if key.startswith("overflow-") and key not in f.goals else key
-            goal = f.goals.get(key)
+            goal = f.goals.get(key) or f.goals.get(key.replace("slice-bounds-", "part-"))
             rest = "\n".join(lines[1:])
             u = re.match(r"(unfolding [^\n]*)\n(.*)$", rest, re.S)
             unfolding = u[1] + "\n" if u else ""
