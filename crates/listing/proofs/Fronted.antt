@@ -4,7 +4,7 @@ use mathlib.Core.Bool.{Bool, true, false, cond, ◌&&◌}
 use mathlib.Core.List.{List, [], ◌∷◌, ◌++◌}
 use mathlib.Core.Logic.{⊎_elim}
 use mathlib.Core.Path.{◌≡◌, refl, sym, ap, ◌∙◌}
-use Prim.Native.Nat.{ℕ, ◌+◌, ◌≤◌}
+use Prim.Native.Nat.{ℕ, ◌≤◌}
 use native.Mathlib.Omega.{arith}
 use types.Run.{OneOf}
 use denote.Enum.Declared.{tag_of}
@@ -37,10 +37,10 @@ at_impossible : (i : List ℕ) (p : Spot) → front_of tags i ≡ impossible →
 at_impossible i p e = record { used = ap front_used (sym e); spot = ap (front_spot p) (sym e); text = ap (front_text p) (sym e); block = ap is_block_at e }
 
 -- r is the answer to the bytes, and no field
-pub no_field_lem : (i : List ℕ) (p : Spot) (r : Front) → front_said r ≡ stands_said (front_of tags i) → ((t n : ℕ) → r ≡ front.Field t n → ⊥) → NoField i p
+pub no_field_lem : (i : List ℕ) (p : Spot) (r : Front) → front_said r ≡ stands_said (front_of tags i) → OneOf (0 ∷ 1 ∷ []) (tag_of front-type r) → NoField i p
 no_field_lem i p front.Incomplete e h = at_incomplete i p (said_incomplete i e refl)
 no_field_lem i p front.Impossible e h = at_impossible i p (said_impossible i e refl)
-no_field_lem i p (front.Field tag n) e h = absurd (h tag n refl)
+no_field_lem i p (front.Field tag n) e h = absurd (⊎_elim (λ q. omega arith) (λ q. omega arith) h)
 
 -- n can be added, where more can
 pub counts_less : {p : Spot} {m n : ℕ} → Counts p m → n ≤ m → Counts p n

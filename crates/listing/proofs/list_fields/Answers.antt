@@ -1,7 +1,7 @@
 -- `listing::list_fields` meets its contract.
 use mathlib.Core.Path.{◌≡◌, sym, ap, subst}
 use mathlib.Core.List.{List}
-use Prim.Native.Nat.{◌-◌, ◌*◌, ℕ}
+use Prim.Native.Nat.{◌*◌, ℕ}
 use native.Mathlib.Omega.{arith}
 use borrow.Author.Rules.{rules}
 use lib.ListN.{length}
@@ -33,6 +33,21 @@ list_one-x-requires c =
     let h = at.loop-used.invariant in
     (omega (arith, h.wrote.place, h.wrote.most, h.same_length), counts_less h.behind.counts (omega (arith, lent_length s.args.spot s.args.input.now h.behind)))
 
+pub loop-used-preserved : goal.loop-used-preserved
+loop-used-preserved c =
+    let call = c in
+    let at = call in
+    let s = at in
+    let known = call.list_one-x.ensures.used_value in
+    let written = call.list_one-x.ensures.wrote in
+    gone_more s.args.spot s.args.input.now s.args.out.now at.loop-used.invariant known.0 known.1 written (search rules) c.if-n-eq0.false
+
+pub overflow_add-used : goal.overflow_add-used
+overflow_add-used c = let s = c in omega (arith, (loop-used-preserved c).behind.within, s.well_formed.1.0.0)
+
+pub loop-used-smaller : goal.loop-used-smaller
+loop-used-smaller c = omega (arith, (loop-used-preserved c).behind.within, c.if-n-eq0.false)
+
 pub shape_of-out-after-loop-used : goal.shape_of-out-after-loop-used
 shape_of-out-after-loop-used c = c.loop-used.invariant.same_length
 
@@ -42,24 +57,14 @@ returns-after-loop-used c =
     let s = at in
     let both = listed-all (goal.at.returns-after-loop-used c).At-loop-used (behind_all s.args.spot s.args.input.now at.loop-used.invariant.behind (omega arith)) in record { spot_value = both.0; wrote = both.1 }
 
-pub loop-used-preserved : goal.loop-used-preserved
-loop-used-preserved c =
-    let call = c in
-    let at = call in
-    let s = at in
-    let (known, written) = call.list_one-x.ensures in
-    gone_more s.args.spot s.args.input.now s.args.out.now at.loop-used.invariant known.0 known.1 written (search rules) c.if-n-eq0.false
-
-pub overflow_add-used : goal.overflow_add-used
-overflow_add-used c = let s = c in omega (arith, (loop-again c).behind.within, s.well-formed.1.0.0)
-
 pub returns-then-n-eq0 : goal.returns-then-n-eq0
 returns-then-n-eq0 c =
     let call = c in
     let at = call in
     let s = at in
-    let (known, written) = call.list_one-x.ensures in
+    let known = call.list_one-x.ensures.used_value in
+    let written = call.list_one-x.ensures.wrote in
     let end = behind_end s.args.spot s.args.input.now at.loop-used.invariant.behind known.0 known.1 c.if-n-eq0.true in
     let same = gone_same s.args.spot s.args.input.now s.args.out.now at.loop-used.invariant known.0 known.1 written (search rules) c.if-n-eq0.true in
-    let (spot, text) = listed-all (goal.at.returns-then-n-eq0 c).At-loop-used end in
-    record { spot_value = spot; wrote = subst (λ (o : List ℕ). Wrote (per_byte * length s.args.input.now) s.args.out.now 0 (list_from s.args.spot s.args.input.now).text o at.loop-used.next) (sym same) text }
+    let both = listed-all (goal.at.returns-then-n-eq0 c).At-loop-used end in
+    record { spot_value = both.0; wrote = subst (λ (o : List ℕ). Wrote (per_byte * length s.args.input.now) s.args.out.now 0 (list_from s.args.spot s.args.input.now).text o at.loop-used.next) (sym same) both.1 }

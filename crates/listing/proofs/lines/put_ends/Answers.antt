@@ -1,6 +1,5 @@
 -- `listing::lines::put_ends` meets its contract.
 use mathlib.Core.Path.{◌≡◌, refl, ap}
-use Prim.Native.Nat.{◌-◌}
 use native.Mathlib.Omega.{arith}
 use borrow.Author.Rules.{rules}
 use Rattle.rules.specs.Listing.{in_turn, end_of_phase}

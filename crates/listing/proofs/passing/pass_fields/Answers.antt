@@ -1,9 +1,7 @@
 -- `listing::passing::pass_fields` meets its contract.
 use mathlib.Core.List.{[]}
 use mathlib.Core.Path.{sym, ap}
-use Prim.Native.Nat.{◌-◌}
 use native.Mathlib.Omega.{arith}
-use lib.ListN.{length}
 use Rattle.rules.specs.Listing.{Listed}
 use Rattle.listing.proofs.Walking.{behind_none, behind_more, behind_end, behind_all, lent_length}
 use Rattle.listing.proofs.Fronted.{counts_less}
@@ -29,6 +27,12 @@ loop-used-preserved c =
     let (used, spot) = call.pass_one-x.ensures in
     record { text = _; behind = behind_more s.args.spot s.args.input.now at.loop-used.invariant.behind used spot c.if-n-eq0.false }
 
+pub overflow_add-used : goal.overflow_add-used
+overflow_add-used c = let s = c in omega (arith, (loop-used-preserved c).behind.within, s.well_formed.1.0.0)
+
+pub loop-used-smaller : goal.loop-used-smaller
+loop-used-smaller c = omega (arith, (loop-used-preserved c).behind.within, c.if-n-eq0.false)
+
 pub returns-after-loop-used : goal.returns-after-loop-used
 returns-after-loop-used c =
     let at = c in
@@ -42,6 +46,3 @@ returns-then-n-eq0 c =
     let s = at in
     let (used, spot) = call.pass_one-x.ensures in
     ap (λ (x : Listed). x.spot) (sym (behind_end s.args.spot s.args.input.now at.loop-used.invariant.behind used spot c.if-n-eq0.true))
-
-pub overflow_add-used : goal.overflow_add-used
-overflow_add-used c = let s = c in omega (arith, (loop-again c).behind.within, s.well-formed.1.0.0)
