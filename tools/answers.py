@@ -119,6 +119,11 @@ class Function:
         self.goals = {norm(a): b for a, b in made["needs"]}
         self.fields = {norm(p[2][0]): p[2][1] for p in made["places"] if p[2][0]}
         news = dict(zip((p[0] for p in made["places"]), made["places_by_name"]))
+        # an arm's last place is the one that a proof names
+        for a, b in list(news.items()):
+            short = re.sub(r"-\d+$", "", b)
+            if b.startswith("In-") and short in news.values():
+                news[a] = short
         self.places = {norm(a): b for a, b in news.items()}
         self.parents = {news[p[0]]: news.get(p[1]) for p in made["places"]}
         self.callees = {p[2][1]: p[3] for p in made["places"] if p[3]}
@@ -336,7 +341,7 @@ def convert(crate, folder, made, known):
         if need:
             key = norm(need[1])
             key = key[len("overflow-"):] if key.startswith("overflow-") and key not in f.goals else key
-            goal = f.goals.get(key)
+            goal = f.goals.get(key) or f.goals.get(key.replace("slice-bounds-", "part-"))
             rest = "\n".join(lines[1:])
             u = re.match(r"(unfolding [^\n]*)\n(.*)$", rest, re.S)
             unfolding = u[1] + "\n" if u else ""
@@ -346,11 +351,15 @@ def convert(crate, folder, made, known):
             if goal and not unfolding and SEARCH.match(term.strip()):
                 pending = []
                 continue
+            if not goal:
+                # no such goal today: the check has its own, and names it where it stays open
+                pending = []
+                continue
             params = [p for p in params if p != "κs"]
             term = f.step(plain(term))
             # a test of !x says what it says of x
             term = re.sub(r"not-(?:true|false) _ ([a-z][\w.'-]*\.(?:true|false))(?![\w-])", r"\1", term)
-            term = term.replace(".in_default.rest", ".in_default.in_default-own.rest")
+            term = re.sub(r"\.in_default\.(rest|keys\d)", r".in_default.in_default-own.\1", term)
             term = term.replace("read (record", "read {w = w64} (record") if "w64" in text else term
             term = f.helped(term, goal, None)
             term = f.flat(term)
@@ -375,6 +384,7 @@ def convert(crate, folder, made, known):
         body = plain("\n".join(lines))
         body = body.replace(" invariant-loop decreases-loop", "")
         body = f.step(body)
+        body = re.sub(r"\.in_default\.(rest|keys\d)", r".in_default.in_default-own.\1", body)
         body = body.replace("read (record", "read {w = w64} (record") if "w64" in text else body
         body = re.sub(r"not-(?:true|false) _ ([a-z][\w.'-]*\.(?:true|false))(?![\w-])", r"\1", body)
         mine = f.helpers.get(name, (None,))[0]

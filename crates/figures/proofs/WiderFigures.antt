@@ -13,7 +13,6 @@ use Rattle.rules.specs.declared.Moment.{Moment}
 use Rattle.rules.specs.declared.Tolerances.{Tolerances}
 use Rattle.rules.specs.declared.Method.{Method}
 use Rattle.rules.specs.Bench.{most_cycles}
-use Rattle.rules.specs.Course.{outside}
 use Rattle.laws.specs.Beside.{stopped}
 use Rattle.rules.specs.Parts.{row_part, cycles, part_energy, part_distance, energy}
 use Rattle.rules.specs.Regular.{interval, moment_in}

@@ -145,6 +145,7 @@ module _ (b : List ℕ) (t : Tolerances) (k : Along) (l : List ℤ) (m : List �
         go q (there (there (there (there (there (there here)))))) a = refl
         go q (there (there (there (there (there (there (there here))))))) a = refl
         go q (there (there (there (there (there (there (there (there here)))))))) a = refl
+        go q (there (there (there (there (there (there (there (there (there w))))))))) a = elim w [ ]
 
     -- ---- a whole field f of an allowed length, whose content is c
 

@@ -1,0 +1,14 @@
+-- `listing::lines::tolerances_line` meets its contract.
+use native.Mathlib.Omega.{arith}
+use Rattle.sheet.proofs.Overlaid.{wrote_then, wrote_most}
+use Rattle.rules.specs.Listing.{tolerances_line}
+use Rattle.listing.proofs.lines.tolerances_line.Goals as goal
+
+pub returns : goal.returns
+unfolding tolerances_line
+returns c =
+    let fourth = c in
+    let third = fourth in
+    let second = third in
+    let first = second in
+    wrote_most (wrote_then (wrote_then (wrote_then first.put_text-word.ensures second.put_number-speed.ensures (omega arith)) third.put_number-time.ensures (omega arith)) fourth.put_number.ensures (omega arith)) (omega arith)
