@@ -11,14 +11,14 @@ use Rattle.rules.specs.Plan.{Plan}
 use Rattle.rules.specs.Shown.{ledger_numbers, map_words}
 use Rattle.rules.specs.Values.{moments_in}
 use Rattle.state.specs.declared.Run.{Run}
-use Rattle.state.specs.State.{Memory, lent}
+use Rattle.state.specs.State.{Memory}
 use Rattle.judge.specs.declared.Answer.TheVariants.{Taken, Refused}
 use Rattle.reading.specs.declared.Reading.{Reading}
 use Rattle.sheet.specs.Overlaid.{most_sheet}
 use Rattle.desk.specs.declared.Desk.{Desk}
 use Rattle.desk.specs.declared.Outcome.TheVariants.{More}
 use Rattle.desk.specs.Feeding.{Laid, Lent, laid_of, empty_desk}
-use Rattle.demands.specs.Calls.{left, StartCall, SampleCall, BlockCall, ShownCall, TotalsCall, ClosingCall}
+use Rattle.demands.specs.Calls.{StartCall, SampleCall, BlockCall, ShownCall, TotalsCall, ClosingCall}
 use Rattle.demands.specs.Calls.{FiguresCall, ReadCall, AllCall, FeedCall, CloseCall, RefuseCall, VerdictCall, start_leaves, sample_leaves}
 use Rattle.demands.specs.Calls.{block_leaves}
 
