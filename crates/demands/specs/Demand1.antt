@@ -82,7 +82,7 @@ use Rattle.demands.specs.Cases.{wrong_number, or_else, recharge_number, opening_
 -- ---- "Reader and judge take every input, broken ones included, and end."
 
 -- `statement` says that the function's own code meets its contract. It is total correctness: a call that meets what the contract asks
--- is safe and ends (the kit's guides/DESIGN.md, 'Where each guarantee comes from'); and nothing is asked
+-- is safe and ends (the kit's LANGUAGE.md, of what `logic=proved` says); and nothing is asked
 pub record TakesEveryInput (M : Type 1) : Type 2 where
   pub start_takes_every_input : start.Statement.statement M × AsksNothing judge_contracts.start.ended start.Reads.Asked
   pub sample_takes_every_input : sample.Statement.statement M × AsksNothing judge_contracts.sample.ended sample.Reads.Asked
