@@ -189,11 +189,11 @@ class Function:
         if len(own) > 1:
             text = re.sub(r"\.requires\.(\d)", lambda m: ".requires." + own[int(m[1])] if int(m[1]) < len(own) else m[0], text)
         for field_, callee in self.callees.items():
-            params = self.made["params"].get(callee, [])
+            params = [p for p in self.made["params"].get(callee, []) if p != "rt"]
             def moved(m):
                 n = m[3].count("1")
-                return f".{field_}.{m[2]}." + params[n] if n < len(params) else m[0]
-            text = re.sub(rf"(\.{re.escape(field_)})\.(new|auto)\.((?:1\.)*0)(?![\w.])", moved, text)
+                return f".{field_}.{'auto' if m[2] == 'kept' else m[2]}." + params[n] if n < len(params) else m[0]
+            text = re.sub(rf"(\.{re.escape(field_)})\.(new|auto|kept)\.((?:1\.)*0)(?![\w.])", moved, text)
             for kind in ("ensures",):
                 names = self.known.get(callee, {kind: []})[kind]
                 if len(names) > 1:
@@ -239,6 +239,8 @@ def convert(crate, folder, made, known):
         if kind == "decl":
             m = re.match(rf"(?:abbrev )?(?:pub )?({NAME}) : tie\.\S+ (?:invariant-loop decreases-loop )?→ tie\.\S+", lines[0])
             ways = "|".join(re.escape(a) + " " for a in accessors) or "(?!)"
+            if m and re.match(rf"{re.escape(m[1])} (\w+) = \1(?:\.before)*$", " ".join(l.strip() for l in lines[1:])):
+                accessors.add(m[1])
             if m and re.match(rf"{re.escape(m[1])} c = (?:(?:{ways})?c(\.before)*|\((?:{ways})c(\.before)*\)(\.before)*)$", " ".join(l.strip() for l in lines[1:])):
                 accessors.add(m[1])
     def plain(s):
@@ -260,6 +262,18 @@ def convert(crate, folder, made, known):
                 text = text.replace(m[0], "", 1)
                 text = re.sub(rf"(?<![\w.'-]){m[1]}(?![\w'-])", lambda _: m[2], text)
         return text
+    def apart(text):
+        """let (a, b) = x.f.ensures, where f has named clauses."""
+        def one(m):
+            fields = re.findall(r"[\w-]+", m[2])
+            step = f.fields.get(norm(m[2].split(".")[-2]), m[2].split(".")[-2])
+            names_ = known.get(f.callees.get(step, ""), {"ensures": []})["ensures"]
+            parts_ = [p.strip() for p in m[1].split(",")]
+            if len(names_) != len(parts_) or len(names_) < 2:
+                return m[0]
+            return " ".join(f"let {p} = {m[2]}.{n} in" for p, n in zip(parts_, names_))
+        return re.sub(r"let \(([\w, ]+)\) = ([\w.'-]+\.ensures) in", one, text)
+    parsed = [(k, apart("\n".join(b)).split("\n") if k == "decl" else b) for k, b in parsed]
     parsed = [(k, clause("\n".join(b)).split("\n") if k == "decl" else b) for k, b in parsed]
     parsed = [(k, [*given("\n".join(b)).split("\n")] if k == "decl" else b) for k, b in parsed]
     # helpers' places first

@@ -11,11 +11,9 @@ use Rattle.desk.proofs.Arriving.{Arrived, arrived_none, arrived_more}
 use Rattle.rules.specs.Text.{refusal_text, printed}
 use Rattle.desk.specs.declared.Outcome.TheVariants.{Refused}
 use Rattle.desk.proofs.Grounds.{feed_refuses}
-use Rattle.desk.specs.contracts.feed
 use Rattle.prints.specs.Printed.{next_field, refuse_text, close_text}
 use Rattle.prints.proofs.Texts.{text_is, desk_refused}
 use Rattle.prints.proofs.Printing as printing
-use Rattle.prints.specs.contracts.close
 use Rattle.demands.specs.Calls.{FeedCall, CloseCall}
 use Rattle.demands.specs.Demand2.{Prints, BeforeAll}
 use Rattle.demands.specs.Range.{PrintsNear}

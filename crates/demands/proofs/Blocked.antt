@@ -9,11 +9,11 @@ use lib.IntN.{ℤ}
 use lib.ListN.{length, length-drop}
 use Rattle.numbers.proofs.Tables.{length_table}
 use Rattle.rules.specs.declared.Moment.{Moment}
-use Rattle.rules.specs.Table.{block, length_allowed, behind_tolerances, behind_before, behind_block, tags}
+use Rattle.rules.specs.Table.{length_allowed, behind_tolerances, behind_before, behind_block, tags}
 use Rattle.rules.specs.Front.{Field}
 use Rattle.rules.specs.Machine.{on, move_at, run}
 use Rattle.rules.specs.Values.{samples_of, moment_at, count_in}
-use Rattle.rules.specs.Record.{Told, Bring, nothing, a_number, a_cycle, the_tolerances, the_stretches, own_samples, before, after, charged, holding, bring_at, take_field}
+use Rattle.rules.specs.Record.{Told, Bring, nothing, a_number, a_cycle, the_tolerances, the_stretches, own_samples, before, after, charged, bring_at, take_field}
 use Rattle.laws.proofs.Places.{place_is, before_places, block_places_lem}
 use Rattle.laws.proofs.Prefixes.{kept}
 use Rattle.laws.proofs.Samples.{block_of}

@@ -18,9 +18,6 @@ use Rattle.judge.specs.declared.Answer.TheVariants.{Taken, Refused}
 use Rattle.judge.specs.Answers.{answer_said}
 use Rattle.judge.proofs.Promises.{Promised, promised, StartPromise, SamplePromise, BlockPromise, refused_changes_nothing}
 use Rattle.judge.proofs.Runs.{Reached}
-use Rattle.judge.specs.contracts.start
-use Rattle.judge.specs.contracts.sample
-use Rattle.judge.specs.contracts.block
 use Rattle.demands.specs.Calls.{StartCall, SampleCall, BlockCall, start_leaves, sample_leaves, block_leaves}
 use Rattle.demands.specs.Runs.{StartOn, SampleOn, BlockOn, sample_in, bytes_in, Driven, begins, takes, takes_block, refuses, refuses_block}
 

@@ -16,7 +16,7 @@ use Rattle.rules.specs.declared.Charge.TheVariants.{Absent as absent, Wh as wh}
 use Rattle.rules.specs.declared.Closing.{Closing}
 use Rattle.rules.specs.declared.Figure.TheVariants.{Is}
 use Rattle.rules.specs.Closing.{recharge_figure, recharge_refusal, recharge_by}
-use Rattle.rules.specs.Table.{Matter, cycle, behind_tolerances, tags}
+use Rattle.rules.specs.Table.{Matter, behind_tolerances, tags}
 use Rattle.rules.specs.Machine.{Reply, to_field, not_yet, no_field, taken, passed, refused, End, waiting, broken, stopped, Ran, run}
 use Rattle.rules.specs.Record.{Told, content_at, bring_at, more_passed, take_field, untold, told, refused_at, sheet_by, sheet_of}
 use Rattle.laws.specs.Answers.{Said, gives, refuses, is, figure_said, closing_said, end_said}

@@ -91,6 +91,7 @@ module _ (x : Stage) (late : behind_tolerances ≤ x.place) where
   content_neither v r (there (there (there (there (there (there here)))))) a = passed_neither _ (along Neither wrong_number _ (omega arith) zero_neither)
   content_neither v r (there (there (there (there (there (there (there here))))))) a = passed_neither _ (along Neither wrong_number _ (omega arith) zero_neither)
   content_neither v r (there (there (there (there (there (there (there (there here)))))))) a = passed_neither _ (along Neither wrong_number _ (omega arith) zero_neither)
+  content_neither v r (there (there (there (there (there (there (there (there (there z))))))))) a = elim z [ ]
 
   field_neither : (f : Field) → At (field_content x.place (content_on x) f)
   field_neither f = by_field At x.place (content_on x) f (omega arith) (omega arith) (content_neither f.value)

@@ -8,7 +8,6 @@ use native.Mathlib.Omega.{arith}
 use lib.Dec.{eqb}
 use lib.IntN.{ℤ}
 use lib.ListN.{drop}
-use denote.Ref.{Bor}
 use Rattle.numbers.proofs.Tests.{pass}
 use Rattle.rules.specs.declared.Moment.{Moment}
 use Rattle.rules.specs.Plan.{Plan}
@@ -49,8 +48,8 @@ use Rattle.demands.proofs.OfRun.{run_answers}
 
 module _ {p : Plan} {l₀ : List ℤ} {m₀ : List ℕ} {xs : List Moment} {r : Run} {l : List ℤ} {m : List ℕ} (h : Driven p l₀ m₀ xs r l m) where
   -- what comes after 1 and 2 decides
-  grounded : {run : Run} {cycle : Bor (List ℕ)} {ledger : Bor (List ℤ)} {map : Bor (List ℕ)} → On r p.cycle l m run cycle ledger map → (others : ℕ)
-      → run_ground run cycle.now ledger.now map.now others ≡ others
+  grounded : {run : Run} {cycle : List ℕ} {ledger : List ℤ} {map : List ℕ} → On r p.cycle l m run cycle ledger map → (others : ℕ)
+      → run_ground run cycle ledger map others ≡ others
   grounded on others =
       (λ i. run_ground (on.run_is i) (on.cycle_is i) (on.ledger_is i) (on.map_is i) others) ∙ runs.never_refused p l₀ m₀ (driven_reached p l₀ m₀ h) others
 
@@ -72,12 +71,12 @@ module _ {p : Plan} {l₀ : List ℤ} {m₀ : List ℕ} {xs : List Moment} {r : 
       by_number (λ (z : ClosingAnswer). number_of (closing_said z)) closings.Refused (λ k. refl)
       (has_its_number.closing_number c ∙ sym (pass 1 ok (sym (grounded on _)))) (closing_neither _ _ _ _ _)
 
-  reading_neither : (reading : Reading) (cycle : Bor (List ℕ)) (ledger : Bor (List ℤ)) (map : Bor (List ℕ)) → On r p.cycle l m reading.run cycle ledger map
-      → is_reading reading ≡ true → (next : ℕ) → Neither next → Neither (or_else (read_ground reading cycle.now ledger.now map.now) next)
+  reading_neither : (reading : Reading) (cycle : List ℕ) (ledger : List ℤ) (map : List ℕ) → On r p.cycle l m reading.run cycle ledger map
+      → is_reading reading ≡ true → (next : ℕ) → Neither next → Neither (or_else (read_ground reading cycle ledger map) next)
   unfolding read_ground
   reading_neither reading cycle ledger map on ok next g =
-      let z : read_ground reading cycle.now ledger.now map.now ≡ 0 = sym (pass 1 ok (sym (grounded on 0))) in
-      cond_neither (eqb (read_ground reading cycle.now ledger.now map.now) 0) next _ g (omega (arith, z))
+      let z : read_ground reading cycle ledger map ≡ 0 = sym (pass 1 ok (sym (grounded on 0))) in
+      cond_neither (eqb (read_ground reading cycle ledger map) 0) next _ g (omega (arith, z))
 
   pub never_refused : NeverRefused p l₀ m₀ xs r l m
   never_refused = record {
@@ -93,9 +92,9 @@ module _ {p : Plan} {l₀ : List ℤ} {m₀ : List ℕ} {xs : List Moment} {r : 
     figures = λ c on ok. ap (λ (x : Found). x.refusal) ((run_answers h).figures_of_run c on ok);
     read = λ c on ok.
         let (reading, (i, (cycle, (ledger, (map, _))))) = c.args in
-        by_number (λ (z : Step). number_of (step_said z)) step.Refused (λ k. refl) (has_its_number.read_number c) (reading_neither reading cycle ledger map on ok _ (next_neither reading cycle.now ledger.now map.now i.now));
+        by_number (λ (z : Step). number_of (step_said z)) step.Refused (λ k. refl) (has_its_number.read_number c) (reading_neither reading cycle.now ledger.now map.now on ok _ (next_neither reading cycle.now ledger.now map.now i.now));
     read_all = λ c on ok.
         let (reading, (i, (cycle, (ledger, (map, _))))) = c.args in
         by_number (λ (z : Step). number_of (step_said z)) step.Refused (λ k. refl) (has_its_number.read_all_number c)
-        (reading_neither reading cycle ledger map on ok _ (next_neither c.answer.reading cycle.now c.lasts.1.1.1.0 c.lasts.1.1.1.1.0 (drop c.answer.used i.now)));
+        (reading_neither reading cycle.now ledger.now map.now on ok _ (next_neither c.answer.reading cycle.now c.lasts.1.1.1.0 c.lasts.1.1.1.1.0 (drop c.answer.used i.now)));
   }

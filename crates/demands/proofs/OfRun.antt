@@ -11,7 +11,7 @@ use lib.ListN.{length}
 use Rattle.rules.specs.Words.{eq_z}
 use Rattle.numbers.proofs.Tests.{pass, settled_taken}
 use Rattle.rules.specs.declared.Moment.{Moment}
-use Rattle.rules.specs.Course.{Course, outside, counted, judged, closed}
+use Rattle.rules.specs.Course.{Course, outside, judged, closed}
 use Rattle.rules.specs.Parts.{phase_part, part_energy, part_distance}
 use Rattle.rules.specs.Regular.{moment_in}
 use Rattle.rules.specs.Plan.{Plan, course_of}

@@ -23,7 +23,7 @@ use Rattle.demands.specs.Calls.{FeedCall, CloseCall, left}
 use Rattle.demands.specs.Demand2.{Speaks}
 use Rattle.demands.specs.Demand3.{SomeBetween}
 use Rattle.demands.specs.Runs.{FedIn, SomeClose, more}
-use Rattle.demands.proofs.SomeRun.{to, some_run}
+use Rattle.demands.proofs.SomeRun.{to, mut_to, some_run}
 
 -- calls with the answers that the contracts ask for: of bytes of which no field is refused, and where the input ends
 abbrev feed_call : (x : Laid) (i : List ℕ) → (feed_of x i).outcome ≡ wanted → FeedCall
@@ -31,7 +31,7 @@ feed_call x i e =
     let y = feed_of x i in
     record {
       κs = ([], ([], ([], ([], tt))));
-      args = (x.desk, (to i, (to x.room, (to x.memory.ledger, (to x.memory.map, tt)))));
+      args = (x.desk, (to i, (mut_to x.room, (mut_to x.memory.ledger, (mut_to x.memory.map, tt)))));
       answer = record { outcome = More; used = y.used; desk = y.laid.desk };
       lasts = (tt, (tt, (y.laid.room, (y.laid.memory.ledger, (y.laid.memory.map, tt)))));
       kept = λ j. record { laid = y.laid; used = y.used; outcome = sym e j };
@@ -42,7 +42,7 @@ close_call x left out =
     let text = close_text x left in
     record {
       κs = ([], ([], ([], ([], tt))));
-      args = (x.desk, (left, (to x.room, (to x.memory.ledger, (to x.memory.map, (to out, tt))))));
+      args = (x.desk, (left, (to x.room, (to x.memory.ledger, (to x.memory.map, (mut_to out, tt))))));
       answer = unless 0 (leb most_sheet (length out)) (length text);
       lasts = (tt, (tt, (tt, (tt, (tt, (unless out (leb most_sheet (length out)) (overlaid out 0 text), tt))))));
       kept = (refl, refl);

@@ -1,14 +1,15 @@
 -- Demand 2 speaks of something: by calls that keep the contracts there is a run of every list of samples within their limits, 4,000,000 at most.
 -- Assumes nothing.
 use mathlib.Core.Bool.{true}
-use mathlib.Core.List.{List, [], ◌∷◌, ◌++◌, map, append-nil, append_assoc}
+use mathlib.Core.List.{List, [], ◌∷◌, ◌++◌, append-nil, append_assoc}
 use mathlib.Core.Path.{◌≡◌, refl, sym, subst, ◌∙◌}
 use Prim.Native.Nat.{ℕ, suc, ◌+◌, ◌≤◌}
 use native.Mathlib.Omega.{arith}
 use borrow.Author.Tests.{le-leb}
 use lib.IntN.{ℤ}
 use lib.ListN.{length, length-append}
-use denote.Ref.{Bor}
+use denote.Bor.{Bor}
+use denote.MutBor.{MutBor}
 use Rattle.rules.specs.Words.{every}
 use Rattle.numbers.proofs.Tests.{both, pass}
 use Rattle.rules.specs.declared.Sample.{Sample}
@@ -33,9 +34,12 @@ use Rattle.demands.specs.Rows.{moments_of}
 use Rattle.demands.proofs.Driven.{driven_reached}
 use Rattle.demands.proofs.OfRun.{run_shows}
 
--- a reference somewhere
+-- a reference somewhere, and one that may be written through
 abbrev pub to : {A : Type 0} → A → Bor A
 to x = record { ref_ptr = (0, 0); now = x }
+
+abbrev pub mut_to : {A : Type 0} → A → MutBor A
+mut_to x = record { ref_ptr = (0, 0); ghost_name = 0; now = x }
 
 -- calls that are not refused, with the answers that the contracts ask for
 abbrev start_call : (b : List ℕ) (t : Tolerances) (q : Method) (l : List ℤ) (m : List ℕ) → start_refusal b t q l m ≡ 0 → StartCall
@@ -43,7 +47,7 @@ start_call b t q l m z =
     let y = (start_of l m).memory in
     record {
       κs = ([], ([], ([], tt)));
-      args = (to b, (t, (q, (to l, (to m, tt)))));
+      args = (to b, (t, (q, (mut_to l, (mut_to m, tt)))));
       answer = Taken (started b t q);
       lasts = (tt, (tt, (tt, (y.ledger, (y.map, tt)))));
       kept = taken (start_refusal b t q l m) (started b t q) y l m z refl refl;
@@ -54,7 +58,7 @@ sample_call r b l m x z =
     let y = after_sample r b l m x in
     record {
       κs = ([], ([], ([], tt)));
-      args = (r, (to b, (to l, (to m, (x, tt)))));
+      args = (r, (to b, (mut_to l, (mut_to m, (x, tt)))));
       answer = Taken (run_to r y.progress y.stretched);
       lasts = (tt, (tt, (y.memory.ledger, (y.memory.map, (tt, tt)))));
       kept = taken (sample_refusal r b l m x) (run_to r y.progress y.stretched) y.memory l m z refl refl;
@@ -75,11 +79,11 @@ module _ (p : Plan) (l₀ : List ℤ) (m₀ : List ℕ) where
       }
 
   all_more : {ys : List Moment} (s : SomeRun p l₀ m₀ ys) (xs : List Sample) → every is_sample xs ≡ true → length ys + length xs ≤ most_offered → SomeRun p l₀ m₀ (ys ++ moments_of xs)
-  all_more {ys} s [] ok room = subst (SomeRun p l₀ m₀) (sym (append-nil ys)) s
-  all_more {ys} s (x ∷ xs) ok room =
+  all_more {ys = ys} s [] ok room = subst (SomeRun p l₀ m₀) (sym (append-nil ys)) s
+  all_more {ys = ys} s (x ∷ xs) ok room =
       let (first, rest) = both (is_sample x) (every is_sample xs) ok in
       subst (SomeRun p l₀ m₀) (append_assoc ys (moment_of x ∷ []) (moments_of xs))
-      (all_more (one_more_lem s x first (omega arith)) xs rest (omega (arith, length-append ys (moment_of x ∷ []))))
+      (all_more {ys = ys ++ moment_of x ∷ []} (one_more_lem s x first (omega arith)) xs rest (omega (arith, length-append ys (moment_of x ∷ []))))
 
   pub some_run : ledger_numbers ≤ length l₀ → map_words ≤ length m₀ → valid p.cycle ≡ true → tolerable p.tolerances ≡ true → is_method p.method ≡ true
       → (xs : List Sample) → every is_sample xs ≡ true → length xs ≤ most_offered → SomeRun p l₀ m₀ (moments_of xs)

@@ -12,7 +12,6 @@ use lib.Seq.{drop-append_seam}
 use Rattle.rules.specs.Words.{unless}
 use Rattle.rules.specs.Record.{sheet_of}
 use Rattle.rules.specs.Text.{printed}
-use Rattle.judge.specs.declared.Answer.TheVariants.{Refused}
 use Rattle.state.specs.State.{Left}
 use Rattle.numbers.proofs.Tests.{stop, settled_refused}
 use Rattle.judge.proofs.Promises as judge

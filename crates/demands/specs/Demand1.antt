@@ -76,13 +76,13 @@ use Rattle.demands.specs.Calls.{SheetCall, RefusalCall, FeedCall, CloseCall, Ref
 use Rattle.demands.specs.Calls.{start_lent, start_leaves, sample_lent, sample_leaves}
 use Rattle.demands.specs.Calls.{block_lent, block_leaves, open_lent, open_leaves, read_lent, read_leaves, all_lent, all_leaves, feed_lent, feed_leaves}
 use Rattle.demands.specs.Calls.{OpenStayed, ReadStayed, AllStayed, FeedStayed}
-use Rattle.demands.specs.Runs.{Beyond, Shorter}
+use Rattle.demands.specs.Runs.{Beyond, all_given, feed_given, Shorter}
 use Rattle.demands.specs.Cases.{wrong_number, or_else, recharge_number, opening_number, next_number, reading_number, Listed}
 
 -- ---- "Reader and judge take every input, broken ones included, and end."
 
 -- `statement` says that the function's own code meets its contract. It is total correctness: a call that meets what the contract asks
--- is safe and ends (the kit's guides/DESIGN.md, 'Where each guarantee comes from'); and nothing is asked
+-- is safe and ends (the kit's LANGUAGE.md, of what `logic=proved` says); and nothing is asked
 pub record TakesEveryInput (M : Type 1) : Type 2 where
   pub start_takes_every_input : start.Statement.statement M × AsksNothing judge_contracts.start.ended start.Reads.Asked
   pub sample_takes_every_input : sample.Statement.statement M × AsksNothing judge_contracts.sample.ended sample.Reads.Asked
@@ -187,10 +187,10 @@ pub record RefusedChangesNothing : Type 0 where
   -- `read_all` and `feed` take field after field. Where none was accepted, all is as it was; and what ends the call, a refusal or an unfinished field,
   -- leaves no trace: a call on the bytes of the accepted fields alone leaves the same
   pub read_all_none_accepted_changes_nothing : (c : AllCall) → c.answer.fields ≡ 0 → AllStayed c
-  pub read_all_refused_leaves_no_trace : (c d : AllCall) → Shorter c.answer.used c.args d.args
+  pub read_all_refused_leaves_no_trace : (c d : AllCall) → Shorter c.answer.used (all_given c) (all_given d)
       → (d.answer.reading ≡ c.answer.reading) × (d.lasts ≡ c.lasts)
   pub feed_none_accepted_changes_nothing : (c : FeedCall) → c.answer.used ≡ 0 → FeedStayed c
-  pub feed_refused_leaves_no_trace : (c d : FeedCall) → Shorter c.answer.used c.args d.args
+  pub feed_refused_leaves_no_trace : (c d : FeedCall) → Shorter c.answer.used (feed_given c) (feed_given d)
       → (d.answer.desk ≡ c.answer.desk) × (d.lasts ≡ c.lasts)
   -- "no figure"
   pub figures_of_refused_has_no_figure : (c : FiguresCall) → (c.answer.refusal ≡ 0 → ⊥) → c.answer.figures ≡ no_figures c.answer.refusal

@@ -37,7 +37,6 @@ use Rattle.values.specs.Limits.{is_method, are_amounts}
 use Rattle.ledger.specs.Row.{at, energy_all}
 use Rattle.map.specs.Map.{is_set, ones_of}
 use Rattle.state.specs.declared.Run.{Run}
-use Rattle.state.specs.State.{lent}
 use Rattle.state.specs.Refusals.{beside_by}
 use Rattle.judge.specs.declared.Answer.TheVariants as answer
 use Rattle.judge.specs.declared.ShownAnswer.TheVariants as counts

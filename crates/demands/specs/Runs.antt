@@ -1,7 +1,6 @@
 -- Whole runs, and records, by calls that keep the contracts: what each call is lent and leaves.
 -- Assumes nothing.
 use Rattle.std.specs.Prelude.{List, [], ◌∷◌, ◌++◌, ◌≡◌, ℕ, ◌≤◌, ℤ, length, take, drop}
-use Rattle.std.specs.Borrow.{Bor}
 use Rattle.rules.specs.declared.Amounts.{Amounts}
 use Rattle.rules.specs.declared.Method.{Method}
 use Rattle.rules.specs.declared.Moment.{Moment}
@@ -12,13 +11,14 @@ use Rattle.rules.specs.Plan.{Plan}
 use Rattle.rules.specs.Shown.{ledger_numbers, map_words}
 use Rattle.rules.specs.Values.{moments_in}
 use Rattle.state.specs.declared.Run.{Run}
-use Rattle.state.specs.State.{Memory, lent}
+use Rattle.state.specs.State.{Memory}
 use Rattle.judge.specs.declared.Answer.TheVariants.{Taken, Refused}
 use Rattle.reading.specs.declared.Reading.{Reading}
 use Rattle.sheet.specs.Overlaid.{most_sheet}
+use Rattle.desk.specs.declared.Desk.{Desk}
 use Rattle.desk.specs.declared.Outcome.TheVariants.{More}
 use Rattle.desk.specs.Feeding.{Laid, Lent, laid_of, empty_desk}
-use Rattle.demands.specs.Calls.{left, StartCall, SampleCall, BlockCall, ShownCall, TotalsCall, ClosingCall}
+use Rattle.demands.specs.Calls.{StartCall, SampleCall, BlockCall, ShownCall, TotalsCall, ClosingCall}
 use Rattle.demands.specs.Calls.{FiguresCall, ReadCall, AllCall, FeedCall, CloseCall, RefuseCall, VerdictCall, start_leaves, sample_leaves}
 use Rattle.demands.specs.Calls.{block_leaves}
 
@@ -33,38 +33,37 @@ pub record StartOn (b : List ℕ) (t : Tolerances) (y : Method) (l : List ℤ) (
   pub map : c.args.1.1.1.1.0.now ≡ m
 
 -- a later call: this run, this cycle and this memory
-pub record On (r : Run) (b : List ℕ) (l : List ℤ) (m : List ℕ) (run : Run) (cycle : Bor (List ℕ)) (ledger : Bor (List ℤ)) (map : Bor (List ℕ))
-    : Type 0 where
+pub record On (r : Run) (b : List ℕ) (l : List ℤ) (m : List ℕ) (run : Run) (cycle : List ℕ) (ledger : List ℤ) (map : List ℕ) : Type 0 where
   pub run_is : run ≡ r
-  pub cycle_is : cycle.now ≡ b
-  pub ledger_is : ledger.now ≡ l
-  pub map_is : map.now ≡ m
+  pub cycle_is : cycle ≡ b
+  pub ledger_is : ledger ≡ l
+  pub map_is : map ≡ m
 
 -- the closing's call also amounts, the figures' and the reader's a reading of that run
 module _ (r : Run) (b : List ℕ) (l : List ℤ) (m : List ℕ) where
   abbrev pub SampleOn : SampleCall → Type 0
-  SampleOn c = let (run, (cycle, (ledger, (map, _)))) = c.args in On r b l m run cycle ledger map
+  SampleOn c = let (run, (cycle, (ledger, (map, _)))) = c.args in On r b l m run cycle.now ledger.now map.now
 
   abbrev pub BlockOn : BlockCall → Type 0
-  BlockOn c = let (run, (cycle, (ledger, (map, _)))) = c.args in On r b l m run cycle ledger map
+  BlockOn c = let (run, (cycle, (ledger, (map, _)))) = c.args in On r b l m run cycle.now ledger.now map.now
 
   abbrev pub ShownOn : ShownCall → Type 0
-  ShownOn c = let (run, (cycle, (ledger, (map, _)))) = c.args in On r b l m run cycle ledger map
+  ShownOn c = let (run, (cycle, (ledger, (map, _)))) = c.args in On r b l m run cycle.now ledger.now map.now
 
   abbrev pub TotalsOn : TotalsCall → Type 0
-  TotalsOn c = let (run, (cycle, (ledger, (map, _)))) = c.args in On r b l m run cycle ledger map
+  TotalsOn c = let (run, (cycle, (ledger, (map, _)))) = c.args in On r b l m run cycle.now ledger.now map.now
 
   abbrev pub ClosingOn : ClosingCall → Type 0
-  ClosingOn c = let (run, (_, (cycle, (ledger, (map, _))))) = c.args in On r b l m run cycle ledger map
+  ClosingOn c = let (run, (_, (cycle, (ledger, (map, _))))) = c.args in On r b l m run cycle.now ledger.now map.now
 
   abbrev pub FiguresOn : FiguresCall → Type 0
-  FiguresOn c = let (reading, (cycle, (ledger, (map, _)))) = c.args in On r b l m reading.run cycle ledger map
+  FiguresOn c = let (reading, (cycle, (ledger, (map, _)))) = c.args in On r b l m reading.run cycle.now ledger.now map.now
 
   abbrev pub ReadOn : ReadCall → Type 0
-  ReadOn c = let (reading, (_, (cycle, (ledger, (map, _))))) = c.args in On r b l m reading.run cycle ledger map
+  ReadOn c = let (reading, (_, (cycle, (ledger, (map, _))))) = c.args in On r b l m reading.run cycle.now ledger.now map.now
 
   abbrev pub AllOn : AllCall → Type 0
-  AllOn c = let (reading, (_, (cycle, (ledger, (map, _))))) = c.args in On r b l m reading.run cycle ledger map
+  AllOn c = let (reading, (_, (cycle, (ledger, (map, _))))) = c.args in On r b l m reading.run cycle.now ledger.now map.now
 
 -- the sample of a call, and the bytes of a block's samples; the amounts; the reading, with the run r in it
 abbrev pub sample_in : SampleCall → Sample
@@ -166,14 +165,24 @@ closed_to c = take c.answer c.lasts.1.1.1.1.1.0
 abbrev pub refused_to : RefuseCall → List ℕ
 refused_to c = take c.answer c.lasts.1.1.0
 
--- state, input, bytes of the cycle or room for it, ledger, map: of `read_all` and `feed`
-abbrev pub Given : Type 0 → Type 0
-Given S = S × (Bor (List ℕ) × (Bor (List ℕ) × (Bor (List ℤ) × (Bor (List ℕ) × Unit {0}))))
+-- state, input, bytes of the cycle or room for it, ledger, map: what `read_all` and `feed` are given
+pub record Given (S : Type 0) : Type 0 where
+  pub state : S
+  pub input : List ℕ
+  pub bytes : List ℕ
+  pub ledger : List ℤ
+  pub map : List ℕ
+
+abbrev pub all_given : AllCall → Given Reading
+all_given c = let (r, (i, (b, (l, (m, _))))) = c.args in record { state = r; input = i.now; bytes = b.now; ledger = l.now; map = m.now }
+
+abbrev pub feed_given : FeedCall → Given Desk
+feed_given c = let (d, (i, (b, (l, (m, _))))) = c.args in record { state = d; input = i.now; bytes = b.now; ledger = l.now; map = m.now }
 
 -- b is a, but for its input: the first n bytes of a's
 pub record Shorter {S : Type 0} (n : ℕ) (a b : Given S) : Type 0 where
-  pub state : b.0 ≡ a.0
-  pub input : b.1.0.now ≡ take n a.1.0.now
-  pub bytes : b.1.1.0.now ≡ a.1.1.0.now
-  pub ledger : b.1.1.1.0.now ≡ a.1.1.1.0.now
-  pub map : b.1.1.1.1.0.now ≡ a.1.1.1.1.0.now
+  pub state : b.state ≡ a.state
+  pub input : b.input ≡ take n a.input
+  pub bytes : b.bytes ≡ a.bytes
+  pub ledger : b.ledger ≡ a.ledger
+  pub map : b.map ≡ a.map

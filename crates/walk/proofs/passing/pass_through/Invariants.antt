@@ -1,0 +1,14 @@
+-- `walk::passing::pass_through` meets its contract.
+use mathlib.Core.Path.{◌≡◌}
+use lib.ListN.{length}
+use Rattle.desk.specs.Feeding.{laid_of, empty_desk}
+use Rattle.walk.proofs.Going.{Passing}
+use Rattle.walk.proofs.passing.pass_through.Given as goal
+
+abbrev pub invariant-loop-left : goal.invariant-loop-left
+invariant-loop-left l =
+    ((length l.buffer ≡ length l.initial.buffer) × ((length l.room ≡ length l.initial.room) × ((length l.ledger ≡ length l.initial.ledger) × (length l.map ≡ length l.initial.map))))
+    × Passing (laid_of empty_desk l.initial.room l.initial.ledger l.initial.map) l.most l.walk l.left l.buffer l.room l.ledger l.map
+
+abbrev pub decreases-loop-left : goal.decreases-loop-left
+decreases-loop-left l = l.left
