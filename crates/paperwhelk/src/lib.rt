@@ -1,4 +1,4 @@
-// What is exported to C: the bench controller's question, and the sheet of a record.
+// What paperwhelk_c exports to C: the bench controller's question, and the sheet of a record.
 #![tactic(auto)]
 
 pub mod sheets;

@@ -1,4 +1,4 @@
-// The sheet of a record that is lent whole, exported to C.
+// The sheet of a record that is lent whole, for C.
 ghost use Rattle.std.specs.Prelude.{◌≡◌, ◌≤◌, length, take};
 ghost use Rattle.rules.specs.Cycle.{most_bytes};
 ghost use Rattle.rules.specs.Shown.{ledger_numbers, map_words};
@@ -48,8 +48,7 @@ fn hand_over(lines: &[u8], n: usize, out: &mut [u8]) -> i32
 }
 
 // How many bytes the record's sheet has, which stands at the front of out, or minus 16 where it does not fit.
-#[unsafe(no_mangle)]
-pub extern "C" fn paperwhelk_sheet(record: &[u8], out: &mut [u8]) -> i32
+pub fn paperwhelk_sheet(record: &[u8], out: &mut [u8]) -> i32
     ensures value { result ≡ sheet_answer (printed (sheet_of «record».now)) out.old }
     ensures out_after { out.new ≡ sheet_left (printed (sheet_of «record».now)) out.old }
     ensures record_len_bound { length (printed (sheet_of «record».now)) ≤ most_sheet }

@@ -1,4 +1,4 @@
-// The bench controller's question about one sample, exported to C.
+// The bench controller's question about one sample, for C.
 ghost use Rattle.std.specs.Prelude.{◌≡◌};
 ghost use Rattle.rules.specs.Question.{question};
 
@@ -8,8 +8,7 @@ use rules::Tolerances;
 const MOST_SPEED: u32 = rules::limits::MOST_SPEED as u32;
 
 // The verdict, 0 inside, 1 below, 2 above, or minus a refusal.
-#[unsafe(no_mangle)]
-pub extern "C" fn paperwhelk_verdict(
+pub fn paperwhelk_verdict(
     cycle: &[u8],
     speed_tol: u32,
     time_tol: u32,

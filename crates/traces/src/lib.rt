@@ -2,5 +2,5 @@
 #![tactic(auto)]
 
 pub mod closing;
-pub mod opening;
+pub mod heading;
 pub mod parts;

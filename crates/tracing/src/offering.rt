@@ -12,7 +12,7 @@ use rules::End;
 use sheet::lines::{end_line, number_line};
 use sources::stop_on;
 use state::Run;
-use traces::opening::{fields_line, plan_lines, stop_at_cycle, stop_in_e};
+use traces::heading::{fields_line, plan_lines, stop_at_cycle, stop_in_e};
 
 // The vehicle, the method, the cycle and the tolerances.
 pub fn opening_lines(out: &mut [u8], at: usize, reading: Reading, cycle: &[u8]) -> usize

@@ -1,11 +1,11 @@
 -- No doubt about `traces`: each contract has one answer, and those of the operations ask nothing.
 -- Assumes nothing.
 use Rattle.traces.specs.contracts
-use Rattle.traces.proofs.opening.method_line
-use Rattle.traces.proofs.opening.fields_line
-use Rattle.traces.proofs.opening.stop_at_cycle
-use Rattle.traces.proofs.opening.stop_in_e
-use Rattle.traces.proofs.opening.plan_lines
+use Rattle.traces.proofs.heading.method_line
+use Rattle.traces.proofs.heading.fields_line
+use Rattle.traces.proofs.heading.stop_at_cycle
+use Rattle.traces.proofs.heading.stop_in_e
+use Rattle.traces.proofs.heading.plan_lines
 use Rattle.traces.proofs.parts.phase_line
 use Rattle.traces.proofs.parts.row_line
 use Rattle.traces.proofs.parts.stretch_line

@@ -1,7 +1,7 @@
 -- `traces::opening::shortened_line` meets its contract.
 use native.Mathlib.Omega.{arith}
 use Rattle.sheet.proofs.Overlaid.{wrote_then, wrote_most}
-use Rattle.traces.proofs.opening.shortened_line.Goals as goal
+use Rattle.traces.proofs.heading.shortened_line.Goals as goal
 
 pub returns : goal.returns
 returns c =

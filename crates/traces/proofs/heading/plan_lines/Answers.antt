@@ -2,7 +2,7 @@
 use native.Mathlib.Omega.{arith}
 use Rattle.rules.specs.Trace.{plan_lines}
 use Rattle.sheet.proofs.Overlaid.{wrote_then, wrote_most}
-use Rattle.traces.proofs.opening.plan_lines.Goals as goal
+use Rattle.traces.proofs.heading.plan_lines.Goals as goal
 
 pub returns : goal.returns
 unfolding plan_lines

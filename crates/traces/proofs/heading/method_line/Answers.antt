@@ -1,7 +1,7 @@
 -- `traces::opening::method_line` meets its contract.
 use native.Mathlib.Omega.{arith}
 use Rattle.sheet.proofs.Overlaid.{wrote_most}
-use Rattle.traces.proofs.opening.method_line.Goals as goal
+use Rattle.traces.proofs.heading.method_line.Goals as goal
 
 pub returns-in-Regular : goal.returns-in-Regular
 returns-in-Regular c =

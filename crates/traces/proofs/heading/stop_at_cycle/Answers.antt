@@ -1,7 +1,7 @@
 -- `traces::opening::stop_at_cycle` meets its contract.
 use native.Mathlib.Omega.{arith}
 use Rattle.sheet.proofs.Overlaid.{wrote_then, wrote_most}
-use Rattle.traces.proofs.opening.stop_at_cycle.Goals as goal
+use Rattle.traces.proofs.heading.stop_at_cycle.Goals as goal
 
 pub returns : goal.returns
 returns c =

@@ -2,7 +2,7 @@
 use native.Mathlib.Omega.{arith}
 use Rattle.rules.specs.Trace.{fields_line}
 use Rattle.sheet.proofs.Overlaid.{wrote_then, wrote_most}
-use Rattle.traces.proofs.opening.fields_line.Goals as goal
+use Rattle.traces.proofs.heading.fields_line.Goals as goal
 
 pub returns : goal.returns
 unfolding fields_line

@@ -1,0 +1,12 @@
+-- `deskcard::all_records` meets its contract.
+use mathlib.Core.Path.{◌≡◌}
+use lib.ListN.{length}
+use Rattle.deskcard.proofs.all_records.Given as goal
+
+abbrev pub invariant-loop-turns : goal.invariant-loop-turns
+invariant-loop-turns l =
+    (length l.buffer ≡ length l.initial.buffer)
+    × ((length l.room ≡ length l.initial.room) × ((length l.ledger ≡ length l.initial.ledger) × ((length l.map ≡ length l.initial.map) × (length l.lines ≡ length l.initial.lines))))
+
+abbrev pub decreases-loop-turns : goal.decreases-loop-turns
+decreases-loop-turns l = l.turns
