@@ -129,8 +129,8 @@ module _ {b : List ℕ} {y : Method} {t t' : Tolerances} {l₀ k₀ : List ℤ} 
   wider_calls = record {
     wider_run_never_stops_earlier =
         let (no_less, stopped_too) = by_definition.wider_never_stops_earlier in
-        let shown = (run_shows h).state-shows.1 in
-        let shown' = (run_shows h').state-shows.1 in
+        let shown = (run_shows h).state_shows.1 in
+        let shown' = (run_shows h').state_shows.1 in
         (omega arith, λ e. stops_by_the_rules h (T_true _ (stopped_too (true_T (stops_only_by_the_rules h' e)))));
     wider_run_closes_no_less = omega (arith, by_definition.wider_closes_no_less, closes h, closes h');
     wider_run_finishes_phases = λ c k c<64 f.
@@ -155,7 +155,7 @@ module _ {b : List ℕ} {y : Method} {t : Tolerances} {l₀ k₀ : List ℤ} {m�
   longer_calls = record {
     longer_run_moves_no_stop = λ e.
         let (stopped_too, same) = as_defined.longer_moves_no_stop (true_T (stops_only_by_the_rules h e)) in
-        (stops_by_the_rules h' (T_true _ stopped_too), (run_shows h').state-shows.1 ∙ same ∙ sym (run_shows h).state-shows.1);
+        (stops_by_the_rules h' (T_true _ stopped_too), (run_shows h').state_shows.1 ∙ same ∙ sym (run_shows h).state_shows.1);
     longer_run_closes_no_less = omega (arith, as_defined.longer_closes_no_less, closes h, closes h');
     finished_phases_stay = λ c k c<64 f.
         phase_stays h h' c k c<64 f (as_defined.finished_phase_stays c k (by_the_rules h (phase_part (layout_of b y) c k) f));

@@ -68,7 +68,7 @@ module _ {p : Plan} {l₀ : List ℤ} {m₀ : List ℕ} {xs : List Moment} {r : 
 
   pub run_shows : RunShows p l₀ m₀ xs r l m
   run_shows = record {
-    state-shows = (shows.offered, shows.counted_is, shows.end_is, shows.held_is);
+    state_shows = (shows.offered, shows.counted_is, shows.end_is, shows.held_is);
     stretches_show = shows.stretched_is;
     ledger_shows = shows.ledger_shows;
     phase_energies = energies_in;

@@ -207,13 +207,13 @@ module _ {p : Plan} {l₀ : List ℤ} {m₀ : List ℕ} {xs : List Moment} {r : 
   -- ---- and one that never stops: "Demand 3 alone would admit a judge that never stops, so it is stated over demand 2's definition."
 
   pub stops_by_the_rules : stopped (course_of p) (moment_in xs) (length xs) ≡ true → r.progress.end ≡ stop
-  stops_by_the_rules e = (run_shows h).state-shows.2 ∙ rw e
+  stops_by_the_rules e = (run_shows h).state_shows.2 ∙ rw e
 
   pub stops_only_by_the_rules : r.progress.end ≡ stop → stopped (course_of p) (moment_in xs) (length xs) ≡ true
   stops_only_by_the_rules e =
       let c = course_of p in
       let s = moment_in xs in
-      ended (stopped c s (length xs)) (ltb (closed c s (length xs)) c.layout.most) (sym (run_shows h).state-shows.2 ∙ e)
+      ended (stopped c s (length xs)) (ltb (closed c s (length xs)) c.layout.most) (sym (run_shows h).state_shows.2 ∙ e)
     where
       ended : (x y : Bool) → cond x stop (cond y none limit) ≡ stop → x ≡ true
       ended true y q = refl

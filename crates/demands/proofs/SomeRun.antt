@@ -68,7 +68,7 @@ module _ (p : Plan) (l₀ : List ℤ) (m₀ : List ℕ) where
   one_more_lem : {ys : List Moment} (s : SomeRun p l₀ m₀ ys) (x : Sample) → is_sample x ≡ true → suc (length ys) ≤ most_offered → SomeRun p l₀ m₀ (ys ++ moment_of x ∷ [])
   unfolding sample_refusal
   one_more_lem s x ok room =
-      let offered = (run_shows s.driven).state-shows.0 in
+      let offered = (run_shows s.driven).state_shows.0 in
       let z : sample_refusal s.run p.cycle s.ledger s.map x ≡ 0 =
       runs.never_refused p l₀ m₀ (driven_reached p l₀ m₀ s.driven) _ ∙ sym (pass 7 (le-leb (s.run.progress.offered + 1) most_offered (omega arith)) (pass 5 ok refl)) in
       record {

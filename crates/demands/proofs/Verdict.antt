@@ -119,7 +119,7 @@ module _ {p : Plan} {l₀ : List ℤ} {m₀ : List ℕ} {xs : List Moment} {r : 
     s' = moment_in (xs ++ x ∷ [])
 
     goes : Going y lawful.near.soon (moment_in xs) n
-    goes = going y lawful.near.soon (moment_in xs) n (ap is_open (sym (run_shows h).state-shows.2 ∙ goes_on))
+    goes = going y lawful.near.soon (moment_in xs) n (ap is_open (sym (run_shows h).state_shows.2 ∙ goes_on))
 
     -- it is judged
     all_counted : counted y s' n ≡ n
@@ -150,7 +150,7 @@ module _ {p : Plan} {l₀ : List ℤ} {m₀ : List ℕ} {xs : List Moment} {r : 
       let z = (was_given _ _ r' (sym (sample_kept c on).answer ∙ ap answer_said e)).0 in
       let taken = one_accepted r b l m x z in
       let ok = taken.sample in
-      let few = few_here b sound_cycle p.method n row (omega (arith, taken.room, (run_shows h).state-shows.0)) in
+      let few = few_here b sound_cycle p.method n row (omega (arith, taken.room, (run_shows h).state_shows.0)) in
       let low : x.speed ≤ most_speed = leb-true x.speed most_speed (moment_low (moment_of x) (sample_moment x ok)) in
       let after = run_shows (takes h c on e) in
       let small : here < most_positions = omega (arith, there, sound_cycle.short) in (

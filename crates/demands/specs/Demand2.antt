@@ -74,7 +74,7 @@ module _ (p : Plan) (l₀ : List ℤ) (m₀ : List ℕ) (xs : List Moment) (r : 
 
   pub record RunShows : Type 0 where
     -- the state: how many samples were offered, how many of them count, how the run ended, and what is held of the open interval
-    pub state-shows :
+    pub state_shows :
         (r.progress.offered ≡ n) × (r.progress.counted ≡ counted y s n) × (r.progress.end ≡ ending y s n) × (r.progress.held ≡ held_of y s n)
     -- and what stretches M and E have of the intervals closed, and the watch over E of the samples counted; of a regular run nothing (document 02, L5)
     pub stretches_show : r.stretched ≡ stretched_of p s (closed y s n) (counted y s n)

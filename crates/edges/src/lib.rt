@@ -4,7 +4,7 @@
 ghost use Rattle.std.specs.Prelude.{true, ◌≡◌, ◌≤◌, length};
 ghost use Rattle.std.specs.Io.{WritesAtMost};
 ghost use Rattle.edges.specs.Answers.{meant, is_again, Within};
-ghost use Rattle.edges.specs.Answers.{input as theInput, output as theOutput, messages as theMessages};
+ghost use Rattle.edges.specs.Answers.{input as the_input, output as the_output, messages as the_messages};
 
 use std::io;
 use std::io::{Read, Write};
@@ -34,21 +34,21 @@ const TRIES: u64 = 18_446_744_073_709_551_615;
 
 // Standard input.
 fn input() -> i32
-    ensures { result ≡ theInput }
+    ensures { result ≡ the_input }
 {
     STDIN_FILENO
 }
 
 // Standard output.
 fn output() -> i32
-    ensures { result ≡ theOutput }
+    ensures { result ≡ the_output }
 {
     STDOUT_FILENO
 }
 
 // Standard error.
 fn messages() -> i32
-    ensures { result ≡ theMessages }
+    ensures { result ≡ the_messages }
 {
     STDERR_FILENO
 }

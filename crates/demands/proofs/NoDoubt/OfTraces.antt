@@ -15,19 +15,19 @@ use Rattle.traces.proofs.closing.charge_line
 use Rattle.demands.specs.Calls.{OneAnswer}
 use Rattle.demands.proofs.NoDoubt.{same}
 
-pub method_line_one_answer : OneAnswer contracts.opening.method_line.ended method_line.Reads.Learnt
+pub method_line_one_answer : OneAnswer contracts.heading.method_line.ended method_line.Reads.Learnt
 method_line_one_answer κs a r r' w w' p q = (same p.place q.place, λ i. (same p.bytes q.bytes i, (tt, (tt, tt))))
 
-pub fields_line_one_answer : OneAnswer contracts.opening.fields_line.ended fields_line.Reads.Learnt
+pub fields_line_one_answer : OneAnswer contracts.heading.fields_line.ended fields_line.Reads.Learnt
 fields_line_one_answer κs a r r' w w' p q = (same p.place q.place, λ i. (same p.bytes q.bytes i, (tt, (tt, (tt, (tt, tt))))))
 
-pub stop_at_cycle_one_answer : OneAnswer contracts.opening.stop_at_cycle.ended stop_at_cycle.Reads.Learnt
+pub stop_at_cycle_one_answer : OneAnswer contracts.heading.stop_at_cycle.ended stop_at_cycle.Reads.Learnt
 stop_at_cycle_one_answer κs a r r' w w' p q = (same p.place q.place, λ i. (same p.bytes q.bytes i, (tt, (tt, (tt, tt)))))
 
-pub stop_in_e_one_answer : OneAnswer contracts.opening.stop_in_e.ended stop_in_e.Reads.Learnt
+pub stop_in_e_one_answer : OneAnswer contracts.heading.stop_in_e.ended stop_in_e.Reads.Learnt
 stop_in_e_one_answer κs a r r' w w' p q = (same p.place q.place, λ i. (same p.bytes q.bytes i, (tt, tt)))
 
-pub plan_lines_one_answer : OneAnswer contracts.opening.plan_lines.ended plan_lines.Reads.Learnt
+pub plan_lines_one_answer : OneAnswer contracts.heading.plan_lines.ended plan_lines.Reads.Learnt
 plan_lines_one_answer κs a r r' w w' p q = (same p.place q.place, λ i. (same p.bytes q.bytes i, (tt, (tt, (tt, (tt, (tt, tt)))))))
 
 pub phase_line_one_answer : OneAnswer contracts.parts.phase_line.ended phase_line.Reads.Learnt

@@ -1,0 +1,2 @@
+-- Laws of the system's answers.
+pub mod Meanings
