@@ -5,6 +5,7 @@ use mathlib.Core.Path.{◌≡◌, refl, sym, ap, ◌∙◌}
 use Prim.Native.Nat.{ℕ}
 use lib.Dec.{eqb}
 use borrow.Author.Tests.{eqb-true, eqb-false}
+use native.Mathlib.Omega.{arith}
 use Rattle.rules.specs.Words.{settled}
 use Rattle.rules.specs.declared.Figure.{Figure}
 use Rattle.rules.specs.declared.Figure.TheVariants as figure
@@ -12,7 +13,11 @@ use Rattle.rules.specs.declared.Closing.{Closing}
 use Rattle.rules.specs.declared.ClosingAnswer.{ClosingAnswer}
 use Rattle.rules.specs.declared.ClosingAnswer.TheVariants.{Closed, Refused}
 use Rattle.rules.specs.Machine.{End, waiting, broken, stopped}
-use Rattle.laws.specs.Answers.{Said, gives, refuses, number_of, or_refused, Measure, is, absent, figure_said, Figured, figured_said, closing_said, end_said}
+use Rattle.std.specs.Prelude.{Result, Ok, Err, [], ◌∷◌, get_or}
+use Rattle.rules.specs.Numbered.{number}
+use Rattle.rules.specs.declared.Refusal.{Refusal}
+use Rattle.rules.specs.declared.Refusal.TheVariants as why
+use Rattle.laws.specs.Answers.{Said, gives, refuses, number_of, or_refused, answer_said, refused_by, Measure, is, absent, figure_said, Figured, figured_said, closing_said, end_said}
 
 -- what is said, by the number of a refusal
 module _ {A : Type 0} (n : ℕ) (x : Said A) where
@@ -95,3 +100,55 @@ same_closing (Closed x) (Closed y) e = ap Closed (same_figured x y (given_is e))
 same_closing (Closed x) (Refused n) e = absurd (given_refused e)
 same_closing (Refused n) (Closed y) e = absurd (given_refused (sym e))
 same_closing (Refused n) (Refused k) e = let same : n ≡ k = cc e in ap Refused same
+
+-- ---- refusals by their numbers
+
+-- none has the number 0, and no two have one
+pub numbered : (e : Refusal) → number e ≡ 0 → ⊥
+numbered why.Ground p = omega (arith, p)
+numbered why.Cycle p = omega (arith, p)
+numbered why.Tolerance p = omega (arith, p)
+numbered why.Vehicle p = omega (arith, p)
+numbered why.Sample p = omega (arith, p)
+numbered why.FirstNumber p = omega (arith, p)
+numbered why.Full p = omega (arith, p)
+numbered why.Field p = omega (arith, p)
+numbered why.Order p = omega (arith, p)
+numbered why.FewCycles p = omega (arith, p)
+numbered why.Energy p = omega (arith, p)
+numbered why.Rate p = omega (arith, p)
+numbered why.Range p = omega (arith, p)
+numbered why.Amount p = omega (arith, p)
+numbered why.Unfinished p = omega (arith, p)
+numbered why.Stretches p = omega (arith, p)
+
+refusal_of : ℕ → Refusal
+refusal_of n = get_or (why.Ground ∷ why.Ground ∷ why.Cycle ∷ why.Tolerance ∷ why.Vehicle ∷ why.Sample ∷ why.FirstNumber ∷ why.Full ∷ why.Field ∷ why.Order ∷ why.FewCycles ∷ why.Energy ∷ why.Rate ∷ why.Range ∷ why.Amount ∷ why.Unfinished ∷ why.Ground ∷ why.Ground ∷ why.Ground ∷ why.Stretches ∷ []) n why.Ground
+
+of_number : (e : Refusal) → refusal_of (number e) ≡ e
+unfolding refusal_of
+of_number why.Ground = refl
+of_number why.Cycle = refl
+of_number why.Tolerance = refl
+of_number why.Vehicle = refl
+of_number why.Sample = refl
+of_number why.FirstNumber = refl
+of_number why.Full = refl
+of_number why.Field = refl
+of_number why.Order = refl
+of_number why.FewCycles = refl
+of_number why.Energy = refl
+of_number why.Rate = refl
+of_number why.Range = refl
+of_number why.Amount = refl
+of_number why.Unfinished = refl
+of_number why.Stretches = refl
+
+pub same_refusal : (x y : Refusal) → number x ≡ number y → x ≡ y
+same_refusal = known_by number refusal_of of_number
+
+pub same_answer : {A : Type 0} (x y : Result A Refusal) → answer_said x ≡ answer_said y → x ≡ y
+same_answer (Ok x) (Ok y) e = ap Ok (given_is e)
+same_answer (Ok x) (Err n) e = absurd (given_refused e)
+same_answer (Err n) (Ok y) e = absurd (given_refused (sym e))
+same_answer (Err n) (Err k) e = let same : number n ≡ number k = cc e in ap Err (same_refusal n k same)

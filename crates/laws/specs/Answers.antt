@@ -1,7 +1,9 @@
 -- 'Numbered answers': what an answer says, whatever enum of the code it is. Beside each enum a definition says it of its cases; the promises use it.
 -- Assumes nothing.
-use Rattle.std.specs.Prelude.{ℕ}
+use Rattle.std.specs.Prelude.{ℕ, Result, Ok, Err}
 use Rattle.rules.specs.Words.{settled}
+use Rattle.rules.specs.Numbered.{number}
+use Rattle.rules.specs.declared.Refusal.{Refusal}
 use Rattle.rules.specs.declared.Figure.{Figure}
 use Rattle.rules.specs.declared.Figure.TheVariants as figure
 use Rattle.rules.specs.declared.Closing.{Closing}
@@ -22,6 +24,15 @@ number_of (refuses n) = n
 -- by the number of a refusal, 0 where there is none: the refusal, or what is said else
 abbrev pub or_refused : {A : Type 0} → ℕ → Said A → Said A
 or_refused n x = settled n x (refuses n)
+
+-- what an answer of the code says, and the number of its refusal, 0 where it is none
+abbrev pub answer_said : {A : Type 0} → Result A Refusal → Said A
+answer_said (Ok x) = gives x
+answer_said (Err e) = refuses (number e)
+
+abbrev pub refused_by : {A : Type 0} → Result A Refusal → ℕ
+refused_by (Ok x) = 0
+refused_by (Err e) = number e
 
 -- the recharge figure (`rules::Figure`), or "absent"
 pub data Measure : Type 0 where

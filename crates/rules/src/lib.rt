@@ -1,6 +1,9 @@
 // Document 01: the types that its rules speak of. The definitions are in specs/, their laws in proofs/.
 #![tactic(auto)]
 
+ghost use Rattle.std.specs.Prelude.{◌≡◌};
+ghost use Rattle.rules.specs.Numbered.{number};
+
 pub mod limits;
 
 // Speed in 0.1 km/h, voltage in 0.1 V, current in 0.1 A, negative while the battery is drained.
@@ -115,4 +118,54 @@ pub struct Gathered {
     pub distance: i64,
     pub begun: bool,
     pub finished: bool,
+}
+
+// 'Numbered answers': why something is refused.
+#[derive(Clone, Copy, Debug, PartialEq, Eq)]
+pub enum Refusal {
+    // "ledger, map or cycle room too short, or a number in ledger or state out of bounds"
+    Ground,
+    Cycle,
+    Tolerance,
+    Vehicle,
+    Sample,
+    FirstNumber,
+    // "offered, or passed over, would go above 4,000,000"
+    Full,
+    // "unknown tag, impossible length, wrong mark, tag 6 kind above 1"
+    Field,
+    Order,
+    FewCycles,
+    Energy,
+    Rate,
+    Range,
+    Amount,
+    Unfinished,
+    Stretches,
+}
+
+impl Refusal {
+    // Its number.
+    pub fn number(self) -> u32
+        ensures { result ≡ number self }
+    {
+        match self {
+            Refusal::Ground => 1,
+            Refusal::Cycle => 2,
+            Refusal::Tolerance => 3,
+            Refusal::Vehicle => 4,
+            Refusal::Sample => 5,
+            Refusal::FirstNumber => 6,
+            Refusal::Full => 7,
+            Refusal::Field => 8,
+            Refusal::Order => 9,
+            Refusal::FewCycles => 10,
+            Refusal::Energy => 11,
+            Refusal::Rate => 12,
+            Refusal::Range => 13,
+            Refusal::Amount => 14,
+            Refusal::Unfinished => 15,
+            Refusal::Stretches => 19,
+        }
+    }
 }

@@ -7,6 +7,7 @@ mod own;
 ghost use Rattle.std.specs.Prelude.{◌≡◌, true, ◌≤◌, ◌<◌};
 ghost use Rattle.rules.specs.Bench.{most_cycles};
 ghost use Rattle.rules.specs.Cycle.{seconds, valid};
+ghost use Rattle.laws.specs.Answers.{refused_by};
 ghost use Rattle.state.specs.State.{closed_by, end_or_zero, ends_of, is_run, is_lent, is_starts, run_ground};
 ghost use Rattle.state.specs.Refusals.{with_method, start_refusal, sample_refusal, beside_by, cycles_by, last_cycle};
 
@@ -16,7 +17,7 @@ use ledger::whole::is_bounded;
 use numbers::{less, smaller, wide};
 use own::{are_same, is_run};
 use rules::limits::{LEDGER_NUMBERS, MAP_WORDS, MOST_OFFERED};
-use rules::{End, Method, Moment, Sample, Tolerances};
+use rules::{End, Method, Moment, Refusal, Sample, Tolerances};
 use values::{is_method, is_sample, is_tolerable};
 
 // The seconds at which the phases end; 0 for a phase that does not exist.
@@ -74,19 +75,12 @@ pub struct Run {
 pub fn with_method(run: Run, method: Method) -> Run
     ensures { result ≡ with_method run method }
 {
-    let ends = run.track.ends;
-    let tolerances = run.track.tolerances;
-    let progress = run.progress;
-    let stretched = run.stretched;
     Run {
         track: Track {
-            seconds: run.track.seconds,
-            ends,
-            tolerances,
             method,
+            ..run.track
         },
-        progress,
-        stretched,
+        ..run
     }
 }
 
@@ -139,54 +133,68 @@ fn is_starts(run: Run, cycle: &[u8]) -> bool
     are_same(ends_of(cycle), run.track.ends)
 }
 
-// 1 or 2, or 0 where a started run's operation may go on.
-pub fn ground_refusal(run: Run, cycle: &[u8], ledger: &[i64], map: &[u64]) -> u32
-    ensures { result ≡ run_ground run cycle.now ledger.now map.now 0 }
+// 1 or 2, unless a started run's operation may go on.
+pub fn ground_refusal(
+    run: Run,
+    cycle: &[u8],
+    ledger: &[i64],
+    map: &[u64],
+) -> Result<(), Refusal>
+    ensures { refused_by result ≡ run_ground run cycle.now ledger.now map.now 0 }
 {
     if !is_lent(run, ledger, map) {
-        return 1;
+        return Err(Refusal::Ground);
     }
     if !is_starts(run, cycle) {
-        return 2;
+        return Err(Refusal::Cycle);
     }
-    0
+    Ok(())
 }
 
-pub fn start_refusal(cycle: &[u8], t: Tolerances, y: Method, ledger: &[i64], map: &[u64]) -> u32
-    ensures { result ≡ start_refusal cycle.now t y ledger.now map.now }
+pub fn start_refusal(
+    cycle: &[u8],
+    t: Tolerances,
+    y: Method,
+    ledger: &[i64],
+    map: &[u64],
+) -> Result<(), Refusal>
+    ensures { refused_by result ≡ start_refusal cycle.now t y ledger.now map.now }
 {
     if ledger.len() < LEDGER_NUMBERS {
-        return 1;
+        return Err(Refusal::Ground);
     }
     if map.len() < MAP_WORDS {
-        return 1;
+        return Err(Refusal::Ground);
     }
     if !is_cycle(cycle) {
-        return 2;
+        return Err(Refusal::Cycle);
     }
     if !is_tolerable(t) {
-        return 3;
+        return Err(Refusal::Tolerance);
     }
     if !is_method(y) {
-        return 19;
+        return Err(Refusal::Stretches);
     }
-    0
+    Ok(())
 }
 
-pub fn sample_refusal(run: Run, cycle: &[u8], ledger: &[i64], map: &[u64], x: Sample) -> u32
-    ensures { result ≡ sample_refusal run cycle.now ledger.now map.now x }
+pub fn sample_refusal(
+    run: Run,
+    cycle: &[u8],
+    ledger: &[i64],
+    map: &[u64],
+    x: Sample,
+) -> Result<(), Refusal>
+    ensures { refused_by result ≡ sample_refusal run cycle.now ledger.now map.now x }
 {
-    let a = ground_refusal(run, cycle, ledger, map);
-    if a != 0 {
-        return a;
-    }
+    ground_refusal(run, cycle, ledger, map)?;
     if MOST_OFFERED <= run.progress.offered {
-        return 7;
+        return Err(Refusal::Full);
     }
     if !is_sample(x) {
-        return 5;
+        return Err(Refusal::Sample);
     }
-    0
+    Ok(())
 }
 
 // How many intervals are closed.
