@@ -75,13 +75,11 @@ pub struct Run {
 pub fn with_method(run: Run, method: Method) -> Run
     ensures { result ≡ with_method run method }
 {
-    Run {
-        track: Track {
-            method,
-            ..run.track
-        },
-        ..run
-    }
+    let track = Track {
+        method,
+        ..run.track
+    };
+    Run { track, ..run }
 }
 
 // The end of phase k, and 0 where there is no such phase.
@@ -134,12 +132,7 @@ fn is_starts(run: Run, cycle: &[u8]) -> bool
 }
 
 // 1 or 2, unless a started run's operation may go on.
-pub fn ground_refusal(
-    run: Run,
-    cycle: &[u8],
-    ledger: &[i64],
-    map: &[u64],
-) -> Result<(), Refusal>
+pub fn ground_refusal(run: Run, cycle: &[u8], ledger: &[i64], map: &[u64]) -> Result<(), Refusal>
     ensures { refused_by result ≡ run_ground run cycle.now ledger.now map.now 0 }
 {
     if !is_lent(run, ledger, map) {
