@@ -122,10 +122,10 @@ numbered why.Amount p = omega (arith, p)
 numbered why.Unfinished p = omega (arith, p)
 numbered why.Stretches p = omega (arith, p)
 
-refusal_of : ℕ → Refusal
+pub refusal_of : ℕ → Refusal
 refusal_of n = get_or (why.Ground ∷ why.Ground ∷ why.Cycle ∷ why.Tolerance ∷ why.Vehicle ∷ why.Sample ∷ why.FirstNumber ∷ why.Full ∷ why.Field ∷ why.Order ∷ why.FewCycles ∷ why.Energy ∷ why.Rate ∷ why.Range ∷ why.Amount ∷ why.Unfinished ∷ why.Ground ∷ why.Ground ∷ why.Ground ∷ why.Stretches ∷ []) n why.Ground
 
-of_number : (e : Refusal) → refusal_of (number e) ≡ e
+pub of_number : (e : Refusal) → refusal_of (number e) ≡ e
 unfolding refusal_of
 of_number why.Ground = refl
 of_number why.Cycle = refl
