@@ -152,3 +152,7 @@ same_answer (Ok x) (Ok y) e = ap Ok (given_is e)
 same_answer (Ok x) (Err n) e = absurd (given_refused e)
 same_answer (Err n) (Ok y) e = absurd (given_refused (sym e))
 same_answer (Err n) (Err k) e = let same : number n ≡ number k = cc e in ap Err (same_refusal n k same)
+
+-- what is answered, and what that is
+pub ok_is : {A E : Type 0} {r : Result A E} {x y : A} → r ≡ Ok x → x ≡ y → r ≡ Ok y
+ok_is p q = p ∙ ap Ok q

@@ -30,10 +30,8 @@ pub fn is_reading(r: Reading) -> bool
     if MOST_PASSED < r.passed {
         return false;
     }
-    let amounts = r.amounts;
-    if !are_amounts(amounts) {
+    if !are_amounts(r.amounts) {
         return false;
     }
-    let vehicle = r.vehicle;
-    is_number(&vehicle[..])
+    is_number(&r.vehicle)
 }
