@@ -10,7 +10,7 @@ ghost use Rattle.reader.specs.Answers.{read_said, all_said, ending_said, read_le
 use fields::{Front, front_of};
 use opening::{OpenAnswer, OpenStep, Opening};
 use reading::{Reading, Step};
-use rules::{Amounts, Charge};
+use rules::Amounts;
 use state::Run;
 
 // Whether the input may end here.
@@ -91,7 +91,7 @@ pub fn reading_of(opening: Opening, run: Run) -> Reading
         amounts: Amounts {
             before: 0,
             after: 0,
-            charge: Charge::Absent,
+            charge: None,
         },
         run,
     }

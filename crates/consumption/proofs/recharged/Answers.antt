@@ -14,9 +14,8 @@ use Rattle.numbers.proofs.Whole.{le_up, le_not, abs_is, sized_add}
 use Rattle.numbers.proofs.Signed.{read, sum_fits, sum_read}
 use Rattle.wide.specs.Ratio.{ratio}
 use Rattle.wide.proofs.Answers.{is_quotient, over_quotient}
-use Rattle.rules.specs.declared.Charge.TheVariants.{Wh as wh}
-use Rattle.rules.specs.declared.Figure.TheVariants.{Is}
-use Rattle.rules.specs.Closing.{recharge, recharge_figure, recharge_refusal, recharge_by}
+use Rattle.std.specs.Prelude.{Some as wh}
+use Rattle.rules.specs.Closing.{Is, recharge, recharge_figure, recharge_refusal, recharge_by}
 use Rattle.laws.specs.Answers.{Said, gives, refuses, Measure, is, figure_said}
 use Rattle.laws.proofs.Answers.{figure_or}
 use Rattle.laws.specs.Beside.{most_transfer, most_whole}
