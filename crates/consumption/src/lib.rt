@@ -21,7 +21,7 @@ use gathering::gather_cycles;
 use ledger::totals::energy_from;
 use rules::limits::MOST_RATE;
 use rules::{Amounts, Closing};
-use wide::Ratio;
+use wide::Parts;
 
 // A cycle's energy, 0 where it is below 0, and its q, 0 where it has no distance.
 #[derive(Clone, Copy)]
@@ -52,7 +52,7 @@ fn whole_energy(ledger: &[i64], n: usize, finished: u64, beside: i64, before: i6
 }
 
 // The three products over one divisor, k the number of cycles after the second.
-fn weigh(k: u64, total: u64, e1: u64, e2: u64, q1: u64, q2: u64, s: u64) -> Ratio
+fn weigh(k: u64, total: u64, e1: u64, e2: u64, q1: u64, q2: u64, s: u64) -> Option<Parts>
     requires { (k ≤ 62) × (total ≤ most_whole) × (e1 + e2 ≤ total) × (q1 ≤ most_rate) × (q2 ≤ most_rate) }
     ensures { result ≡ ratio (k * (q1 * e1 + q2 * e2) + (total - e1 - e2) * s) (total * k) }
 {
@@ -73,21 +73,19 @@ fn weighted_of(g: Gathered, n: usize, total: u64) -> u64
     match weigh(
         k, total, one.energy, two.energy, one.rate, two.rate, g.rates,
     ) {
-        Ratio::Is(w, _) => w,
-        Ratio::Over => 0,
+        Some(w) => w.q,
+        None => 0,
     }
 }
 
 // E × A × 1,000,000 by the range, then by `both`, which is E + F: of total = a × range + b, b's part first.
-fn divided(total: u64, both: u64, wh: u64, range: u64) -> Ratio
+fn divided(total: u64, both: u64, wh: u64, range: u64) -> Option<Parts>
     requires { (wh ≤ most_charge) × (1 ≤ range) × (range < 2 ^ 51) }
     ensures { result ≡ ratio (total * wh * 1000000 / range) both }
 {
     let y = wh * 1_000_000;
-    match wide::muldiv(total % range, y, range) {
-        Ratio::Is(t, _) => wide::more(wide::whole(t, both), total / range, y, both),
-        Ratio::Over => Ratio::Over,
-    }
+    let t = wide::muldiv(total % range, y, range)?;
+    wide::more(wide::whole(t.q, both), total / range, y, both)
 }
 
 // The recharge figure, of the whole energy total and the transfer energy after the test: 14, 12, or the figure.
@@ -100,15 +98,11 @@ fn recharged(range: u64, total: i64, after: i64, wh: u32) -> Result<Option<u64>,
     if both < 1 {
         return Err(14);
     }
-    match divided(total as u64, both as u64, wh as u64, range) {
-        Ratio::Is(r, _) => {
-            if MOST_RATE < r {
-                return Err(12);
-            }
-            Ok(Some(r))
-        }
-        Ratio::Over => Err(12),
+    let r = divided(total as u64, both as u64, wh as u64, range).ok_or(12u32)?;
+    if MOST_RATE < r.q {
+        return Err(12);
     }
+    Ok(Some(r.q))
 }
 
 // Absent where there is no recharge.
@@ -175,6 +169,5 @@ pub fn close(
     if !g.rated {
         return Err(12);
     }
-    let charge = a.charge;
-    finish(g, n, total, a.after, charge)
+    finish(g, n, total, a.after, a.charge)
 }
