@@ -12,7 +12,7 @@ ghost use Rattle.consumption.specs.Figures.{closing_on};
 ghost use Rattle.closing.specs.Answers.{grounds, closing_answer};
 
 use rules::limits::{LEAST_FINISHED, LEAST_SHORTENED};
-use rules::{Amounts, ClosingAnswer, Method, Refusal};
+use rules::{Amounts, Closing, Method, Refusal};
 use state::{Run, beside_of, cycles_of, ground_refusal};
 use values::are_amounts;
 
@@ -43,7 +43,7 @@ fn least_finished(y: Method) -> usize
 }
 
 // The closing of a run, amounts and a ledger without 1: 10, 11, 12, 13, or the figures together.
-pub fn close_on(run: Run, amounts: Amounts, ledger: &[i64]) -> ClosingAnswer
+pub fn close_on(run: Run, amounts: Amounts, ledger: &[i64]) -> Result<Closing, u32>
     requires { (is_run run ≡ true) × (are_amounts amounts ≡ true) × (bounded ledger.now ≡ true) }
     ensures { closing_said result
         ≡ closing_said (closing_on ledger.now (beside_by run) (least_finished run.track.method) (cycles_by run) amounts) }
@@ -55,11 +55,17 @@ pub fn close_on(run: Run, amounts: Amounts, ledger: &[i64]) -> ClosingAnswer
 }
 
 // The closing: 1, 2, 10, 11, 12, 13, or weighted consumption and range with the recharge figure, absent, or its refusal 14, 12.
-pub fn close(run: Run, amounts: Amounts, cycle: &[u8], ledger: &[i64], map: &[u64]) -> ClosingAnswer
+pub fn close(
+    run: Run,
+    amounts: Amounts,
+    cycle: &[u8],
+    ledger: &[i64],
+    map: &[u64],
+) -> Result<Closing, u32>
     ensures { closing_said result ≡ closing_answer run amounts cycle.now ledger.now map.now }
 {
     if let Err(refusal) = grounds_refusal(run, amounts, cycle, ledger, map) {
-        return ClosingAnswer::Refused(refusal.number());
+        return Err(refusal.number());
     }
     close_on(run, amounts, ledger)
 }

@@ -6,12 +6,9 @@ use lib.Dec.{eqb}
 use lib.IntN.{ℤ}
 use lib.ListN.{drop}
 use Rattle.rules.specs.Words.{unless}
-use Rattle.rules.specs.declared.Charge.{Charge}
-use Rattle.rules.specs.declared.Charge.TheVariants.{Absent as absent, Wh as wh}
+use Rattle.rules.specs.Closing.{Charge, Is, recharge_figure, recharge_refusal, recharge_by}
+use Rattle.std.specs.Prelude.{None as absent, Some as wh, Ok as Closed}
 use Rattle.rules.specs.declared.Closing.{Closing}
-use Rattle.rules.specs.declared.ClosingAnswer.TheVariants.{Closed}
-use Rattle.rules.specs.declared.Figure.TheVariants.{Is}
-use Rattle.rules.specs.Closing.{recharge_figure, recharge_refusal, recharge_by}
 use Rattle.laws.specs.Answers.{Said, number_of, figure_said, figured_said, closing_said}
 use Rattle.laws.proofs.Answers.{number_said, was_given, given_is, figure_or, same_figured}
 use Rattle.state.specs.declared.Run.{Run}

@@ -11,11 +11,9 @@ use lib.IntN.{ℤ}
 use lib.ListN.{length}
 use Rattle.rules.specs.Words.{unless}
 use Rattle.rules.specs.declared.Amounts.{Amounts}
-use Rattle.rules.specs.declared.Charge.{Charge}
-use Rattle.rules.specs.declared.Charge.TheVariants.{Absent as absent, Wh as wh}
+use Rattle.rules.specs.Closing.{Charge, Is, recharge_figure, recharge_refusal, recharge_by}
+use Rattle.std.specs.Prelude.{None as absent, Some as wh}
 use Rattle.rules.specs.declared.Closing.{Closing}
-use Rattle.rules.specs.declared.Figure.TheVariants.{Is}
-use Rattle.rules.specs.Closing.{recharge_figure, recharge_refusal, recharge_by}
 use Rattle.rules.specs.Table.{Matter, behind_tolerances, tags}
 use Rattle.rules.specs.Machine.{Reply, to_field, not_yet, no_field, taken, passed, refused, End, waiting, broken, stopped, Ran, run}
 use Rattle.rules.specs.Record.{Told, content_at, bring_at, more_passed, take_field, untold, told, refused_at, sheet_by, sheet_of}

@@ -1,5 +1,6 @@
 -- Demand 2 of a whole run: "such a call is never refused 1 or 2", of every later call.
 -- Assumes nothing.
+use Rattle.std.specs.Prelude.{Err}
 use mathlib.Core.Bool.{true}
 use mathlib.Core.List.{List}
 use mathlib.Core.Path.{◌≡◌, refl, sym, ap, ◌∙◌}
@@ -25,10 +26,7 @@ use Rattle.judge.specs.declared.TotalsAnswer.{TotalsAnswer}
 use Rattle.judge.specs.declared.TotalsAnswer.TheVariants as sums
 use Rattle.judge.specs.Answers.{answer_said, shown_said, totals_said}
 use Rattle.judge.proofs.Runs as runs
-use Rattle.rules.specs.declared.ClosingAnswer.{ClosingAnswer}
-use Rattle.rules.specs.declared.ClosingAnswer.TheVariants as closings
-use Rattle.rules.specs.declared.Figure.{Figure}
-use Rattle.rules.specs.declared.Figure.TheVariants as fig
+use Rattle.rules.specs.Closing.{ClosingAnswer, Figure}
 use Rattle.closing.specs.Answers.{whole, refusal_of}
 use Rattle.reading.specs.declared.Reading.{Reading}
 use Rattle.reading.specs.declared.Step.{Step}
@@ -65,10 +63,10 @@ module _ {p : Plan} {l₀ : List ℤ} {m₀ : List ℕ} {xs : List Moment} {r : 
       by_number (λ (z : Answer). number_of (answer_said z)) answer.Refused (λ k. refl) (has_its_number.block_number c ∙ grounded on _)
       (unless_neither _ (omega arith) (unless_neither _ (omega arith) (unless_neither _ (omega arith) (unless_neither _ (omega arith) zero_neither))))
 
-  closing_call_neither : (c : ClosingCall) → ClosingOn r p.cycle l m c → are_amounts (closing_amounts c) ≡ true → Neither1Nor2 closings.Refused c.answer
+  closing_call_neither : (c : ClosingCall) → ClosingOn r p.cycle l m c → are_amounts (closing_amounts c) ≡ true → Neither1Nor2 Err c.answer
   unfolding refusal_of
   closing_call_neither c on ok =
-      by_number (λ (z : ClosingAnswer). number_of (closing_said z)) closings.Refused (λ k. refl)
+      by_number (λ (z : ClosingAnswer). number_of (closing_said z)) Err (λ k. refl)
       (has_its_number.closing_number c ∙ sym (pass 1 ok (sym (grounded on _)))) (closing_neither _ _ _ _ _)
 
   reading_neither : (reading : Reading) (cycle : List ℕ) (ledger : List ℤ) (map : List ℕ) → On r p.cycle l m reading.run cycle ledger map
@@ -87,7 +85,7 @@ module _ {p : Plan} {l₀ : List ℤ} {m₀ : List ℕ} {xs : List Moment} {r : 
     closing = closing_call_neither;
     recharge = λ c x is.
         let (r, (a, (b, (l, (m, _))))) = c.args in
-        by_number (λ (z : Figure). number_of (figure_said z)) fig.Refused (λ k. refl) (has_its_number.recharge_number_lem c x is)
+        by_number (λ (z : Figure). number_of (figure_said z)) Err (λ k. refl) (has_its_number.recharge_number_lem c x is)
         (recharge_neither (whole r a b.now l.now m.now) x.range a.after a.charge);
     figures = λ c on ok. ap (λ (x : Found). x.refusal) ((run_answers h).figures_of_run c on ok);
     read = λ c on ok.

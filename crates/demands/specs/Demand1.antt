@@ -1,11 +1,9 @@
 -- Demand 1: "Reader and judge take every input, broken ones included, and end. .. Each refusal has a number, adds nothing to the run, changes no lent memory."
 -- Stated here, over all that is known by the contracts; proved in proofs/ (`demand_1`).
 -- Assumes nothing.
-use Rattle.std.specs.Prelude.{List, ◌≡◌, ℕ, ◌<◌, eqb, length, drop}
+use Rattle.std.specs.Prelude.{Ok, Err, List, ◌≡◌, ℕ, ◌<◌, eqb, length, drop}
 use Rattle.rules.specs.Words.{unless}
-use Rattle.rules.specs.declared.Figure.TheVariants as figure
 use Rattle.rules.specs.declared.Closing.{Closing}
-use Rattle.rules.specs.declared.ClosingAnswer.TheVariants as closings
 use Rattle.rules.specs.Record.{refused_at, sheet_of}
 use Rattle.rules.specs.Table.{tags}
 use Rattle.rules.specs.Front.{front_of}
@@ -70,12 +68,7 @@ use Rattle.walk.proofs.whole.list_record
 use Rattle.paperwhelk.specs.contracts as paperwhelk_contracts
 use Rattle.paperwhelk.proofs.verdict.paperwhelk_verdict
 use Rattle.paperwhelk.proofs.sheets.paperwhelk_sheet
-use Rattle.demands.specs.Calls.{AsksNothing, left, StartCall, SampleCall, BlockCall, ShownCall, TotalsCall, ClosingCall}
-use Rattle.demands.specs.Calls.{FrontCall, ContentCall, OpenCall, ReadCall, AllCall, EndedCall, FiguresCall}
-use Rattle.demands.specs.Calls.{SheetCall, RefusalCall, FeedCall, CloseCall, RefuseCall, TraceCall, RecordSheetCall}
-use Rattle.demands.specs.Calls.{start_lent, start_leaves, sample_lent, sample_leaves}
-use Rattle.demands.specs.Calls.{block_lent, block_leaves, open_lent, open_leaves, read_lent, read_leaves, all_lent, all_leaves, feed_lent, feed_leaves}
-use Rattle.demands.specs.Calls.{OpenStayed, ReadStayed, AllStayed, FeedStayed}
+use Rattle.demands.specs.Calls.{AsksNothing, left, StartCall, SampleCall, BlockCall, ShownCall, TotalsCall, ClosingCall, FrontCall, ContentCall, OpenCall, ReadCall, AllCall, EndedCall, FiguresCall, SheetCall, RefusalCall, FeedCall, CloseCall, RefuseCall, TraceCall, RecordSheetCall, start_lent, start_leaves, sample_lent, sample_leaves, block_lent, block_leaves, open_lent, open_leaves, read_lent, read_leaves, all_lent, all_leaves, feed_lent, feed_leaves, OpenStayed, ReadStayed, AllStayed, FeedStayed}
 use Rattle.demands.specs.Runs.{Beyond, all_given, feed_given, Shorter}
 use Rattle.demands.specs.Cases.{wrong_number, or_else, recharge_number, opening_number, next_number, reading_number, Listed}
 
@@ -132,7 +125,7 @@ pub record HasItsNumber : Type 0 where
   pub closing_number : (c : ClosingCall) → (let (r, (a, (b, (l, (m, _))))) = c.args in
       number_of (closing_said c.answer) ≡ refusal_of r a b.now l.now m.now)
   -- "Recharge: whatever closing refuses, then absent, 14, 12."
-  pub recharge_number_lem : (c : ClosingCall) (x : Closing) → c.answer ≡ closings.Closed x → (let (r, (a, (b, (l, (m, _))))) = c.args in
+  pub recharge_number_lem : (c : ClosingCall) (x : Closing) → c.answer ≡ Ok x → (let (r, (a, (b, (l, (m, _))))) = c.args in
       number_of (figure_said x.recharge) ≡ recharge_number (whole r a b.now l.now m.now) x.range a.after a.charge)
   -- the figures of the report: 1 and 2, as of `read`
   pub figures_of_number : (c : FiguresCall) → (let (r, (b, (l, (m, _)))) = c.args in
@@ -163,8 +156,8 @@ pub record InTheList : Type 0 where
   pub block_listed : (c : BlockCall) (n : ℕ) → c.answer ≡ answer.Refused n → Listed n
   pub shown_listed : (c : ShownCall) (n : ℕ) → c.answer ≡ counts.Refused n → Listed n
   pub totals_listed : (c : TotalsCall) (n : ℕ) → c.answer ≡ sums.Refused n → Listed n
-  pub closing_listed : (c : ClosingCall) (n : ℕ) → c.answer ≡ closings.Refused n → Listed n
-  pub recharge_listed : (c : ClosingCall) (x : Closing) → c.answer ≡ closings.Closed x → (n : ℕ) → x.recharge ≡ figure.Refused n → Listed n
+  pub closing_listed : (c : ClosingCall) (n : ℕ) → c.answer ≡ Err n → Listed n
+  pub recharge_listed : (c : ClosingCall) (x : Closing) → c.answer ≡ Ok x → (n : ℕ) → x.recharge ≡ Err n → Listed n
   pub open_listed : (c : OpenCall) (n : ℕ) → c.answer.step ≡ opening.Refused n → Listed n
   pub read_listed : (c : ReadCall) (n : ℕ) → c.answer.step ≡ step.Refused n → Listed n
   pub read_all_listed : (c : AllCall) (n : ℕ) → c.answer.last ≡ step.Refused n → Listed n

@@ -5,12 +5,10 @@
 -- judges that it shuts out in ShutOut.antt.
 -- Proved in proofs/ (`demand_2`).
 -- Assumes nothing.
-use Rattle.std.specs.Prelude.{true, not, List, ◌++◌, ◌≡◌, ℕ, suc, ◌+◌, ◌*◌, ◌≤◌, ◌<◌, eqb, ℤ, pos, ◌+ℤ◌, length, drop}
+use Rattle.std.specs.Prelude.{Ok, Err, true, not, List, ◌++◌, ◌≡◌, ℕ, suc, ◌+◌, ◌*◌, ◌≤◌, ◌<◌, eqb, ℤ, pos, ◌+ℤ◌, length, drop}
 use Rattle.rules.specs.Words.{every}
 use Rattle.rules.specs.declared.End.TheVariants.{None as none}
-use Rattle.rules.specs.declared.Figure.TheVariants as figure
 use Rattle.rules.specs.declared.Closing.{Closing}
-use Rattle.rules.specs.declared.ClosingAnswer.TheVariants as closings
 use Rattle.rules.specs.declared.Method.{Method}
 use Rattle.rules.specs.declared.Moment.{Moment}
 use Rattle.rules.specs.declared.Sample.{Sample}
@@ -48,11 +46,8 @@ use Rattle.sheet.specs.Overlaid.{most_sheet}
 use Rattle.desk.specs.declared.Outcome.TheVariants as outcome
 use Rattle.desk.specs.Feeding.{wanted, outcome_said, Laid, Lent, stops, desk_ground, feed_of}
 use Rattle.prints.specs.Printed.{next_field}
-use Rattle.demands.specs.Calls.{SampleCall, BlockCall, ShownCall, TotalsCall, ClosingCall}
-use Rattle.demands.specs.Calls.{FiguresCall, ReadCall, AllCall, FeedCall, CloseCall, RefuseCall, VerdictCall}
-use Rattle.demands.specs.Runs.{SampleOn, BlockOn, ShownOn, TotalsOn, ClosingOn, FiguresOn, ReadOn, AllOn}
-use Rattle.demands.specs.Runs.{sample_in, closing_amounts, Driven, FeedOn, laid_by, FedIn, CloseOn}
-use Rattle.demands.specs.Runs.{RefuseOn, closed_to, refused_to, AskedOn, SomeRun, SomeClose}
+use Rattle.demands.specs.Calls.{SampleCall, BlockCall, ShownCall, TotalsCall, ClosingCall, FiguresCall, ReadCall, AllCall, FeedCall, CloseCall, RefuseCall, VerdictCall}
+use Rattle.demands.specs.Runs.{SampleOn, BlockOn, ShownOn, TotalsOn, ClosingOn, FiguresOn, ReadOn, AllOn, sample_in, closing_amounts, Driven, FeedOn, laid_by, FedIn, CloseOn, RefuseOn, closed_to, refused_to, AskedOn, SomeRun, SomeClose}
 use Rattle.demands.specs.Cases.{Neither1Nor2}
 use Rattle.demands.specs.Rows.{moments_of}
 use Rattle.demands.specs.Range.{PrintsNear}
@@ -128,10 +123,10 @@ module _ (p : Plan) (l₀ : List ℤ) (m₀ : List ℕ) (xs : List Moment) (r : 
     pub recharge_aside : (c : ClosingCall) → ClosingOn r p.cycle l m c → are_amounts (closing_amounts c) ≡ true
         → (let a = closing_amounts c in
         closing_refusal (E a.before) (cycles_in p xs) (energies p xs) (distances p xs) (least_finished p.method) ≡ 0
-        → c.answer ≡ closings.Closed (closing_figures (E a.before) (cycles_in p xs) (energies p xs) (distances p xs) a.after a.charge))
+        → c.answer ≡ Ok (closing_figures (E a.before) (cycles_in p xs) (energies p xs) (distances p xs) a.after a.charge))
     -- document 02, L11: W and range lie near what is unrounded
     pub closed_near : (c : ClosingCall) → ClosingOn r p.cycle l m c → are_amounts (closing_amounts c) ≡ true
-        → (x : Closing) → c.answer ≡ closings.Closed x → NearRun p xs (closing_amounts c).before x.weighted x.range
+        → (x : Closing) → c.answer ≡ Ok x → NearRun p xs (closing_amounts c).before x.weighted x.range
 
   -- "such a call is never refused 1 or 2", of every later call
   pub record NeverRefused : Type 0 where
@@ -140,8 +135,8 @@ module _ (p : Plan) (l₀ : List ℤ) (m₀ : List ℕ) (xs : List Moment) (r : 
     pub shown : (c : ShownCall) → ShownOn r p.cycle l m c → Neither1Nor2 counts.Refused c.answer
     pub totals : (c : TotalsCall) → TotalsOn r p.cycle l m c → Neither1Nor2 sums.Refused c.answer
     -- with amounts within their limits
-    pub closing : (c : ClosingCall) → ClosingOn r p.cycle l m c → are_amounts (closing_amounts c) ≡ true → Neither1Nor2 closings.Refused c.answer
-    pub recharge : (c : ClosingCall) (x : Closing) → c.answer ≡ closings.Closed x → Neither1Nor2 figure.Refused x.recharge
+    pub closing : (c : ClosingCall) → ClosingOn r p.cycle l m c → are_amounts (closing_amounts c) ≡ true → Neither1Nor2 Err c.answer
+    pub recharge : (c : ClosingCall) (x : Closing) → c.answer ≡ Ok x → Neither1Nor2 Err x.recharge
     -- with a reading whose own numbers are within their limits
     pub figures : (c : FiguresCall) → FiguresOn r p.cycle l m c → is_reading c.args.0 ≡ true → c.answer.refusal ≡ 0
     pub read : (c : ReadCall) → ReadOn r p.cycle l m c → is_reading c.args.0 ≡ true → Neither1Nor2 step.Refused c.answer.step

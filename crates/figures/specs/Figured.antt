@@ -1,8 +1,7 @@
 -- The figures that the report prints, read off a reading and its ledger.
 -- Assumes nothing.
-use Rattle.std.specs.Prelude.{true, List, ◌≡◌, ℕ, ℤ, pos, ◌+ℤ◌, replicate}
+use Rattle.std.specs.Prelude.{true, List, ◌≡◌, ℕ, ℤ, pos, ◌+ℤ◌, replicate, Err as Refused}
 use Rattle.rules.specs.Words.{settled}
-use Rattle.rules.specs.declared.ClosingAnswer.TheVariants.{Refused}
 use Rattle.rules.specs.declared.End.TheVariants.{None as none}
 use Rattle.rules.specs.declared.Figures.{Figures}
 use Rattle.rules.specs.Closing.{least_finished}

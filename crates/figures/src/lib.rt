@@ -5,7 +5,7 @@ ghost use Rattle.std.specs.Prelude.{◌≡◌};
 ghost use Rattle.figures.specs.Figured.{Figurable, figures_of, blank, found_of};
 
 use reading::{Reading, read_refusal};
-use rules::{ClosingAnswer, End, Figures};
+use rules::{End, Figures};
 
 // The figures, or the number of a refusal, 1 or 2, beside which they are blank.
 #[derive(Clone, Copy)]
@@ -26,7 +26,7 @@ fn blank_figures(refusal: u32) -> Figures
         outside: 0,
         passed: 0,
         drawn: 0,
-        closing: ClosingAnswer::Refused(refusal),
+        closing: Err(refusal),
     }
 }
 

@@ -7,13 +7,10 @@ use lib.Dec.{eqb}
 use borrow.Author.Tests.{eqb-true, eqb-false}
 use native.Mathlib.Omega.{arith}
 use Rattle.rules.specs.Words.{settled}
-use Rattle.rules.specs.declared.Figure.{Figure}
-use Rattle.rules.specs.declared.Figure.TheVariants as figure
+use Rattle.rules.specs.Closing.{Figure, ClosingAnswer}
 use Rattle.rules.specs.declared.Closing.{Closing}
-use Rattle.rules.specs.declared.ClosingAnswer.{ClosingAnswer}
-use Rattle.rules.specs.declared.ClosingAnswer.TheVariants.{Closed, Refused}
 use Rattle.rules.specs.Machine.{End, waiting, broken, stopped}
-use Rattle.std.specs.Prelude.{Result, Ok, Err, [], ◌∷◌, get_or}
+use Rattle.std.specs.Prelude.{Some, None, Result, Ok, Err, [], ◌∷◌, get_or}
 use Rattle.rules.specs.Numbered.{number}
 use Rattle.rules.specs.declared.Refusal.{Refusal}
 use Rattle.rules.specs.declared.Refusal.TheVariants as why
@@ -58,17 +55,17 @@ only_waiting x broken q = absurd (given_refused (sym q))
 only_waiting x (stopped n) q = absurd (given_refused (sym q))
 
 -- a figure and a closing by the number of their refusal say so
-pub figure_or : (n : ℕ) (f : Figure) → figure_said (settled n f (figure.Refused n)) ≡ or_refused n (figure_said f)
+pub figure_or : (n : ℕ) (f : Figure) → figure_said (settled n f (Err n)) ≡ or_refused n (figure_said f)
 figure_or n f = go (eqb n 0)
   where
-    go : (t : Bool) → figure_said (cond t f (figure.Refused n)) ≡ cond t (figure_said f) (refuses n)
+    go : (t : Bool) → figure_said (cond t f (Err n)) ≡ cond t (figure_said f) (refuses n)
     go true = refl
     go false = refl
 
-pub closing_or : (n : ℕ) (x : Closing) → closing_said (settled n (Closed x) (Refused n)) ≡ or_refused n (gives (figured_said x))
+pub closing_or : (n : ℕ) (x : Closing) → closing_said (settled n (Ok x) (Err n)) ≡ or_refused n (gives (figured_said x))
 closing_or n x = go (eqb n 0)
   where
-    go : (t : Bool) → closing_said (cond t (Closed x) (Refused n)) ≡ cond t (gives (figured_said x)) (refuses n)
+    go : (t : Bool) → closing_said (cond t (Ok x) (Err n)) ≡ cond t (gives (figured_said x)) (refuses n)
     go true = refl
     go false = refl
 
@@ -81,14 +78,14 @@ same_figure : (x y : Figure) → figure_said x ≡ figure_said y → x ≡ y
 same_figure = known_by figure_said back known
   where
     back : Said Measure → Figure
-    back (gives (is n)) = figure.Is n
-    back (gives absent) = figure.Absent
-    back (refuses n) = figure.Refused n
+    back (gives (is n)) = Ok (Some n)
+    back (gives absent) = Ok None
+    back (refuses n) = Err n
 
     known : (x : Figure) → back (figure_said x) ≡ x
-    known (figure.Is n) = refl
-    known figure.Absent = refl
-    known (figure.Refused n) = refl
+    known (Ok (Some n)) = refl
+    known (Ok None) = refl
+    known (Err n) = refl
 
 pub same_figured : (x y : Closing) → figured_said x ≡ figured_said y → x ≡ y
 same_figured x y e =
@@ -96,10 +93,10 @@ same_figured x y e =
     λ i. record { weighted = (e i).weighted; range = (e i).range; recharge = recharge i }
 
 pub same_closing : (x y : ClosingAnswer) → closing_said x ≡ closing_said y → x ≡ y
-same_closing (Closed x) (Closed y) e = ap Closed (same_figured x y (given_is e))
-same_closing (Closed x) (Refused n) e = absurd (given_refused e)
-same_closing (Refused n) (Closed y) e = absurd (given_refused (sym e))
-same_closing (Refused n) (Refused k) e = let same : n ≡ k = cc e in ap Refused same
+same_closing (Ok x) (Ok y) e = ap Ok (same_figured x y (given_is e))
+same_closing (Ok x) (Err n) e = absurd (given_refused e)
+same_closing (Err n) (Ok y) e = absurd (given_refused (sym e))
+same_closing (Err n) (Err k) e = let same : n ≡ k = cc e in ap Err same
 
 -- ---- refusals by their numbers
 

@@ -11,7 +11,7 @@ ghost use Rattle.reader.specs.Answers.{read_said, all_said, read_left, all_left,
 use fields::front_of;
 use opening::{OpenAnswer, OpenStep, Opening};
 use reading::{Reading, Step};
-use rules::{Amounts, Charge, Refusal};
+use rules::{Amounts, Refusal};
 use state::Run;
 
 #[derive(Clone, Copy)]
@@ -89,7 +89,7 @@ pub fn reading_of(opening: Opening, run: Run) -> Reading
         amounts: Amounts {
             before: 0,
             after: 0,
-            charge: Charge::Absent,
+            charge: None,
         },
         run,
     }

@@ -12,7 +12,7 @@ use mir.Val.{SFits, to_z, of_z}
 use Rattle.rules.specs.Words.{unless}
 use Rattle.numbers.proofs.Signed.{read}
 use Rattle.rules.specs.declared.Amounts.{Amounts}
-use Rattle.rules.specs.declared.Charge.{Charge}
+use Rattle.rules.specs.Closing.{Charge}
 use Rattle.rules.specs.declared.Tolerances.{Tolerances}
 use Rattle.rules.specs.declared.Stretches.{Stretches}
 use Rattle.rules.specs.declared.Method.TheVariants.{Shortened}

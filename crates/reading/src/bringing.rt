@@ -8,7 +8,7 @@ ghost use Rattle.reading.specs.Along.{stepped_said, with_passed, with_amounts, w
 use crate::{Along, Step, Stepped};
 use blocks::take_block;
 use contents::Bring;
-use rules::{Amounts, Charge, Method, Refusal, Stretches, Tolerances};
+use rules::{Amounts, Method, Refusal, Stretches, Tolerances};
 
 // "only the passed-over count rises".
 fn with_passed(k: Along) -> Along
@@ -22,7 +22,7 @@ fn with_passed(k: Along) -> Along
 }
 
 // An amount is brought, and moves the place in the order.
-fn with_amounts(k: Along, place: u32, before: i64, after: i64, charge: Charge) -> Along
+fn with_amounts(k: Along, place: u32, before: i64, after: i64, charge: Option<u32>) -> Along
     ensures { result ≡ with_amounts k place (record { before = before; after = after; charge = charge }) }
 {
     Along {
@@ -76,7 +76,7 @@ fn bring(
         },
         Bring::Before(energy) => with_amounts(k, 2, energy, amounts.after, charge),
         Bring::After(energy) => with_amounts(k, 4, amounts.before, energy, charge),
-        Bring::Recharge(wh) => { with_amounts(k, 5, amounts.before, amounts.after, Charge::Wh(wh)) }
+        Bring::Recharge(wh) => { with_amounts(k, 5, amounts.before, amounts.after, Some(wh)) }
     }
 }
 

@@ -4,7 +4,7 @@ use crate::of_judge::number_of;
 use crate::of_state::ended_run;
 use crate::{CYCLE, UNKNOWN, reading_with, say, try_field, try_figures};
 use reading::Reading;
-use rules::{Amounts, Charge, Sample};
+use rules::{Amounts, Sample};
 
 // One sample more after the limit, on memory of zeros but for this number of the ledger.
 fn try_number(rt: HostRuntime, what: &[u8], at: usize, number: i64) {
@@ -52,7 +52,7 @@ fn reading_holding(before: i64, after: i64) -> Reading {
         amounts: Amounts {
             before,
             after,
-            charge: Charge::Absent,
+            charge: None,
         },
         run,
     }

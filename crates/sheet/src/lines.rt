@@ -5,7 +5,7 @@ ghost use Rattle.sheet.specs.Overlaid.{Wrote};
 ghost use Rattle.rules.specs.Text.{digits, signed, line, end_line, refused_line, recharge_line};
 
 use super::text::{put_number, put_signed, put_text};
-use rules::{End, Figure};
+use rules::End;
 
 pub fn text_line(out: &mut [u8], at: usize, word: &[u8], value: &[u8]) -> usize
     requires { (at + 32 ≤ length out.old) × (length word.now ≤ 8) × (length value.now ≤ 17) }
@@ -52,13 +52,13 @@ pub fn refused_line(out: &mut [u8], at: usize, n: u32) -> usize
     number_line(&mut *out, at, b"refused", n as u64)
 }
 
-pub fn recharge_line(out: &mut [u8], at: usize, figure: Figure) -> usize
+pub fn recharge_line(out: &mut [u8], at: usize, figure: Result<Option<u64>, u32>) -> usize
     requires { at + 32 ≤ length out.old }
     ensures { Wrote 32 out.old at (recharge_line figure) out.new result }
 {
     match figure {
-        Figure::Is(n) => number_line(&mut *out, at, b"ac", n),
-        Figure::Absent => text_line(&mut *out, at, b"ac", b"-"),
-        Figure::Refused(n) => refused_line(&mut *out, at, n),
+        Ok(Some(n)) => number_line(&mut *out, at, b"ac", n),
+        Ok(None) => text_line(&mut *out, at, b"ac", b"-"),
+        Err(n) => refused_line(&mut *out, at, n),
     }
 }

@@ -4,7 +4,7 @@ ghost use Rattle.sheet.specs.Overlaid.{Wrote};
 ghost use Rattle.rules.specs.Text.{head_lines, count_lines, closed_lines, closing_lines};
 
 use crate::lines::{end_line, number_line, recharge_line, refused_line, signed_line, text_line};
-use rules::{Closing, ClosingAnswer, Figures};
+use rules::{Closing, Figures};
 
 pub fn head_lines(out: &mut [u8], at: usize, f: Figures) -> usize
     requires { at + 104 ≤ length out.old }
@@ -37,12 +37,12 @@ fn closed_lines(out: &mut [u8], at: usize, x: Closing) -> usize
     recharge_line(&mut *out, second, recharge)
 }
 
-pub fn closing_lines(out: &mut [u8], at: usize, closing: ClosingAnswer) -> usize
+pub fn closing_lines(out: &mut [u8], at: usize, closing: Result<Closing, u32>) -> usize
     requires { at + 96 ≤ length out.old }
     ensures { Wrote 96 out.old at (closing_lines closing) out.new result }
 {
     match closing {
-        ClosingAnswer::Closed(x) => closed_lines(&mut *out, at, x),
-        ClosingAnswer::Refused(n) => refused_line(&mut *out, at, n),
+        Ok(x) => closed_lines(&mut *out, at, x),
+        Err(n) => refused_line(&mut *out, at, n),
     }
 }

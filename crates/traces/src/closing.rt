@@ -4,7 +4,7 @@ ghost use Rattle.rules.specs.Trace.{amounts_line, sum_text, weight_text, charge_
 ghost use Rattle.sheet.specs.Overlaid.{Wrote};
 ghost use Rattle.traces.specs.Bounds.{most_place};
 
-use rules::{Amounts, Charge};
+use rules::Amounts;
 use sheet::lines::{number_line, signed_line, text_line};
 use sheet::text::{put_number, put_signed, put_text};
 
@@ -51,12 +51,12 @@ pub fn weight_line(out: &mut [u8], at: usize, c: u64, num: u64, den: u64) -> usi
 }
 
 // "recharge A | recharge -".
-pub fn charge_line(out: &mut [u8], at: usize, charge: Charge) -> usize
+pub fn charge_line(out: &mut [u8], at: usize, charge: Option<u32>) -> usize
     requires { at + 32 ≤ length out.old }
     ensures { Wrote 32 out.old at (charge_line charge) out.new result }
 {
     match charge {
-        Charge::Absent => text_line(&mut *out, at, b"recharge", b"-"),
-        Charge::Wh(a) => number_line(&mut *out, at, b"recharge", a as u64),
+        None => text_line(&mut *out, at, b"recharge", b"-"),
+        Some(a) => number_line(&mut *out, at, b"recharge", a as u64),
     }
 }

@@ -1,11 +1,9 @@
 -- What the trace prints of a desk.
 -- Assumes nothing.
-use Rattle.std.specs.Prelude.{true, cond, List, [], ◌++◌, ◌≡◌, ℕ, suc, leb, ℤ, length}
+use Rattle.std.specs.Prelude.{true, cond, List, [], ◌++◌, ◌≡◌, ℕ, suc, leb, ℤ, length, Ok as Closed, Err as Refused}
 use Rattle.rules.specs.Words.{unless, settled, up, spell}
-use Rattle.rules.specs.declared.Charge.{Charge}
+use Rattle.rules.specs.Closing.{Charge, ClosingAnswer}
 use Rattle.rules.specs.declared.Closing.{Closing}
-use Rattle.rules.specs.declared.ClosingAnswer.{ClosingAnswer}
-use Rattle.rules.specs.declared.ClosingAnswer.TheVariants.{Closed, Refused}
 use Rattle.rules.specs.declared.End.{End}
 use Rattle.rules.specs.declared.End.TheVariants.{None as none, Stop as stop, Limit as limit}
 use Rattle.rules.specs.Bench.{most_phases, most_cycles}

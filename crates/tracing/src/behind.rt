@@ -11,7 +11,7 @@ ghost use Rattle.sheet.specs.Overlaid.{Wrote};
 ghost use Rattle.tracing.specs.Traced.{weight_at, figures_on, closing_for};
 
 use ledger::totals::energy_in;
-use rules::{Amounts, Charge, Closing, ClosingAnswer, Figures};
+use rules::{Amounts, Closing, Figures};
 use sheet::lines::{number_line, recharge_line, refused_line};
 use traces::closing::{charge_line, sum_lines, weight_line};
 
@@ -70,7 +70,7 @@ fn figure_lines(
     ledger: &[i64],
     whole: u64,
     n: usize,
-    charge: Charge,
+    charge: Option<u32>,
     x: Closing,
 ) -> usize
     requires { (at + 4608 ≤ length out.old) × (bounded ledger.now ≡ true) × (whole ≤ most_whole) × (n ≤ most_cycles) }
@@ -91,15 +91,15 @@ fn closing_part(
     ledger: &[i64],
     whole: u64,
     n: usize,
-    charge: Charge,
-    closing: ClosingAnswer,
+    charge: Option<u32>,
+    closing: Result<Closing, u32>,
 ) -> usize
     requires { (at + 4608 ≤ length out.old) × (bounded ledger.now ≡ true) × (whole ≤ most_whole) × (n ≤ most_cycles) }
     ensures { Wrote 4608 out.old at (closing_for ledger.now whole n charge closing) out.new result }
 {
     match closing {
-        ClosingAnswer::Closed(x) => figure_lines(&mut *out, at, ledger, whole, n, charge, x),
-        ClosingAnswer::Refused(k) => refused_line(&mut *out, at, k),
+        Ok(x) => figure_lines(&mut *out, at, ledger, whole, n, charge, x),
+        Err(k) => refused_line(&mut *out, at, k),
     }
 }
 

@@ -13,7 +13,7 @@ use rules::limits::{
     MOST_CURRENT, MOST_DRAWN, MOST_OFFERED, MOST_SPEED, MOST_SPEED_TOLERANCE, MOST_TIME_TOLERANCE,
     MOST_TRANSFER, MOST_TRANSFER_IN, MOST_VOLTAGE,
 };
-use rules::{Amounts, Charge, Method, Moment, Sample, Stretches, Tolerances};
+use rules::{Amounts, Method, Moment, Sample, Stretches, Tolerances};
 
 pub fn is_between(lo: i64, hi: i64, z: i64) -> bool
     ensures { result ≡ between lo hi z }
@@ -117,12 +117,12 @@ fn is_transfer(energy: i64) -> bool
     is_between(LEAST_TRANSFER, MOST_TRANSFER, energy)
 }
 
-pub fn is_charge(charge: Charge) -> bool
+pub fn is_charge(charge: Option<u32>) -> bool
     ensures { result ≡ is_charge charge }
 {
     match charge {
-        Charge::Absent => true,
-        Charge::Wh(wh) => {
+        None => true,
+        Some(wh) => {
             if wh < 1 {
                 return false;
             }

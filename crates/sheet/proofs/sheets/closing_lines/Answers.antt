@@ -3,10 +3,10 @@ use native.Mathlib.Omega.{arith}
 use Rattle.sheet.proofs.Overlaid.{wrote_most}
 use Rattle.sheet.proofs.sheets.closing_lines.Goals as goal
 
-pub returns-in-Closed : goal.returns-in-Closed
-returns-in-Closed c =
-    rw c.in-Closed.is c.closed_lines.ensures
+pub returns-in-Ok : goal.returns-in-Ok
+returns-in-Ok c =
+    rw c.in-Ok.is c.closed_lines.ensures
 
-pub returns-in-Refused : goal.returns-in-Refused
-returns-in-Refused c =
-    rw c.in-Refused.is (wrote_most c.refused_line.ensures (omega arith))
+pub returns-in-Err : goal.returns-in-Err
+returns-in-Err c =
+    rw c.in-Err.is (wrote_most c.refused_line.ensures (omega arith))

@@ -1,12 +1,12 @@
 -- `traces::closing::charge_line` meets its contract.
 use Rattle.traces.proofs.closing.charge_line.Goals as goal
 
-pub returns-in-Absent : goal.returns-in-Absent
-returns-in-Absent c =
+pub returns-in-None : goal.returns-in-None
+returns-in-None c =
     let call = c in
-    rw call.in-Absent.is call.text_line.ensures
+    rw call.in-None.is call.text_line.ensures
 
-pub returns-in-Wh : goal.returns-in-Wh
-returns-in-Wh c =
+pub returns-in-Some : goal.returns-in-Some
+returns-in-Some c =
     let call = c in
-    rw call.in-Wh.is call.number_line.ensures
+    rw call.in-Some.is call.number_line.ensures
