@@ -1,6 +1,7 @@
 -- Sums over the numbers below n: one term grows, no term counts, bounds of a sum from bounds of its terms, a sum that a loop forms, and how many of n tests pass.
 -- Assumes nothing.
 use mathlib.Core.Bool.{Bool, true, false, ◌&&◌, and-true, and-false}
+use mathlib.Core.List.{List}
 use mathlib.Core.Logic.{⊎_elim}
 use mathlib.Core.Path.{◌≡◌, refl, sym, ap, ap₂, ◌∙◌}
 use Prim.Native.Nat.{ℕ, zero, suc, ◌+◌, ◌*◌, ◌^◌, ◌≤◌, ◌<◌, zero-le}
@@ -10,8 +11,11 @@ use native.Mathlib.Omega.{arith}
 use borrow.Author.Tests.{ne_eqb}
 use lib.Dec.{T, ltb, eqb, eqb-suc-suc}
 use lib.IntN.{ℤ, pos, ◌+ℤ◌}
+use lib.ListN.{length, get_or, take}
 use mir.Syntax.{Width}
 use mir.Val.{SFits, hbits, to_z, of_z}
+use Rattle.std.specs.List.{sum_by}
+use Rattle.std.proofs.lemmas.List.Sums.{sum_by_more}
 use Rattle.rules.specs.Words.{fold, sum, sumℤ, bit, all_below}
 use Rattle.numbers.specs.Whole.{Sized}
 use Rattle.numbers.proofs.Range.{fold_same, fold_more, fold_none, sum_ℕ}
@@ -55,6 +59,12 @@ pub sized_sum : (b : ℕ) (f : ℕ → ℤ) (n : ℕ) → ((k : ℕ) → k < n �
 unfolding fold
 sized_sum b f zero h = of_nat (omega arith)
 sized_sum b f (suc n) h = weaken (omega (arith, suc-mul n b)) (sized_add (sized_sum b f n (λ k l. h k (le_step l))) (h n (le_refl (suc n))))
+
+-- as an iterator sums the first n numbers of a list
+pub sum_taken : (f : ℕ → ℕ) (l : List ℕ) (n : ℕ) → n ≤ length l → sum_by f (take n l) ≡ sum (λ k. f (get_or l k 0)) n
+unfolding fold
+sum_taken f l zero h = refl
+sum_taken f l (suc n) h = rw add-one at (sum_by_more f l n 0 h) ∙ ap (λ (x : ℕ). x + f (get_or l n 0)) (sum_taken f l n (omega arith))
 
 -- ---- a loop that forms the sum of n terms f 0, f 1, .. in the bits of a signed number of width w
 

@@ -1,6 +1,6 @@
--- `cycle::is_cycle` meets its contract. At each early answer the facts of `Sound` contradict the test; at the last, all but the points' test has passed.
+-- `cycle::is_cycle` meets its contract. At each early answer the facts of `Sound` contradict the tests; at the last, all but the points' test has passed.
 use mathlib.Core.Bool.{true, false≢true}
-use mathlib.Core.Path.{◌≡◌, sym}
+use mathlib.Core.Path.{◌≡◌, sym, ◌∙◌}
 use native.Mathlib.Omega.{arith}
 use Rattle.rules.specs.Words.{all_below}
 use Rattle.rules.specs.Cycle.{phases, rises}
@@ -13,17 +13,8 @@ returns-then-cycle-lt-LEAST_BYTES c = sym (not_valid _ (λ s. omega arith))
 pub returns-then-p-lt1 : goal.returns-then-p-lt1
 returns-then-p-lt1 c = sym (not_valid _ (λ s. omega arith))
 
-pub returns-then-p-gt-MOST_PHASES : goal.returns-then-p-gt-MOST_PHASES
-returns-then-p-gt-MOST_PHASES c = sym (not_valid _ (λ s. omega arith))
-
 pub returns-then-t-lt-SHORTEST : goal.returns-then-t-lt-SHORTEST
-returns-then-t-lt-SHORTEST c = sym (not_valid _ (λ s. omega arith))
-
-pub returns-then-t-gt-LONGEST : goal.returns-then-t-gt-LONGEST
-returns-then-t-gt-LONGEST c = sym (not_valid _ (λ s. omega arith))
-
-pub returns-then-cycle-p : goal.returns-then-cycle-p
-returns-then-cycle-p c = sym (not_valid _ (λ s. omega arith))
+returns-then-t-lt-SHORTEST c = sym (not_valid _ (λ s. grind arith))
 
 pub returns-then-ends_rise : goal.returns-then-ends_rise
 returns-then-ends_rise c =
@@ -33,4 +24,4 @@ returns-then-ends_rise c =
     (sym (valid_by_points b (omega arith) (omega arith) (omega arith) (omega arith) (omega arith) e))
 
 pub returns-else-ends_rise : goal.returns-else-ends_rise
-returns-else-ends_rise c = sym (not_valid _ (λ s. false≢true cc))
+returns-else-ends_rise c = c.if-ends_rise.false ∙ sym (not_valid _ (λ s. false≢true cc))

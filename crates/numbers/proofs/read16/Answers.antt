@@ -1,7 +1,9 @@
--- `read16` meets its contract.
-use Rattle.std.proofs.Common.{sym, ◌∙◌}
-use Rattle.numbers.proofs.Bytes.{be_two}
+-- `read16` meets its contract: the sum of its two bytes, each by its place, is `be`.
+use native.Mathlib.Nat.{add-zero}
+use native.Mathlib.Omega.{arith}
+use Rattle.rules.specs.Words.{be}
 use Rattle.numbers.proofs.read16.Goals as goal
 
 pub returns : goal.returns
-returns c = c.pair.ensures ∙ sym (be_two _ _)
+unfolding be
+returns c = rw add-zero (omega arith)

@@ -1,6 +1,9 @@
--- `read32` meets its contract: `read16` ensures the number of each two bytes.
-use Rattle.numbers.proofs.Bytes.{be_halves}
+-- `read32` meets its contract: the sum of its four bytes, each by its place, is `be`.
+use native.Mathlib.Nat.{add-zero}
+use native.Mathlib.Omega.{arith}
+use Rattle.rules.specs.Words.{be}
 use Rattle.numbers.proofs.read32.Goals as goal
 
 pub returns : goal.returns
-returns c = be_halves 2 c.args.b.now c.args.i c.read16.ensures c.read16-2.ensures
+unfolding be
+returns c = rw add-zero (omega arith)

@@ -1,6 +1,9 @@
--- `read64` meets its contract: `read32` ensures the number of each four bytes.
-use Rattle.numbers.proofs.Bytes.{be_halves}
+-- `read64` meets its contract: the sum of its eight bytes, each by its place, is `be`.
+use native.Mathlib.Nat.{add-zero}
+use native.Mathlib.Omega.{arith}
+use Rattle.rules.specs.Words.{be}
 use Rattle.numbers.proofs.read64.Goals as goal
 
 pub returns : goal.returns
-returns c = be_halves 4 c.args.b.now c.args.i c.read32.ensures c.read32-2.ensures
+unfolding be
+returns c = rw add-zero (omega arith)
