@@ -8,7 +8,7 @@ ghost use Rattle.sheet.specs.Overlaid.{most_sheet};
 ghost use Rattle.prints.specs.Printed.{Prints};
 ghost use Rattle.paperwhelk.specs.Exported.{sheet_answer, sheet_left};
 
-use desk::{Outcome, empty, feed};
+use desk::{empty, feed};
 use prints::{close, refuse};
 use rules::limits::{LEDGER_NUMBERS, MAP_WORDS, MOST_BYTES};
 use sheet::MOST_SHEET;
@@ -25,13 +25,11 @@ fn print_whole(
     ensures { Prints (printed (sheet_of «record».now)) lines.old result lines.new }
 {
     let x = feed(empty(), record, &mut *room, &mut *ledger, &mut *map);
-    let desk = x.desk;
-    let outcome = x.outcome;
-    if let Outcome::Refused(number) = outcome {
-        return refuse(desk, number, &mut *lines);
+    if let Err(refusal) = x.outcome {
+        return refuse(x.desk, refusal.number(), &mut *lines);
     }
     let left = record.len() - x.used;
-    close(desk, left, &room[..], &ledger[..], &map[..], &mut *lines)
+    close(x.desk, left, &room[..], &ledger[..], &map[..], &mut *lines)
 }
 
 // The first n bytes of the lines, a sheet, go to the front of out where they fit.

@@ -11,7 +11,7 @@ ghost use Rattle.prints.specs.Printed.{next_field, sheet_on, close_text};
 
 use desk::{Desk, desk_refusal};
 use figures::figures_on;
-use reader::{Ending, ended};
+use reader::ended;
 use sheet::{refusal_line, sheet_lines};
 
 // "K is the number of accepted fields .. plus one".
@@ -62,14 +62,11 @@ pub fn close(
         ≡ unless out.old (leb most_sheet (length out.old))
         (overlaid out.old 0 (close_text (laid_of desk room.now ledger.now map.now) left)) }
 {
-    let refusal = desk_refusal(desk, room, ledger, map);
-    if refusal != 0 {
-        return refuse(desk, refusal, &mut *out);
+    if let Err(refusal) = desk_refusal(desk, room, ledger, map) {
+        return refuse(desk, refusal.number(), &mut *out);
     }
-    let started = desk.started;
-    let ending = ended(started, left);
-    match ending {
-        Ending::Refused(number) => refuse(desk, number, &mut *out),
-        Ending::Whole => print_run(desk, ledger, &mut *out),
+    match ended(desk.started, left) {
+        Err(unfinished) => refuse(desk, unfinished.number(), &mut *out),
+        Ok(()) => print_run(desk, ledger, &mut *out),
     }
 }

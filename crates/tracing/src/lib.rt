@@ -19,7 +19,7 @@ use figures::figures_on;
 use offering::{offered_lines, opening_lines};
 use parts::part_lines;
 use prints::refuse;
-use reader::{Ending, ended};
+use reader::ended;
 use reading::Reading;
 
 // How long lines are lent: no trace is longer.
@@ -88,14 +88,11 @@ pub fn trace_close(
     if out.len() < MOST_TRACE {
         return 0;
     }
-    let refusal = desk_refusal(desk, room, ledger, map);
-    if refusal != 0 {
-        return refuse(desk, refusal, &mut *out);
+    if let Err(refusal) = desk_refusal(desk, room, ledger, map) {
+        return refuse(desk, refusal.number(), &mut *out);
     }
-    let started = desk.started;
-    let ending = ended(started, left);
-    match ending {
-        Ending::Refused(number) => refuse(desk, number, &mut *out),
-        Ending::Whole => trace_run(desk, blocks, room, ledger, &mut *out),
+    match ended(desk.started, left) {
+        Err(unfinished) => refuse(desk, unfinished.number(), &mut *out),
+        Ok(()) => trace_run(desk, blocks, room, ledger, &mut *out),
     }
 }
