@@ -14,7 +14,7 @@ ghost use Rattle.rules.specs.Listing.{numbered, field_text, spot_after, list_fro
 ghost use Rattle.sheet.specs.Overlaid.{Wrote};
 ghost use Rattle.listing.specs.Lines.{per_byte, most_line, Counts, front_used, front_spot, front_text};
 
-use fields::{Front, front_of};
+use fields::front_of;
 use held::field_text;
 use rules::Spot;
 use sheet::text::put_number;
@@ -74,15 +74,20 @@ fn list_one(spot: Spot, input: &[u8], out: &mut [u8], at: usize) -> Listing
     ensures used_value { (result.used ≡ front_used (front_of tags input.now)) × (result.spot ≡ front_spot spot (front_of tags input.now)) }
     ensures wrote { Wrote most_line out.old at (front_text spot (front_of tags input.now)) out.new result.next }
 {
-    let front = front_of(input);
-    let Front::Field(tag, n) = front else {
+    let Ok(Some(front)) = front_of(input) else {
         return Listing {
             spot,
             next: at,
             used: 0,
         };
     };
-    list_whole(spot, tag, &input[3..3 + n], &mut *out, at)
+    list_whole(
+        spot,
+        front.tag,
+        &input[3..3 + front.size],
+        &mut *out,
+        at,
+    )
 }
 
 // The whole fields of the input, one after another: their lines, from the start of out on.

@@ -6,7 +6,7 @@ ghost use Rattle.rules.specs.Listing.{list_from};
 ghost use Rattle.listing.specs.Lines.{Counts, front_used, front_spot};
 
 use crate::spots::spot_after;
-use fields::{Front, front_of};
+use fields::front_of;
 use rules::Spot;
 
 // Where the list stands after a field, and how many bytes the field takes.
@@ -21,13 +21,12 @@ fn pass_one(spot: Spot, input: &[u8]) -> Passed
     requires { Counts spot (length input.now) }
     ensures { (result.used ≡ front_used (front_of tags input.now)) × (result.spot ≡ front_spot spot (front_of tags input.now)) }
 {
-    let front = front_of(input);
-    let Front::Field(tag, n) = front else {
+    let Ok(Some(front)) = front_of(input) else {
         return Passed { spot, used: 0 };
     };
     Passed {
-        spot: spot_after(spot, tag, &input[3..3 + n]),
-        used: 3 + n,
+        spot: spot_after(spot, front.tag, &input[3..3 + front.size]),
+        used: 3 + front.size,
     }
 }
 
