@@ -30,7 +30,7 @@ fn distance_between(x: Moment, y: Moment) -> i64
     requires { (is_moment x ≡ true) × (is_moment y ≡ true) }
     ensures { result ≡ pos (x.speed + y.speed) }
 {
-    (x.speed + y.speed) as i64
+    (x.speed + y.speed).cast_signed()
 }
 
 // The interval from sample x to sample y, in its phase of x's cycle.
@@ -52,5 +52,5 @@ pub fn add_outside(row: &mut [i64], outside: bool, allowance: u32) -> bool
         return false;
     }
     add_at(&mut *row, 8, 1);
-    (allowance as i64) < row[8]
+    i64::from(allowance) < row[8]
 }
