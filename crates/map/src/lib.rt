@@ -43,7 +43,7 @@ pub fn open_map(map: &mut [u64], p: usize)
     ensures { map.new ≡ opened map.old p }
 {
     if p == 0 {
-        clear_map(&mut *map);
+        clear_map(map);
     }
 }
 

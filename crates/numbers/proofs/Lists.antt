@@ -1,10 +1,9 @@
 -- Lists of any kind: what a store leaves, a list that is cleared from the front, and a part that was lent from the middle. Assumes nothing.
-use mathlib.Core.Path.{◌≡◌, refl, sym, ap, ◌∙◌}
+use mathlib.Core.Path.{◌≡◌, sym, ap, ◌∙◌}
 use mathlib.Core.List.{List, [], ◌∷◌, ◌++◌}
 use Prim.Native.Nat.{ℕ, zero, suc, ◌+◌, ◌-◌, ◌≤◌, ◌<◌}
-use native.Mathlib.Nat.{zero-add, suc-add, not-suc-le-zero, le_of_suc-le-suc}
+use native.Mathlib.Nat.{zero-add, suc-add}
 use native.Mathlib.Omega.{arith}
-use native.Mathlib.Numerals.{add-one}
 use lib.ListN.{length, get_or, set, take, drop, replicate, length-replicate, length-append, length-drop, get_or-replicate, get_or-append}
 use lib.Seq.{set-append_left, get_or-append-add, length-take-le, take_all, drop_at}
 use borrow.Rule.Slice.PartMut.{put_mid, post_of}

@@ -66,28 +66,20 @@ unfolding fold
 sum_taken f l zero h = refl
 sum_taken f l (suc n) h = rw add-one at (sum_by_more f l n 0 h) ∙ ap (λ (x : ℕ). x + f (get_or l n 0)) (sum_taken f l n (omega arith))
 
--- ---- a loop that forms the sum of n terms f 0, f 1, .. in the bits of a signed number of width w
-
--- k terms are added, and their sum stands in the bits s
-pub record Summed (w : Width) (n : ℕ) (f : ℕ → ℤ) (s k : ℕ) : Type 0 where
-  pub most : k ≤ n
-  pub is : to_z w s ≡ sumℤ f k
+-- ---- a loop that forms the sum of n terms f 0, f 1, .. in the bits s of a signed number of width w
 
 -- the term x is added: that fits, and the sum is of one term more
-pub record Added (w : Width) (n : ℕ) (f : ℕ → ℤ) (s k : ℕ) (x : ℤ) : Type 0 where
+pub record Added (w : Width) (f : ℕ → ℤ) (s k : ℕ) (x : ℤ) : Type 0 where
   pub fits : SFits w (to_z w s +ℤ x)
-  pub summed : Summed w n f (of_z w (to_z w s +ℤ x)) (k + 1)
-
-pub summed_all : {w : Width} {n : ℕ} {f : ℕ → ℤ} {s k : ℕ} → Summed w n f s k → n ≤ k → to_z w s ≡ sumℤ f n
-summed_all {n = n} {f} {k = k} p h = let e : k ≡ n = omega arith in p.is ∙ ap (sumℤ f) e
+  pub is : to_z w (of_z w (to_z w s +ℤ x)) ≡ sumℤ f (k + 1)
 
 -- of at most m terms, within b either way
 pub added : {w : Width} {m b n : ℕ} {f : ℕ → ℤ} {s k : ℕ} {x : ℤ} → n ≤ m → T (ltb (m * b) (2 ^ hbits w)) → ((k : ℕ) → k < n → Sized b (f k))
-    → Summed w n f s k → k < n → x ≡ f k → Added w n f s k x
-added {w} {m} {b} {n} {f} {s} {k} {x} few small h p l term = record { fits = fits; summed = record { most = omega arith; is = read fits ∙ more } }
+    → to_z w s ≡ sumℤ f k → k < n → x ≡ f k → Added w f s k x
+added {w} {m} {b} {n} {f} {s} {k} {x} few small h p l term = record { fits = fits; is = read fits ∙ more }
   where
     more : to_z w s +ℤ x ≡ sumℤ f (k + 1)
-    more = ap₂ ◌+ℤ◌ p.is term ∙ sym (fold_more ◌+ℤ◌ (pos 0) f k)
+    more = ap₂ ◌+ℤ◌ p term ∙ sym (fold_more ◌+ℤ◌ (pos 0) f k)
 
     sized : Sized (m * b) (sumℤ f (k + 1))
     sized = weaken (mul-le-mul_right b (let g : k + 1 ≤ m = omega arith in g)) (sized_sum b f (k + 1) (λ j m. h j (omega arith)))
