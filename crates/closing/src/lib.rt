@@ -49,8 +49,7 @@ pub fn close_on(run: Run, amounts: Amounts, ledger: &[i64]) -> Result<Closing, u
         ≡ closing_said (closing_on ledger.now (beside_by run) (least_finished run.track.method) (cycles_by run) amounts) }
 {
     let n = cycles_of(run) as usize;
-    let track = run.track;
-    let method = track.method;
+    let method = run.track.method;
     consumption::close(ledger, beside_of(run), least_finished(method), n, amounts)
 }
 

@@ -26,8 +26,7 @@ pub fn sheet_lines(f: Figures, out: &mut [u8]) -> usize
     }
     let head = sheets::head_lines(&mut *out, 0, f);
     let body = sheets::count_lines(&mut *out, head, f);
-    let closing = f.closing;
-    sheets::closing_lines(&mut *out, body, closing)
+    sheets::closing_lines(&mut *out, body, f.closing)
 }
 
 // The line of a refused field, likewise.

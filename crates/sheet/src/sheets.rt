@@ -10,10 +10,8 @@ pub fn head_lines(out: &mut [u8], at: usize, f: Figures) -> usize
     requires { at + 104 ≤ length out.old }
     ensures { Wrote 104 out.old at (head_lines f) out.new result }
 {
-    let vehicle = f.vehicle;
-    let run = text_line(&mut *out, at, b"run", &vehicle[..]);
-    let end = f.end;
-    let next = end_line(&mut *out, run, end, f.counted);
+    let run = text_line(&mut *out, at, b"run", &f.vehicle[..]);
+    let next = end_line(&mut *out, run, f.end, f.counted);
     number_line(&mut *out, next, b"cycles", f.cycles as u64)
 }
 
@@ -31,10 +29,9 @@ fn closed_lines(out: &mut [u8], at: usize, x: Closing) -> usize
     requires { at + 96 ≤ length out.old }
     ensures { Wrote 96 out.old at (closed_lines x) out.new result }
 {
-    let recharge = x.recharge;
     let first = number_line(&mut *out, at, b"weighted", x.weighted);
     let second = number_line(&mut *out, first, b"range", x.range);
-    recharge_line(&mut *out, second, recharge)
+    recharge_line(&mut *out, second, x.recharge)
 }
 
 pub fn closing_lines(out: &mut [u8], at: usize, closing: Result<Closing, u32>) -> usize

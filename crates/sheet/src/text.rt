@@ -8,12 +8,9 @@ fn put(out: &mut [u8], at: usize, text: &[u8]) -> usize
     requires { at + length text.now ≤ length out.old }
     ensures { Wrote (length text.now) out.old at text.now out.new result }
 {
-    let mut i: usize = 0;
-    while i < text.len() {
-        out[at + i] = text[i];
-        i += 1;
-    }
-    at + i
+    let end = at + text.len();
+    out[at..end].copy_from_slice(text);
+    end
 }
 
 // The text, and the byte `last`.
@@ -49,22 +46,12 @@ pub fn put_number(out: &mut [u8], at: usize, n: u64, last: u8) -> usize
     next + 1
 }
 
-// z without its sign; the least i64 has no opposite, and z + 1 has one.
-fn size(z: i64) -> u64
-    ensures { result ≡ nat_abs z }
-{
-    if z < 0 {
-        return (-(z + 1)) as u64 + 1;
-    }
-    z as u64
-}
-
 // A number of either sign, and the byte `last`.
 pub fn put_signed(out: &mut [u8], at: usize, z: i64, last: u8) -> usize
     requires { at + 22 ≤ length out.old }
     ensures { Wrote 22 out.old at (signed z ++ last ∷ []) out.new result }
 {
-    let n = size(z);
+    let n = z.unsigned_abs();
     if z < 0 {
         out[at] = 45;
         return put_number(&mut *out, at + 1, n, last);

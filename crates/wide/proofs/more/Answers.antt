@@ -11,9 +11,9 @@ returns-in_err-v c = rw c.in_err-v.was c.from_residual.ensures
 pub returns-then-m-ge-TOP : goal.returns-then-m-ge-TOP
 returns-then-m-ge-TOP c = rw c.in_ok-v.was (more_large _ _ _ _ _ c.if-m-ge-TOP.true)
 
-pub returns-then-v-m : goal.returns-then-v-m
-returns-then-v-m c =
-    rw c.in_ok-v.was (c.multiply.ensures ∙ more_some _ _ _ _ _ c.if-v-m.true)
+pub returns : goal.returns
+returns c =
+    rw c.in_ok-v.was (c.multiply.ensures ∙ more_some _ _ _ _ _ c.if-v-m.false)
 
-pub returns-else-v-m : goal.returns-else-v-m
-returns-else-v-m c = rw c.in_ok-v.was (more_none _ _ _ _ _ c.if-v-m.false)
+pub returns-then-v-m : goal.returns-then-v-m
+returns-then-v-m c = rw c.in_ok-v.was (more_none _ _ _ _ _ c.if-v-m.true)

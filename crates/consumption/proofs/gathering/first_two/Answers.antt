@@ -35,7 +35,7 @@ returns c =
     let one = c.rated_in-first.ensures in
     let two = c.rated_in-second.ensures in
     let energy = energy_is (goal.at.returns c).After-rated_in-second ∙ energy_two l in
-    let drawn = c.both.ensures ∙ (λ i. leb 1 (one i).energy && leb 1 (two i).energy) ∙ drawn_two l in
+    let drawn = (λ i. leb 1 (one i).energy && leb 1 (two i).energy) ∙ drawn_two l in
     let rates = ap₂ ◌&&◌ (c.is_rate.ensures ∙ ap (λ (x : Rated). is_rate x.rate) one) (c.is_rate-2.ensures ∙ ap (λ (x : Rated). is_rate x.rate) two) in
-    let rated = c.both-2.ensures ∙ rates ∙ rated_two l in
+    let rated = rates ∙ rated_two l in
     λ i. record { first = one i; second = two i; rates = rates_two l i; energy = energy i; drawn = drawn i; rated = rated i }

@@ -49,6 +49,6 @@ returns c =
     let x = c.rated_in-x.ensures in
     let rates = ap₂ (λ (y : Gathered) (z : Rated). y.rates + z.rate) g x ∙ rates_more l a.c h in
     let energy = ap₂ (λ (y : Gathered) (z : Rated). y.energy + z.energy) g x ∙ energy_more l a.c h in
-    let drawn = c.both.ensures ∙ (λ i. (g i).drawn && leb 1 (x i).energy) ∙ drawn_more l a.c h in
-    let rated = c.both-2.ensures ∙ ap₂ ◌&&◌ (ap (λ (y : Gathered). y.rated) g) (c.is_rate.ensures ∙ ap (λ (z : Rated). is_rate z.rate) x) ∙ rated_more l a.c h in
+    let drawn = (λ i. (g i).drawn && leb 1 (x i).energy) ∙ drawn_more l a.c h in
+    let rated = ap₂ ◌&&◌ (ap (λ (y : Gathered). y.rated) g) (c.is_rate.ensures ∙ ap (λ (z : Rated). is_rate z.rate) x) ∙ rated_more l a.c h in
     λ i. record { first = (g i).first; second = (g i).second; rates = rates i; energy = energy i; drawn = drawn i; rated = rated i }
