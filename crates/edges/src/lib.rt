@@ -4,9 +4,9 @@
 ghost use Rattle.std.specs.Prelude.{true, false, IfErr, ◌≡◌, ◌≤◌, length};
 ghost use Rattle.edges.specs.Answers.{meant, is_again, Within};
 
-use std::io;
 use std::io::{Error, ErrorKind, Read, Write};
 use std::os::fd::AsRawFd;
+use std::{fmt, io};
 
 // The numbers of the descriptors.
 const STDIN_FILENO: i32 = 0;
@@ -14,6 +14,22 @@ const STDIN_FILENO: i32 = 0;
 const STDOUT_FILENO: i32 = 1;
 
 const STDERR_FILENO: i32 = 2;
+
+// What a program says on standard error before it ends: the input could not be read, or the system took no more of the output.
+#[derive(Clone, Copy, Debug, PartialEq, Eq)]
+pub enum Fault {
+    Input,
+    Output,
+}
+
+impl fmt::Display for Fault {
+    fn fmt<W: fmt::Write>(&self, f: &mut fmt::Formatter<W>) -> fmt::Result {
+        match self {
+            Fault::Input => write!(f, "the input could not be read"),
+            Fault::Output => write!(f, "the output was lost"),
+        }
+    }
+}
 
 // Whether a call that failed so is to be made again: a signal interrupted it before the first byte.
 fn is_again(error: Error) -> bool
