@@ -21,18 +21,6 @@ loop-turn-smaller c =
     let f = c in
     f.read_once-turn.ensures.goes.falls (sym f.goes_on.ensures ∙ c.if-not-goes_on.false)
 
-pub shape_of-buffer : goal.shape_of-buffer
-shape_of-buffer c = c.loop-turn.invariant.1.0
-
-pub shape_of-room : goal.shape_of-room
-shape_of-room c = c.loop-turn.invariant.1.1.0
-
-pub shape_of-ledger : goal.shape_of-ledger
-shape_of-ledger c = c.loop-turn.invariant.1.1.1.0
-
-pub shape_of-map : goal.shape_of-map
-shape_of-map c = c.loop-turn.invariant.1.1.1.1
-
 pub returns : goal.returns
 returns c = all_came _ _ _ _ _ _ _ _ _ _ c.loop-turn.invariant.2
 
