@@ -27,7 +27,8 @@ use Rattle.intake.specs.declared.Intake.{Intake}
 use Rattle.intake.specs.declared.Turned.{Turned}
 use Rattle.intake.specs.declared.Turned.TheVariants.{On, Ended, Failed, Refused}
 use Rattle.intake.specs.Turns.{is_failed, Came, none, part, turned_said}
-use Rattle.intake.proofs.Told.{start}
+use Rattle.std.specs.Prelude.{Ok}
+use Rattle.intake.proofs.Told.{start, was_printed}
 use Rattle.intake.specs.contracts.Turned.{the_type as turned-type}
 use Rattle.intake.proofs.Untested.{came_arrived}
 use Rattle.walk.proofs.Printed.{spot_is}
@@ -81,17 +82,15 @@ module _ (lent : Lent) where
 
   -- every number of the trace is the rules' one, to the bytes that are written: the lines are what the rules give for the bytes that came
   pub trace_record_prints : {most : ℕ} {out : List ℕ} {r : Intake} {buffer room : List ℕ} {l : List ℤ} {m after : List ℕ} (c : Recorded (start lent) most out r buffer room l m after)
-      → r.failed ≡ false → most_trace ≤ length out → take r.printed after ≡ traced c.walked.shows.stood.bytes
-  trace_record_prints {out = out} {room = room} {l = l} {m = m} c e h =
+      → {k : ℕ} → r.printed ≡ Ok k → most_trace ≤ length out → take k after ≡ traced c.walked.shows.stood.bytes
+  trace_record_prints {out = out} {room = room} {l = l} {m = m} c {k} e h =
       let s = c.walked.shows in
       let x = laid_of c.turn.desk room l m in
       let blocks = c.spot.blocks in
       let n = room_for c.turn.turned in
       let text = trace_of c.turn x blocks in
-      let on : is_failed c.turn.turned ≡ false = ap (λ (y : Intake). y.failed) (sym c.answer) ∙ e in
-      text_at n text out
-      (ap (λ (y : Intake). y.printed) c.answer ∙ ap (λ (b : Bool). cond b 0 (unless 0 (leb n (length out)) (length text))) on)
-      (c.lines ∙ ap (λ (b : Bool). cond b out (unless out (leb n (length out)) (overlaid out 0 text))) on)
+      let both = was_printed (is_failed c.turn.turned) _ _ (sym e ∙ ap (λ (y : Intake). y.printed) c.answer) c.lines in
+      text_at n text out both.0 both.1
       (omega (arith, room_most c.turn.turned))
       ∙ by_said c.turn.turned x blocks c.turn.held
       ∙ ap (text_by (turned_said c.turn.turned) x blocks) (sym s.stood.held.1)

@@ -8,6 +8,7 @@ ghost use Rattle.intake.specs.Turns.{Unread};
 ghost use Rattle.traced.specs.Recorded.{room_for, trace_of, Recorded};
 
 use desk::empty;
+use edges::Fault;
 use intake::turns::has_failed;
 use intake::{Intake, LONGEST, Turned};
 use prints::refuse;
@@ -22,20 +23,18 @@ fn print_trace(walk: Walk, room: &[u8], ledger: &[i64], map: &[u64], lines: &mut
         lines.old result lines.new }
 {
     let turn = walk.turn;
-    let desk = turn.desk;
-    let turned = turn.turned;
-    if let Turned::Refused(number) = turned {
-        return refuse(desk, number, &mut *lines);
+    match turn.turned {
+        Turned::Refused(number) => refuse(turn.desk, number, lines),
+        _ => trace_close(
+            turn.desk,
+            walk.spot.blocks,
+            turn.held,
+            room,
+            ledger,
+            map,
+            lines,
+        ),
     }
-    trace_close(
-        desk,
-        walk.spot.blocks,
-        turn.held,
-        room,
-        ledger,
-        map,
-        &mut *lines,
-    )
 }
 
 // A record of at most so many bytes: its trace stands in the lines.
@@ -52,21 +51,15 @@ fn trace_through(
     ensures { Recorded (laid_of empty_desk room.old ledger.old map.old) most lines.old
         result buffer.new room.new ledger.new map.new lines.new }
 {
-    let walk = pass_through(rt, most, &mut *buffer, &mut *room, &mut *ledger, &mut *map);
-    let turn = walk.turn;
-    let left = turn.left;
-    let turned = turn.turned;
-    if has_failed(turned) {
-        return Intake {
-            printed: 0,
-            left,
-            failed: true,
-        };
-    }
+    let walk = pass_through(rt, most, buffer, room, ledger, map);
+    let printed = if has_failed(walk.turn.turned) {
+        Err(Fault::Input)
+    } else {
+        Ok(print_trace(walk, room, ledger, map, lines))
+    };
     Intake {
-        printed: print_trace(walk, &room[..], &ledger[..], &map[..], &mut *lines),
-        left,
-        failed: false,
+        printed,
+        left: walk.turn.left,
     }
 }
 
@@ -90,18 +83,17 @@ pub fn trace_record(
 {
     if buffer.len() < LONGEST {
         return Intake {
-            printed: refuse(empty(), 1, &mut *lines),
+            printed: Ok(refuse(empty(), 1, lines)),
             left: most,
-            failed: false,
         };
     }
     trace_through(
         rt,
         most,
-        &mut *buffer,
-        &mut *room,
-        &mut *ledger,
-        &mut *map,
-        &mut *lines,
+        buffer,
+        room,
+        ledger,
+        map,
+        lines,
     )
 }

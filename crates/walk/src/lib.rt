@@ -76,26 +76,11 @@ fn walk_on(
         (take result.printed lines.new)
         (round_of result.turn buffer.new room.new ledger.new map.new) result.spot }
 {
-    let spot = walk.spot;
-    let turn = walk.turn;
-    let desk = turn.desk;
-    let t = read_once(
-        rt,
-        desk,
-        turn.used,
-        turn.held,
-        turn.left,
-        &mut *buffer,
-        &mut *room,
-        &mut *ledger,
-        &mut *map,
-    );
-    let used = t.used;
-    let x = list_fields(spot, &buffer[..used], &mut *lines);
-    let on = x.spot;
+    let t = read_once(rt, walk.turn, buffer, room, ledger, map);
+    let x = list_fields(walk.spot, &buffer[..t.used], lines);
     Walk {
         turn: t,
-        spot: on,
+        spot: x.spot,
         printed: x.next,
     }
 }
@@ -109,16 +94,15 @@ fn refused_line(walk: Walk, number: u32, buffer: &[u8], lines: &mut [u8]) -> usi
         lines.new result }
 {
     let turn = walk.turn;
-    let used = turn.used;
-    let end = used + turn.held;
+    let end = turn.used + turn.held;
     let k = turn.desk.fields + 1;
     refused_field(
-        &mut *lines,
+        lines,
         walk.printed,
         k,
         walk.spot.offset,
         number,
-        &buffer[used..end],
+        &buffer[turn.used..end],
     )
 }
 
@@ -131,11 +115,11 @@ fn last_line(walk: Walk, buffer: &[u8], lines: &mut [u8]) -> usize
     let turn = walk.turn;
     let turned = turn.turned;
     if let Turned::Refused(number) = turned {
-        return refused_line(walk, number, buffer, &mut *lines);
+        return refused_line(walk, number, buffer, lines);
     }
     let ending = ended(turn.desk.started, turn.held);
     match ending {
         Ending::Whole => walk.printed,
-        Ending::Refused(number) => refused_line(walk, number, buffer, &mut *lines),
+        Ending::Refused(number) => refused_line(walk, number, buffer, lines),
     }
 }

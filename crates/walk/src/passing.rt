@@ -26,24 +26,10 @@ fn pass_on(
         (list_from walk.spot (take result.turn.used buffer.new)).text
         (round_of result.turn buffer.new room.new ledger.new map.new) result.spot }
 {
-    let spot = walk.spot;
-    let turn = walk.turn;
-    let desk = turn.desk;
-    let t = read_once(
-        rt,
-        desk,
-        turn.used,
-        turn.held,
-        turn.left,
-        &mut *buffer,
-        &mut *room,
-        &mut *ledger,
-        &mut *map,
-    );
-    let used = t.used;
+    let t = read_once(rt, walk.turn, buffer, room, ledger, map);
     Walk {
         turn: t,
-        spot: pass_fields(spot, &buffer[..used]),
+        spot: pass_fields(walk.spot, &buffer[..t.used]),
         printed: 0,
     }
 }
@@ -62,14 +48,9 @@ pub fn pass_through(
         (round_of result.turn buffer.new room.new ledger.new map.new) result.spot }
 {
     let mut walk = begin(most);
-    let mut left = most;
-    while left > 0 {
-        let on = pass_on(rt, walk, &mut *buffer, &mut *room, &mut *ledger, &mut *map);
-        let turn = on.turn;
-        let turned = turn.turned;
-        walk = on;
-        left = turn.left;
-        if !goes_on(turned) {
+    while walk.turn.left > 0 {
+        walk = pass_on(rt, walk, buffer, room, ledger, map);
+        if !goes_on(walk.turn.turned) {
             return walk;
         }
     }
