@@ -1,14 +1,16 @@
 // A record in parts: what one reading gives goes to the desk with what was left over before it, and the rest waits at the front of the buffer for more.
 ghost use Rattle.std.specs.Prelude.{◌≡◌, ◌+◌, ◌-◌, ◌≤◌, ◌<◌, min, length, drop};
 ghost use Rattle.std.proofs.Math.Seq.{paste};
-ghost use Rattle.desk.specs.Feeding.{outcome_said, laid_of, empty_desk, longest, Steady};
+ghost use Rattle.laws.specs.Answers.{answer_said};
+ghost use Rattle.desk.specs.Feeding.{laid_of, empty_desk, longest, Steady};
 ghost use Rattle.edges.specs.Answers.{Within};
 ghost use Rattle.intake.specs.Turns.{stopped_by, turned_by, round_of, round_fed, round_by, Goes, going_on, Stood, Leads};
 
 use crate::turns::{goes_on, read_once};
 use crate::{Turn, Turned};
-use desk::{Desk, Outcome, empty, feed_on};
+use desk::{Desk, empty, feed_on};
 use edges::fill;
+use rules::Refusal;
 use std::io;
 
 // The smaller of the two.
@@ -29,12 +31,12 @@ pub fn to_front(buffer: &mut [u8], from: usize, upto: usize) -> usize
 }
 
 // What became of the bytes that went to the desk.
-fn turned_by(outcome: Outcome) -> Turned
-    ensures { result ≡ turned_by (outcome_said outcome) }
+fn turned_by(outcome: Result<(), Refusal>) -> Turned
+    ensures { result ≡ turned_by (answer_said outcome) }
 {
     match outcome {
-        Outcome::More => Turned::On,
-        Outcome::Refused(number) => Turned::Refused(number),
+        Ok(()) => Turned::On,
+        Err(refusal) => Turned::Refused(refusal.number()),
     }
 }
 

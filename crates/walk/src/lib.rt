@@ -18,7 +18,7 @@ use intake::turns::read_once;
 use intake::{Turn, Turned};
 use listing::list_fields;
 use listing::refused::refused_field;
-use reader::{Ending, ended};
+use reader::ended;
 use rules::Spot;
 
 // The last turn, where the field list stands behind it, and how many bytes of lines the turn brought.
@@ -113,13 +113,11 @@ fn last_line(walk: Walk, buffer: &[u8], lines: &mut [u8]) -> usize
     ensures { Wrote most_line lines.old walk.printed (last_of walk.turn walk.spot buffer.now) lines.new result }
 {
     let turn = walk.turn;
-    let turned = turn.turned;
-    if let Turned::Refused(number) = turned {
+    if let Turned::Refused(number) = turn.turned {
         return refused_line(walk, number, buffer, lines);
     }
-    let ending = ended(turn.desk.started, turn.held);
-    match ending {
-        Ending::Whole => walk.printed,
-        Ending::Refused(number) => refused_line(walk, number, buffer, lines),
+    match ended(turn.desk.started, turn.held) {
+        Ok(()) => walk.printed,
+        Err(unfinished) => refused_line(walk, unfinished.number(), buffer, lines),
     }
 }
