@@ -153,3 +153,10 @@ same_answer (Err n) (Err k) e = let same : number n ≡ number k = cc e in ap Er
 -- what is answered, and what that is
 pub ok_is : {A E : Type 0} {r : Result A E} {x y : A} → r ≡ Ok x → x ≡ y → r ≡ Ok y
 ok_is p q = p ∙ ap Ok q
+
+-- tests that refuse the same are the same
+pub same_refused : (x y : Result (Unit {0}) Refusal) → refused_by x ≡ refused_by y → x ≡ y
+same_refused (Ok x) (Ok y) e = refl
+same_refused (Ok x) (Err k) e = absurd (numbered k (sym e))
+same_refused (Err n) (Ok y) e = absurd (numbered n e)
+same_refused (Err n) (Err k) e = ap Err (same_refusal n k e)
