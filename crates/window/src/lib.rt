@@ -95,6 +95,7 @@ pub fn window_at(cycle: &[u8], w: u32, p: u32) -> Window
 }
 
 // The window of position p + 1, from that of position p: only its ends move, as long as nothing is to be worked out anew.
+#[tactic(auto, using(laws::proofs::Sound::sound, crate::proofs::Moves::shifts, crate::proofs::Moves::left_small, crate::proofs::Moves::right_small))]
 pub fn shift(cycle: &[u8], w: u32, p: u32, window: Window) -> Window
     requires { (valid cycle.now ≡ true) × (p + 1 < positions cycle.now) × (window ≡ window_of cycle.now w p) × (p + 1 < window.until) }
     ensures { result ≡ window_of cycle.now w (p + 1) }
