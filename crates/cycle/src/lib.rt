@@ -60,6 +60,7 @@ fn points_are_speeds(cycle: &[u8], n: usize) -> bool
 }
 
 // Whether the bytes are a cycle that breaks no rule.
+#[tactic(auto, unfolding(rules::specs::Cycle::valid))]
 pub fn is_cycle(cycle: &[u8]) -> bool
     ensures { result ≡ valid cycle.now }
 {
@@ -78,6 +79,7 @@ pub fn is_cycle(cycle: &[u8]) -> bool
 }
 
 // The phase in which position p lies.
+#[tactic(auto, using(laws::proofs::Sound::sound, laws::proofs::Sound::phase_before, laws::proofs::Sound::phase_least, laws::proofs::Sound::phase_exists))]
 pub fn phase_of(cycle: &[u8], p: u32) -> usize
     requires { (valid cycle.now ≡ true) × (p < positions cycle.now) }
     ensures { result ≡ phase_at cycle.now p }

@@ -28,7 +28,7 @@ use rules::limits::MOST_CYCLES;
 use rules::{End, Method, Moment, Tolerances};
 use state::{Progress, Run, Stretched};
 use stretches::{close_stretch, take_beside};
-use window::{Window, verdict_in, window_at};
+use window::{Side, Window, verdict_in, window_at};
 
 // Where a run stands while samples are taken: row, position and phase of the next sample and the window of its position, beside its progress.
 // Up to position `until` only the ends of the window move. The open interval is of the row and phase of the sample before.
@@ -103,7 +103,7 @@ pub fn with_taken(run: Run, x: Taken) -> Run
 fn is_outside(window: Window, s: u32, v: u32) -> bool
     ensures { result ≡ not (inside_of (least_in window) (greatest_in window) s v) }
 {
-    verdict_in(window, s, v) != 0
+    verdict_in(window, s, v) != Side::Inside
 }
 
 // A sample of an open run closes the open interval, in the ledger or in a stretch; before the first sample none is open.
