@@ -1,25 +1,18 @@
 -- What is printed of a file that is traced is what the rules give for the bytes that came from it, in whatever parts they came.
 -- Assumes nothing.
-use mathlib.Core.Bool.{Bool, false, cond}
-use mathlib.Core.List.{List, [], ◌∷◌, ◌++◌}
-use mathlib.Core.Logic.{⊎_elim}
-use mathlib.Core.Path.{◌≡◌, refl, sym, ap, subst, ◌∙◌}
+use mathlib.Core.List.{List, ◌++◌}
+use mathlib.Core.Path.{◌≡◌, refl, sym, ap, ◌∙◌}
 use Prim.Native.Nat.{ℕ, ◌≤◌}
 use native.Mathlib.Omega.{arith}
-use types.Run.{OneOf}
-use denote.Enum.Declared.{tag_of}
-use lib.Dec.{leb}
 use lib.IntN.{ℤ}
 use lib.ListN.{length, take, drop}
-use Rattle.rules.specs.Words.{unless}
 use Rattle.rules.specs.declared.Spot.{Spot}
 use Rattle.rules.specs.Listing.{list_of}
 use Rattle.rules.specs.Trace.{traced}
 use Rattle.laws.specs.Answers.{Said, gives, refuses}
-use Rattle.sheet.specs.Overlaid.{overlaid, most_sheet}
 use Rattle.desk.specs.Feeding.{Laid, Consumed, Lent, laid_of, feed_of}
 use Rattle.desk.proofs.Arriving.{Arrived, arrived_none, arrived_more}
-use Rattle.prints.specs.Printed.{PrintsIn, refuse_text}
+use Rattle.prints.specs.Printed.{refuse_text}
 use Rattle.prints.proofs.Texts.{text_at}
 use Rattle.tracing.specs.Traced.{most_trace, trace_close_text}
 use Rattle.tracing.proofs.Printed.{trace_print, trace_refusal}
@@ -29,24 +22,9 @@ use Rattle.intake.specs.declared.Turned.TheVariants.{On, Ended, Failed, Refused}
 use Rattle.intake.specs.Turns.{is_failed, Came, none, part, turned_said}
 use Rattle.std.specs.Prelude.{Ok}
 use Rattle.intake.proofs.Told.{start, was_printed}
-use Rattle.intake.specs.contracts.Turned.{the_type as turned-type}
 use Rattle.intake.proofs.Untested.{came_arrived}
 use Rattle.walk.proofs.Printed.{spot_is}
 use Rattle.traced.specs.Recorded.{last_trace, room_for, trace_of, Recorded}
-
--- what is printed of the last turn, by what became of it: the line of a refused field, or what stands where the input ends
-module _ (x : Laid) (blocks held : ℕ) (out : List ℕ) where
-  abbrev By : Turned → ℕ → List ℕ → Type 0
-  By z r after = PrintsIn (room_for z) (last_trace z x blocks held) out r after
-
-  pub refused_stands : {z : Turned} {k r : ℕ} {after : List ℕ} → z ≡ Refused k → PrintsIn most_sheet (refuse_text x k) out r after → By z r after
-  refused_stands {r = r} {after = after} e p = subst (λ (z : Turned). By z r after) (sym e) p
-
-  pub other_stands : (z : Turned) → OneOf (0 ∷ 1 ∷ 2 ∷ []) (tag_of turned-type z) → {r : ℕ} {after : List ℕ} → PrintsIn most_trace (trace_close_text x blocks held) out r after → By z r after
-  other_stands On h p = p
-  other_stands Ended h p = p
-  other_stands Failed h p = p
-  other_stands (Refused k) h p = absurd (⊎_elim (λ e. omega arith) (⊎_elim (λ e. omega arith) (λ e. omega arith)) h)
 
 room_most : (z : Turned) → room_for z ≤ most_trace
 room_most On = omega arith

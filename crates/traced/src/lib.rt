@@ -87,13 +87,5 @@ pub fn trace_record(
             left: most,
         };
     }
-    trace_through(
-        rt,
-        most,
-        buffer,
-        room,
-        ledger,
-        map,
-        lines,
-    )
+    trace_through(rt, most, buffer, room, ledger, map, lines)
 }
