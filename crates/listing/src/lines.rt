@@ -14,21 +14,7 @@ fn phases_in(cycle: &[u8]) -> usize
     requires { 9 ≤ length cycle.now }
     ensures { (result ≡ phases_in cycle.now) × (result ≤ 4) }
 {
-    let n = wide(cycle[0]);
-    if MOST_PHASES < n {
-        return MOST_PHASES;
-    }
-    n
-}
-
-// The last of n phases.
-fn last_of(n: usize) -> usize
-    ensures { result ≡ n - 1 }
-{
-    if n == 0 {
-        return 0;
-    }
-    n - 1
+    wide(cycle[0]).min(MOST_PHASES)
 }
 
 // The byte behind the end of phase k of n: a newline behind the last.
@@ -48,11 +34,9 @@ fn put_ends(out: &mut [u8], at: usize, cycle: &[u8], n: usize) -> usize
     ensures { Wrote 84 out.old at (in_turn (end_of_phase cycle.now) n) out.new result }
 {
     let mut next = at;
-    let mut k = 0;
-    while k < n {
+    for k in 0..n {
         let end = end_of(cycle, k) as u64;
         next = put_number(&mut *out, next, end, byte_behind(k, n));
-        k += 1;
     }
     next
 }
@@ -63,7 +47,7 @@ pub fn cycle_line(out: &mut [u8], at: usize, cycle: &[u8]) -> usize
     ensures { Wrote 118 out.old at (cycle_line cycle.now) out.new result }
 {
     let n = phases_in(cycle);
-    let seconds = end_of(cycle, last_of(n)) as u64;
+    let seconds = end_of(cycle, n.saturating_sub(1)) as u64;
     let word = put_text(&mut *out, at, b"cycle", 32);
     let next = put_number(&mut *out, word, seconds, 32);
     let ends = put_text(&mut *out, next, b"phases", 32);

@@ -33,9 +33,7 @@ pub fn first_of(run: Run, c: usize) -> u32
 {
     let n = 20 * run.track.seconds;
     let k = c as u32;
-    let track = run.track;
-    let method = track.method;
-    match method {
+    match run.track.method {
         Method::Regular => k * n,
         Method::Shortened(x) => first_around(x.length, n, k),
     }
@@ -57,10 +55,7 @@ pub fn phase_begun(cycle: &[u8], k: usize, first: u32, closed: u32) -> bool
     requires { (valid cycle.now ≡ true) × (first ≤ most_first) }
     ensures { result ≡ phase_begun cycle.now k first closed }
 {
-    if k < wide(cycle[0]) {
-        return first + 20 * (start_of(cycle, k) as u32) < closed;
-    }
-    false
+    k < wide(cycle[0]) && first + 20 * (start_of(cycle, k) as u32) < closed
 }
 
 // Whether it is finished.
@@ -68,10 +63,7 @@ pub fn phase_finished(cycle: &[u8], k: usize, first: u32, closed: u32) -> bool
     requires { (valid cycle.now ≡ true) × (first ≤ most_first) }
     ensures { result ≡ phase_finished cycle.now k first closed }
 {
-    if k < wide(cycle[0]) {
-        return first + 20 * (end_of(cycle, k) as u32) <= closed;
-    }
-    false
+    k < wide(cycle[0]) && first + 20 * (end_of(cycle, k) as u32) <= closed
 }
 
 // Whether M has begun, behind two cycles of n positions.

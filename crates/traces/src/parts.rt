@@ -54,13 +54,7 @@ pub fn phase_line(out: &mut [u8], at: usize, c: u64, k: u64, g: Gathered) -> usi
 fn has_rate(g: Gathered) -> bool
     ensures { result ≡ (g.finished && le_z (pos 1) g.energy && le_z (pos 1) g.distance) }
 {
-    if !g.finished {
-        return false;
-    }
-    if g.energy < 1 {
-        return false;
-    }
-    1 <= g.distance
+    g.finished && 1 <= g.energy && 1 <= g.distance
 }
 
 // "floor(100 X / Y)".
@@ -98,10 +92,7 @@ fn row_text(out: &mut [u8], at: usize, c: u64, g: Gathered) -> usize
 fn is_shown(begun: bool, outside: i64) -> bool
     ensures { result ≡ (begun || le_z (pos 1) outside) }
 {
-    if begun {
-        return true;
-    }
-    1 <= outside
+    begun || 1 <= outside
 }
 
 // "cycle C energy X distance Y outside O finished|open [rate Q]", where it is shown; c counts from 0.

@@ -14,12 +14,12 @@ pub returns-in_default : goal.returns-in_default
 returns-in_default c =
     let is : c.front_of.result ≡ Ok None = search rules in
     let none = at_incomplete c.args.input.now c.args.spot (said_incomplete _ c.front_of.ensures is) in
-    (none.used, none.spot)
+    sym none.used
 
 pub returns-in_default-2 : goal.returns-in_default-2
 returns-in_default-2 c =
     let none = at_impossible c.args.input.now c.args.spot (said_impossible _ _ c.front_of.ensures c.in_default.is).0 in
-    (none.used, none.spot)
+    sym none.used
 
 pub overflow_add-front : goal.overflow_add-front
 overflow_add-front c = let w : Whole c.args.input.now c.in-Ok-Some.front.tag c.in-Ok-Some.front.size = said_whole _ _ c.front_of.ensures (ok_is c.in-Ok-Some.is c.in-Ok-Some.field-0-is) in omega (arith, (sizes _ _ w.allowed).most, w.size)
@@ -34,7 +34,7 @@ pub returns : goal.returns
 returns c =
     let w : Whole c.args.input.now c.in-Ok-Some.front.tag c.in-Ok-Some.front.size = said_whole _ _ c.front_of.ensures (ok_is c.in-Ok-Some.is c.in-Ok-Some.field-0-is) in
     let p = c.args.spot in
-    (omega (arith, w.size, ap front_used w.is), c.spot_after.ensures ∙ ap (front_spot p) (sym w.is))
+    record { used = omega (arith, w.size, ap front_used w.is); spot = c.spot_after.ensures ∙ ap (front_spot p) (sym w.is); least = omega arith }
 
 pub slice_bounds-spot_after-end : goal.slice_bounds-spot_after-end
 slice_bounds-spot_after-end c =

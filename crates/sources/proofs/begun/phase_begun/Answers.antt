@@ -15,6 +15,6 @@ pub returns-then-k-wide : goal.returns-then-k-wide
 returns-then-k-wide c = let a = c.args in
     ap (λ (x : ℕ). ltb (a.first + 20 * x) a.closed) c.start_of.ensures ∙ rw (lt-ltb a.k (phases a.cycle.now) (omega arith))
 
-pub returns : goal.returns
-returns c = let a = c.args in
-    rw (le-ltb a.k (phases a.cycle.now) (omega arith))
+pub returns-else-k-wide : goal.returns-else-k-wide
+returns-else-k-wide c = let a = c.args in
+    rw (le-ltb _ _ c.if-k-wide.false, le-ltb a.k (phases a.cycle.now) (omega arith))

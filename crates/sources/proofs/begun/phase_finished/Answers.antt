@@ -18,6 +18,6 @@ pub returns-then-k-wide : goal.returns-then-k-wide
 returns-then-k-wide c = let a = c.args in
     ap (λ (x : ℕ). leb (a.first + 20 * x) a.closed) c.end_of.ensures ∙ rw (lt-ltb a.k (phases a.cycle.now) (omega arith))
 
-pub returns : goal.returns
-returns c = let a = c.args in
-    rw (le-ltb a.k (phases a.cycle.now) (omega arith))
+pub returns-else-k-wide : goal.returns-else-k-wide
+returns-else-k-wide c = let a = c.args in
+    rw (le-ltb _ _ c.if-k-wide.false, le-ltb a.k (phases a.cycle.now) (omega arith))
