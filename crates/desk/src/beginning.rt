@@ -58,7 +58,7 @@ fn open_one(desk: Desk, input: &[u8], room: &mut [u8], ledger: &mut [i64], map: 
     ensures { fed_left result room.new ledger.new map.new
         ≡ open_one (laid_of desk room.old ledger.old map.old) input.now }
 {
-    let answer = open(desk.opening, input, &mut *room, &mut *ledger, &mut *map);
+    let answer = open(desk.opening, input, room, ledger, map);
     opened(desk, answer)
 }
 
@@ -84,7 +84,7 @@ pub fn open_all(
                 desk: on,
             };
         }
-        let x = open_one(on, &input[used..], &mut *room, &mut *ledger, &mut *map);
+        let x = open_one(on, &input[used..], room, ledger, map);
         on = x.desk;
         let n = x.used;
         used += n;

@@ -108,8 +108,8 @@ fn read_on(desk: Desk, input: &[u8], room: &[u8], ledger: &mut [i64], map: &mut 
         desk.reading,
         input,
         &room[..desk.opening.cycle],
-        &mut *ledger,
-        &mut *map,
+        ledger,
+        map,
     );
     Fed {
         outcome: outcome_of(x.last),
@@ -134,13 +134,13 @@ pub fn feed_on(
     ensures { fed_left result room.new ledger.new map.new
         ≡ feed_of (laid_of desk room.old ledger.old map.old) input.now }
 {
-    let x = open_all(desk, input, &mut *room, &mut *ledger, &mut *map);
+    let x = open_all(desk, input, room, ledger, map);
     let on = x.desk;
     if !on.started {
         return x;
     }
     let used = x.used;
-    let y = read_on(on, &input[used..], &room[..], &mut *ledger, &mut *map);
+    let y = read_on(on, &input[used..], room, ledger, map);
     Fed {
         used: used + y.used,
         ..y
@@ -169,8 +169,8 @@ pub fn feed(desk: Desk, input: &[u8], room: &mut [u8], ledger: &mut [i64], map: 
     ensures { fed_left result room.new ledger.new map.new
         ≡ feed_of (laid_of desk room.old ledger.old map.old) input.now }
 {
-    if let Err(refusal) = desk_refusal(desk, &room[..], &ledger[..], &map[..]) {
+    if let Err(refusal) = desk_refusal(desk, room, ledger, map) {
         return stopped(desk, Err(refusal));
     }
-    feed_on(desk, input, &mut *room, &mut *ledger, &mut *map)
+    feed_on(desk, input, room, ledger, map)
 }

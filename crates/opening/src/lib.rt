@@ -147,7 +147,7 @@ fn open_cycle(o: Opening, room: &mut [u8], v: &[u8], n: usize) -> OpenAnswer
     if !is_cycle(v) {
         return refused_at(o, Refusal::Cycle);
     }
-    keep(&mut *room, v);
+    keep(room, v);
     OpenAnswer {
         step: Ok(OpenStep::Taken(n)),
         opening: Opening {
@@ -176,8 +176,8 @@ fn open_start(
         &room[..size],
         tolerances_of(v),
         Method::Regular,
-        &mut *ledger,
-        &mut *map,
+        ledger,
+        map,
     );
     match answer {
         Err(refusal) => refused_at(o, refusal),
@@ -210,8 +210,8 @@ pub fn open_whole(
     }
     match tag {
         2 => open_number(o, v, n),
-        3 => open_cycle(o, &mut *room, v, n),
-        4 => open_start(o, &room[..], &mut *ledger, &mut *map, v, n),
+        3 => open_cycle(o, room, v, n),
+        4 => open_start(o, room, ledger, map, v, n),
         _ => OpenAnswer {
             step: Ok(OpenStep::Taken(n)),
             opening: with_field(o),

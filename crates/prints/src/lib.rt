@@ -31,7 +31,7 @@ pub fn refuse(desk: Desk, number: u32, out: &mut [u8]) -> usize
         ≡ unless out.old (leb most_sheet (length out.old))
         (overlaid out.old 0 (refusal_text number (next_field desk.fields))) }
 {
-    refusal_line(number, next_field(desk.fields), &mut *out)
+    refusal_line(number, next_field(desk.fields), out)
 }
 
 // A record that was read to its end, on a desk without 1 or 2.
@@ -44,7 +44,7 @@ fn print_run(desk: Desk, ledger: &[i64], out: &mut [u8]) -> usize
 {
     let reading = desk.reading;
     let figures = figures_on(reading, ledger);
-    sheet_lines(figures, &mut *out)
+    sheet_lines(figures, out)
 }
 
 // The input ends, with so many bytes of an unfinished field left over.
@@ -63,10 +63,10 @@ pub fn close(
         (overlaid out.old 0 (close_text (laid_of desk room.now ledger.now map.now) left)) }
 {
     if let Err(refusal) = desk_refusal(desk, room, ledger, map) {
-        return refuse(desk, refusal.number(), &mut *out);
+        return refuse(desk, refusal.number(), out);
     }
     match ended(desk.started, left) {
-        Err(unfinished) => refuse(desk, unfinished.number(), &mut *out),
-        Ok(()) => print_run(desk, ledger, &mut *out),
+        Err(unfinished) => refuse(desk, unfinished.number(), out),
+        Ok(()) => print_run(desk, ledger, out),
     }
 }

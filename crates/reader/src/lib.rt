@@ -51,7 +51,7 @@ pub fn open(
     ensures { open_left result room.new ledger.new map.new
         ≡ front_opened opening room.old ledger.old map.old input.now }
 {
-    if let Err(refusal) = opening::open_refusal(opening, &room[..]) {
+    if let Err(refusal) = opening::open_refusal(opening, room) {
         return OpenAnswer {
             step: Err(refusal),
             opening,
@@ -68,9 +68,9 @@ pub fn open(
         },
         Ok(Some(front)) => opening::open_whole(
             opening,
-            &mut *room,
-            &mut *ledger,
-            &mut *map,
+            room,
+            ledger,
+            map,
             front.tag,
             &input[3..3 + front.size],
         ),
@@ -106,7 +106,7 @@ pub fn read(
     ensures { left (read_said result) ledger.new map.new
         ≡ read_left reading cycle.now ledger.old map.old input.now }
 {
-    if let Err(ground) = reading::read_refusal(reading, cycle, &ledger[..], &map[..]) {
+    if let Err(ground) = reading::read_refusal(reading, cycle, ledger, map) {
         return ReadAnswer {
             step: Err(ground),
             reading,
@@ -115,7 +115,7 @@ pub fn read(
     let me = reading.vehicle;
     let t = reading.run.track.tolerances;
     let k = reading::along_at(reading, cycle);
-    let x = reading::one_field(&me, cycle, t, k, &mut *ledger, &mut *map, input);
+    let x = reading::one_field(&me, cycle, t, k, ledger, map, input);
     ReadAnswer {
         step: x.step,
         reading: reading::with_along(reading, x.along),
@@ -137,7 +137,7 @@ pub fn read_fields(
     let me = reading.vehicle;
     let t = reading.run.track.tolerances;
     let k = reading::along_at(reading, cycle);
-    let x = reading::all_fields(&me, cycle, t, k, &mut *ledger, &mut *map, input);
+    let x = reading::all_fields(&me, cycle, t, k, ledger, map, input);
     AllAnswer {
         reading: reading::with_along(reading, x.along),
         fields: x.fields,
@@ -157,7 +157,7 @@ pub fn read_all(
     ensures { left (all_said result) ledger.new map.new
         ≡ all_left reading cycle.now ledger.old map.old input.now }
 {
-    if let Err(ground) = reading::read_refusal(reading, cycle, &ledger[..], &map[..]) {
+    if let Err(ground) = reading::read_refusal(reading, cycle, ledger, map) {
         return AllAnswer {
             reading,
             fields: 0,
@@ -165,7 +165,7 @@ pub fn read_all(
             last: Err(ground),
         };
     }
-    read_fields(reading, input, cycle, &mut *ledger, &mut *map)
+    read_fields(reading, input, cycle, ledger, map)
 }
 
 // Whether the input may end where the run has started or not, with so many bytes of an unfinished field left.

@@ -72,7 +72,7 @@ fn bring(
             passed: k.passed,
             amounts,
             method,
-            taken: take_block(cycle, t, method, taken, &mut *ledger, &mut *map, &v[21..]),
+            taken: take_block(cycle, t, method, taken, ledger, map, &v[21..]),
         },
         Bring::Before(energy) => with_amounts(k, 2, energy, amounts.after, charge),
         Bring::After(energy) => with_amounts(k, 4, amounts.before, energy, charge),
@@ -98,7 +98,7 @@ pub fn take_content(
     match c {
         Ok(Some(b)) => Stepped {
             step: Ok(Step::Taken(n)),
-            along: bring(cycle, t, k, &mut *ledger, &mut *map, v, b),
+            along: bring(cycle, t, k, ledger, map, v, b),
         },
         Ok(None) => Stepped {
             step: Ok(Step::Passed(n)),

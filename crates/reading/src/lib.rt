@@ -127,7 +127,7 @@ fn whole_field(
 {
     let offered = k.taken.going.progress.offered;
     let c = content_of(me, k.place, k.passed, offered, tag, v);
-    take_content(cycle, t, k, &mut *ledger, &mut *map, v, c, 3 + v.len())
+    take_content(cycle, t, k, ledger, map, v, c, 3 + v.len())
 }
 
 // The field at the front of the input.
@@ -159,8 +159,8 @@ pub fn one_field(
                 cycle,
                 t,
                 k,
-                &mut *ledger,
-                &mut *map,
+                ledger,
+                map,
                 front.tag,
                 &input[3..3 + front.size],
             )
@@ -199,7 +199,7 @@ pub fn all_fields(
     let mut fields = 0;
     let mut used = 0;
     while used < size {
-        let x = one_field(me, cycle, t, along, &mut *ledger, &mut *map, &input[used..]);
+        let x = one_field(me, cycle, t, along, ledger, map, &input[used..]);
         along = x.along;
         let n = bytes_of(x.step);
         if n == 0 {
