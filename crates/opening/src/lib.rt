@@ -74,16 +74,11 @@ fn tolerances_of(v: &[u8]) -> Tolerances
 }
 
 // Whether no number of the opening is beyond its limits.
+#[tactic(auto, unfolding(crate::specs::Answers::is_opening))]
 fn is_opening(o: Opening) -> bool
     ensures { result ≡ is_opening o }
 {
-    if 3 < o.fields {
-        return false;
-    }
-    if MOST_BYTES < o.cycle {
-        return false;
-    }
-    is_number(&o.vehicle)
+    o.fields <= 3 && o.cycle <= MOST_BYTES && is_number(&o.vehicle)
 }
 
 // 1, unless a field may be looked at.

@@ -11,27 +11,17 @@ use values::are_amounts;
 fn is_fresh(place: u32, offered: u32) -> bool
     ensures { result ≡ is_fresh place offered }
 {
-    if place <= 2 {
-        return offered == 0;
-    }
-    true
+    2 < place || offered == 0
 }
 
 // Whether no number of the reader's own is beyond its limits.
+#[tactic(auto, unfolding(crate::specs::Answers::is_reading))]
 pub fn is_reading(r: Reading) -> bool
     ensures { result ≡ is_reading r }
 {
-    if 5 < r.place {
-        return false;
-    }
-    if !is_fresh(r.place, r.run.progress.offered) {
-        return false;
-    }
-    if MOST_PASSED < r.passed {
-        return false;
-    }
-    if !are_amounts(r.amounts) {
-        return false;
-    }
-    is_number(&r.vehicle)
+    r.place <= 5
+        && is_fresh(r.place, r.run.progress.offered)
+        && r.passed <= MOST_PASSED
+        && are_amounts(r.amounts)
+        && is_number(&r.vehicle)
 }
