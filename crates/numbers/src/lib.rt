@@ -42,8 +42,8 @@ pub fn pair(high: u8, low: u8) -> u16
     u16::from_be_bytes([high, low])
 }
 
-// Stays: a function for each size, since `from_be_bytes` is a method of each type, which no const parameter chooses.
 // The two-byte number at place i.
+// Stays: a function for each size, since `from_be_bytes` is a method of each type, which no const parameter chooses.
 #[tactic(auto, unfolding(rules::specs::Words::be))]
 pub fn read16(b: &[u8], i: usize) -> u16
     requires { i + 1 < length b.now }
@@ -79,8 +79,8 @@ pub fn read64(b: &[u8], i: usize) -> u64
     ])
 }
 
-// Stays: a function for each size, as above.
 // Two bytes as a number of either sign, two's complement.
+// Stays: a function for each size, as above.
 pub fn signed16(x: u16) -> i16
     ensures { result ≡ to_z w16 x }
 {
