@@ -1,4 +1,6 @@
 // What the programs share: the memory that they lend, and record after record from standard input.
+ghost use Rattle.std.specs.Prelude.{◌≡◌, ◌<◌, ◌^◌, ℕ, pos, All};
+
 use edges::{Fault, fill_whole};
 use rules::limits::{LEDGER_NUMBERS, MAP_WORDS, MOST_BYTES};
 
@@ -14,7 +16,13 @@ pub struct Memory<const LINES: usize> {
 
 impl<const LINES: usize> Memory<LINES> {
     // With zeros everywhere.
-    pub fn new() -> Self {
+    pub fn new() -> Self
+        ensures buffer { All (λ byte. byte ≡ 0) result.buffer }
+        ensures room { All (λ byte. byte ≡ 0) result.room }
+        ensures ledger { All (λ number. number ≡ pos 0) result.ledger }
+        ensures map { All (λ word. word ≡ 0) result.map }
+        ensures lines { All (λ byte. byte ≡ 0) result.lines }
+    {
         Memory {
             buffer: [0; 4864],
             room: [0; MOST_BYTES],
@@ -36,7 +44,7 @@ pub fn each_record<F: FnMut(u64) -> Result<(), Fault>>(
     rt: HostRuntime,
     mut step: F,
 ) -> Result<(), Fault>
-    requires { F.IsAlwaysCallable step }
+    requires { (state : F) (n : ℕ) → n < 2 ^ 32 → F.pre state n }
 {
     // a proved loop has to end, and nothing says that the input does: no run uses this number up
     for _ in 0..u64::MAX {
