@@ -1,7 +1,7 @@
 // The edges of a program: what the system's answers mean, a part read, a text written.
 #![tactic(auto)]
 
-ghost use Rattle.std.specs.Prelude.{true, false, IfErr, ◌≡◌, ◌≤◌, length};
+ghost use Rattle.std.specs.Prelude.{false, IfErr, OnOk, ◌≡◌, ◌≤◌, length};
 ghost use Rattle.edges.specs.Answers.{meant, is_again, Within};
 
 use std::io::{Error, ErrorKind, Read, Write};
@@ -131,11 +131,15 @@ pub fn send(rt: HostRuntime, lines: &[u8], n: usize) -> usize
     lines.get(..n).map_or(0, |text| put(rt, text))
 }
 
-// The same: whether all did.
-pub fn print(rt: HostRuntime, lines: &[u8], n: usize) -> bool
-    ensures { result ≡ true → n ≤ length lines.now }
+// The same: a fault where not all did.
+pub fn print(rt: HostRuntime, lines: &[u8], n: usize) -> Result<(), Fault>
+    ensures { OnOk result (n ≤ length lines.now) }
 {
-    send(rt, lines, n) == n
+    if send(rt, lines, n) == n {
+        Ok(())
+    } else {
+        Err(Fault::Output)
+    }
 }
 
 // The text goes to standard error: whether all of it did.

@@ -2,6 +2,7 @@
 #![tactic(auto)]
 
 mod parts;
+pub mod programs;
 pub mod turns;
 
 ghost use Rattle.std.specs.Prelude.{◌≡◌, ◌≤◌, ◌<◌, length};
