@@ -40,12 +40,11 @@ fn trace_lines(
         out.new result }
 {
     let run = reading.run;
-    let amounts = reading.amounts;
     let figures = figures_on(reading, ledger);
     let plan = opening_lines(&mut *out, 0, reading, cycle);
     let offered = offered_lines(&mut *out, plan, run, fields, blocks, reading.passed);
     let parts = part_lines(&mut *out, offered, run, cycle, ledger);
-    behind_lines(&mut *out, parts, figures, amounts, ledger)
+    behind_lines(&mut *out, parts, figures, reading.amounts, ledger)
 }
 
 // A record that was read to its end, on a desk without 1 or 2, with its cycle in the room.
@@ -57,10 +56,9 @@ fn trace_run(desk: Desk, blocks: u64, room: &[u8], ledger: &[i64], out: &mut [u8
         (trace_text (trace_on desk.reading (take desk.opening.cycle room.now) ledger.now desk.fields blocks))
         out.new result }
 {
-    let reading = desk.reading;
     let size = desk.opening.cycle;
     trace_lines(
-        reading,
+        desk.reading,
         desk.fields,
         blocks,
         &room[..size],

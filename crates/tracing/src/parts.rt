@@ -19,11 +19,9 @@ fn phase_lines(out: &mut [u8], at: usize, run: Run, cycle: &[u8], ledger: &[i64]
     ensures { Wrote 468 out.old at (in_turn (phase_at run cycle.now ledger.now c) most_phases) out.new result }
 {
     let mut next = at;
-    let mut k: usize = 0;
-    while k < MOST_PHASES {
+    for k in 0..MOST_PHASES {
         let g = phase_on(run, cycle, ledger, c, k);
         next = phase_line(&mut *out, next, c as u64, k as u64, g);
-        k += 1;
     }
     next
 }
@@ -45,10 +43,8 @@ fn all_cycles(out: &mut [u8], at: usize, run: Run, cycle: &[u8], ledger: &[i64])
     ensures { Wrote 40064 out.old at (in_turn (cycle_at run cycle.now ledger.now) most_cycles) out.new result }
 {
     let mut next = at;
-    let mut c: usize = 0;
-    while c < MOST_CYCLES {
+    for c in 0..MOST_CYCLES {
         next = cycle_lines(&mut *out, next, run, cycle, ledger, c);
-        c += 1;
     }
     next
 }
