@@ -57,4 +57,4 @@ module _ (x : Laid) (blocks left : ℕ) where
     -- refused, with the number n
     pub by_refusal : {s : Result (Unit {0}) Refusal} (k : Refusal) {n : ℕ} → n ≡ number k → answer_said s ≡ ending_of x.desk.started left → s ≡ Err k
         → refuse_text x n ≡ trace_close_text x blocks left
-    by_refusal k q e p = ap (refuse_text x) q ∙ by_ending e ping e p = ap (λ (z : Said (Unit {0})). trace_ending z x blocks) (ap ending_said (sym p) ∙ e) ∙ by_end
+    by_refusal k q e p = ap (refuse_text x) q ∙ by_ending e p
