@@ -11,11 +11,10 @@ use Rattle.rules.specs.declared.Method.{Method}
 use Rattle.rules.specs.declared.Moment.{Moment}
 use Rattle.rules.specs.declared.Tolerances.{Tolerances}
 use Rattle.rules.specs.Plan.{Plan}
-use Rattle.laws.specs.Answers.{gives}
+use Rattle.laws.specs.Answers.{gives, answer_said}
 use Rattle.laws.proofs.Answers.{was_given, given_is}
 use Rattle.state.specs.declared.Run.{Run}
 use Rattle.state.specs.State.{Memory, lent}
-use Rattle.judge.specs.Answers.{answer_said}
 use Rattle.judge.proofs.Promises.{Promised, promised, StartPromise, SamplePromise, BlockPromise, refused_changes_nothing}
 use Rattle.judge.proofs.Runs.{Reached}
 use Rattle.demands.specs.Calls.{StartCall, SampleCall, BlockCall, start_leaves, sample_leaves, block_leaves}

@@ -25,7 +25,7 @@ use Rattle.rules.specs.Cycle.{valid}
 use Rattle.rules.specs.Band.{grid20, inside, side, verdict}
 use Rattle.rules.specs.Tally as tally
 use Rattle.rules.specs.Course.{outside, judged, closed}
-use Rattle.laws.specs.Answers.{gives, refuses}
+use Rattle.laws.specs.Answers.{gives, refuses, answer_said}
 use Rattle.laws.specs.Beside.{stopped, is_block}
 use Rattle.rules.specs.Regular.{moment_in}
 use Rattle.rules.specs.Plan.{Plan, plan, course_of}
@@ -44,7 +44,7 @@ use Rattle.blocks.specs.Blocks.{block_refusal}
 use Rattle.laws.proofs.Answers.{was_given, given_refused, given_is}
 use Rattle.laws.proofs.Samples.{block_of}
 use Rattle.blocks.proofs.Accepted.{block_accepted}
-use Rattle.judge.specs.Answers.{answer_said, plan_of, after_sample, after_block}
+use Rattle.judge.specs.Answers.{plan_of, after_sample, after_block}
 use Rattle.judge.proofs.Promises.{Promised}
 use Rattle.judge.proofs.Runs as runs
 use Rattle.rules.specs.Question.{question}
