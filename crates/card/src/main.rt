@@ -2,11 +2,10 @@
 // line behind it.
 #![tactic(auto)]
 
-use edges::{Fault, print};
+use edges::{Fault, print, tell_fault};
 use intake::programs::{Memory, each_record};
 use intake::{skip, take_record};
 use sheet::MOST_SHEET;
-use std::io::Write;
 
 // The sheet of a record of so many bytes.
 fn next_sheet(rt: HostRuntime, length: u64, m: &mut Memory<MOST_SHEET>) -> Result<(), Fault> {
@@ -28,6 +27,6 @@ fn next_sheet(rt: HostRuntime, length: u64, m: &mut Memory<MOST_SHEET>) -> Resul
 fn main(rt: HostRuntime) {
     let mut m = Memory::<MOST_SHEET>::new();
     if let Err(fault) = each_record(rt, |length| next_sheet(rt, length, &mut m)) {
-        let _ = writeln!(rt.stderr(), "card: {fault}");
+        tell_fault(rt, "card", fault);
     }
 }

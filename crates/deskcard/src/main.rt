@@ -2,10 +2,9 @@
 // field list, with an empty line behind it.
 #![tactic(auto)]
 
-use edges::{Fault, fill_whole, print};
+use edges::{Fault, fill_whole, print, tell, tell_fault};
 use intake::programs::{Memory, each_record};
 use intake::skip;
-use std::io::Write;
 use traced::trace_record;
 use walk::whole::{MOST_LINES, list_record};
 
@@ -59,17 +58,16 @@ fn each_text(rt: HostRuntime, letter: u8) -> Result<(), Fault> {
 }
 
 fn main(rt: HostRuntime) {
-    let mut err = rt.stderr();
     let mut letter = [0u8; 1];
     if !fill_whole(rt, &mut letter) {
-        let _ = writeln!(err, "deskcard: there is no letter");
+        tell(rt, b"deskcard: there is no letter\n");
         return;
     }
     if let Err(fault) = each_text(rt, letter[0]) {
-        let _ = writeln!(err, "deskcard: {fault}");
+        tell_fault(rt, "deskcard", fault);
         // a text that was not read is lost too
         if fault == Fault::Input {
-            let _ = writeln!(err, "deskcard: {}", Fault::Output);
+            tell_fault(rt, "deskcard", Fault::Output);
         }
     }
 }

@@ -15,7 +15,7 @@ const STDOUT_FILENO: i32 = 1;
 
 const STDERR_FILENO: i32 = 2;
 
-// What a program says on standard error before it ends: the input could not be read, or the system took no more of the output.
+// Why a program ends before its work is done: the input could not be read, or the system took no more of the output.
 #[derive(Clone, Copy, Debug, PartialEq, Eq)]
 pub enum Fault {
     Input,
@@ -90,7 +90,9 @@ pub fn fill(rt: HostRuntime, part: &mut [u8]) -> io::Result<usize>
 
 // Reads from standard input until the part is full; false where the input ends before, or reading fails.
 pub fn fill_whole(rt: HostRuntime, part: &mut [u8]) -> bool {
-    rt.stdin().read_exact(part).is_ok()
+    let mut input = rt.stdin();
+    prove!(input.as_raw_fd() == STDIN_FILENO);
+    input.read_exact(part).is_ok()
 }
 
 // Writes from the front of the text to standard output.
@@ -147,6 +149,13 @@ pub fn tell(rt: HostRuntime, text: &[u8]) -> bool {
     let mut err = rt.stderr();
     prove!(err.as_raw_fd() == STDERR_FILENO);
     err.write_all(text).is_ok()
+}
+
+// What went wrong goes to standard error, behind the program's name: whether all of it did.
+pub fn tell_fault(rt: HostRuntime, program: &str, fault: Fault) -> bool {
+    let mut log = rt.stderr();
+    prove!(log.as_raw_fd() == STDERR_FILENO);
+    writeln!(log, "{program}: {fault}").is_ok()
 }
 
 // A number goes to standard output, by its digits: whether all of them did.

@@ -1,9 +1,8 @@
 // The field list: a record from standard input, a line for each of its fields to standard output.
 #![tactic(auto)]
 
-use edges::{Fault, print};
+use edges::{Fault, print, tell_fault};
 use intake::programs::Memory;
-use std::io::Write;
 use walk::whole::{MOST_LINES, list_record};
 
 fn list(rt: HostRuntime) -> Result<(), Fault> {
@@ -22,6 +21,6 @@ fn list(rt: HostRuntime) -> Result<(), Fault> {
 
 fn main(rt: HostRuntime) {
     if let Err(fault) = list(rt) {
-        let _ = writeln!(rt.stderr(), "fieldlist: {fault}");
+        tell_fault(rt, "fieldlist", fault);
     }
 }

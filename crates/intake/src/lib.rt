@@ -21,6 +21,7 @@ use turns::has_failed;
 pub const LONGEST: usize = 3 + MOST_BYTES;
 
 // What became of a turn: bytes were taken, the input ended, reading failed, or a field was refused.
+// Stays: four things can become of a turn, and two of them are no fault, so that a Result of an Option would hide which is which.
 #[derive(Clone, Copy, Debug, PartialEq, Eq)]
 pub enum Turned {
     On,
@@ -92,6 +93,7 @@ fn read_record(
 }
 
 // The same, of any buffer: one that is too short for a field is refused 1 before all else.
+// Stays: the five slices one by one: `desk::feed_on` takes them so, and `ProgramPrints` (demands/specs/Programs.antt) speaks of each by itself.
 pub fn take_record(
     rt: HostRuntime,
     most: u64,

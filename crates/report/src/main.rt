@@ -1,11 +1,10 @@
 // The report: a record from standard input, its sheet to standard output.
 #![tactic(auto)]
 
-use edges::{Fault, print};
+use edges::{Fault, print, tell_fault};
 use intake::programs::Memory;
 use intake::take_record;
 use sheet::MOST_SHEET;
-use std::io::Write;
 
 fn report(rt: HostRuntime) -> Result<(), Fault> {
     let mut m = Memory::<MOST_SHEET>::new();
@@ -23,6 +22,6 @@ fn report(rt: HostRuntime) -> Result<(), Fault> {
 
 fn main(rt: HostRuntime) {
     if let Err(fault) = report(rt) {
-        let _ = writeln!(rt.stderr(), "report: {fault}");
+        tell_fault(rt, "report", fault);
     }
 }

@@ -1,9 +1,8 @@
 // The trace: a record from standard input, its sheet with every number that it came from to standard output.
 #![tactic(auto)]
 
-use edges::{Fault, print};
+use edges::{Fault, print, tell_fault};
 use intake::programs::Memory;
-use std::io::Write;
 use traced::trace_record;
 use tracing::MOST_TRACE;
 
@@ -23,6 +22,6 @@ fn trace(rt: HostRuntime) -> Result<(), Fault> {
 
 fn main(rt: HostRuntime) {
     if let Err(fault) = trace(rt) {
-        let _ = writeln!(rt.stderr(), "trace: {fault}");
+        tell_fault(rt, "trace", fault);
     }
 }

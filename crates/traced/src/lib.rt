@@ -17,6 +17,7 @@ use walk::Walk;
 use walk::passing::pass_through;
 
 // What is printed of a record that was walked through, to its end or to a refused field.
+// Stays: beside `print_record` (intake): the texts need lines of other lengths (`room_for`), and two lines would not get fewer by a closure.
 fn print_trace(walk: Walk, room: &[u8], ledger: &[i64], map: &[u64], lines: &mut [u8]) -> usize
     ensures { PrintsIn (room_for walk.turn.turned)
         (trace_of walk.turn (laid_of walk.turn.desk room.now ledger.now map.now) walk.spot.blocks)
@@ -64,6 +65,7 @@ fn trace_through(
 }
 
 // The same, of any buffer: one that is too short for a field is refused 1 before all else.
+// Stays: beside `intake::take_record`: a step that is handed over would have to lend all slices on, and each of the two promises a `Recorded` of its own.
 pub fn trace_record(
     rt: HostRuntime,
     most: u64,

@@ -35,6 +35,7 @@ fn pass_on(
 }
 
 // Turn after turn, to the last one of a record of at most so many bytes.
+// Stays: beside `read_through` (intake) and `list_through`: each has a state of its own, and an invariant about it, of which four lines of loop are the least part.
 pub fn pass_through(
     rt: HostRuntime,
     most: u64,
