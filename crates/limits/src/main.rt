@@ -67,10 +67,8 @@ fn number_at(i: usize, energy: i64, distance: i64) -> i64 {
 }
 
 fn fill(ledger: &mut [i64], energy: i64, distance: i64) {
-    let mut i = 0;
-    while i < ledger.len() {
-        ledger[i] = number_at(i, energy, distance);
-        i += 1;
+    for (i, number) in ledger.iter_mut().enumerate() {
+        *number = number_at(i, energy, distance);
     }
 }
 

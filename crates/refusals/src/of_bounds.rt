@@ -20,7 +20,7 @@ fn try_number(rt: HostRuntime, what: &[u8], at: usize, number: i64) {
         current: -120,
     };
     let run = ended_run(2561);
-    let answer = judge::sample(run, &CYCLE[..], &mut ledger[..], &mut map[..], x);
+    let answer = judge::sample(run, &CYCLE, &mut ledger, &mut map, x);
     say(rt, what, number_of(answer));
 }
 
@@ -62,8 +62,8 @@ fn reading_holding(before: i64, after: i64) -> Reading {
 pub fn amounts(rt: HostRuntime) {
     let most = 20_000_000_000_000;
     let beyond = 20_000_000_000_001;
-    let unknown = &UNKNOWN[..];
-    let cycle = &CYCLE[..];
+    let unknown = &UNKNOWN;
+    let cycle = &CYCLE;
     let full = reading_holding(most, -most);
     let turned = reading_holding(-most, most);
     let before = reading_holding(beyond, 0);
