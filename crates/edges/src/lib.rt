@@ -81,7 +81,7 @@ pub fn fill(rt: HostRuntime, part: &mut [u8]) -> io::Result<usize>
     ensures answered { IfErr result (λ e. is_again e ≡ false) }
 {
     for _ in 0..u64::MAX {
-        if let Some(got) = meaning(read_once(rt, &mut *part)) {
+        if let Some(got) = meaning(read_once(rt, part)) {
             return got;
         }
     }

@@ -46,8 +46,8 @@ fn put_numbered(out: &mut [u8], at: usize, k: u64, offset: u64) -> usize
     requires { at + 42 ≤ length out.old }
     ensures { Wrote 42 out.old at (numbered k offset) out.new result }
 {
-    let next = put_number(&mut *out, at, k, 32);
-    put_number(&mut *out, next, offset, 32)
+    let next = put_number(out, at, k, 32);
+    put_number(out, next, offset, 32)
 }
 
 // A whole field of an allowed length: its line.
@@ -58,8 +58,8 @@ fn list_whole(spot: Spot, tag: u8, v: &[u8], out: &mut [u8], at: usize) -> Listi
         (numbered (spot.fields + 1) spot.offset ++ field_text spot.vehicle (record { tag = tag; value = v.now }))
         out.new result.next }
 {
-    let text = put_numbered(&mut *out, at, spot.fields + 1, spot.offset);
-    let next = field_text(&mut *out, text, &spot.vehicle[..], tag, v);
+    let text = put_numbered(out, at, spot.fields + 1, spot.offset);
+    let next = field_text(out, text, &spot.vehicle[..], tag, v);
     Listing {
         spot: spot_after(spot, tag, v),
         next,
@@ -90,7 +90,7 @@ pub fn list_fields(spot: Spot, input: &[u8], out: &mut [u8]) -> Lined
     let mut on = spot;
     let mut next = 0;
     let mut used = 0;
-    while let Some(x) = list_one(on, &input[used..], &mut *out, next) {
+    while let Some(x) = list_one(on, &input[used..], out, next) {
         on = x.spot;
         next = x.next;
         used += x.used;

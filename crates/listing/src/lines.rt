@@ -36,7 +36,7 @@ fn put_ends(out: &mut [u8], at: usize, cycle: &[u8], n: usize) -> usize
     let mut next = at;
     for k in 0..n {
         let end = end_of(cycle, k) as u64;
-        next = put_number(&mut *out, next, end, byte_behind(k, n));
+        next = put_number(out, next, end, byte_behind(k, n));
     }
     next
 }
@@ -48,10 +48,10 @@ pub fn cycle_line(out: &mut [u8], at: usize, cycle: &[u8]) -> usize
 {
     let n = phases_in(cycle);
     let seconds = end_of(cycle, n.saturating_sub(1)) as u64;
-    let word = put_text(&mut *out, at, b"cycle", 32);
-    let next = put_number(&mut *out, word, seconds, 32);
-    let ends = put_text(&mut *out, next, b"phases", 32);
-    put_ends(&mut *out, ends, cycle, n)
+    let word = put_text(out, at, b"cycle", 32);
+    let next = put_number(out, word, seconds, 32);
+    let ends = put_text(out, next, b"phases", 32);
+    put_ends(out, ends, cycle, n)
 }
 
 // "tolerances S W A".
@@ -59,8 +59,8 @@ pub fn tolerances_line(out: &mut [u8], at: usize, t: Tolerances) -> usize
     requires { at + 74 ≤ length out.old }
     ensures { Wrote 74 out.old at (tolerances_line t) out.new result }
 {
-    let word = put_text(&mut *out, at, b"tolerances", 32);
-    let speed = put_number(&mut *out, word, t.speed as u64, 32);
-    let time = put_number(&mut *out, speed, t.time as u64, 32);
-    put_number(&mut *out, time, t.allowance as u64, 10)
+    let word = put_text(out, at, b"tolerances", 32);
+    let speed = put_number(out, word, t.speed as u64, 32);
+    let time = put_number(out, speed, t.time as u64, 32);
+    put_number(out, time, t.allowance as u64, 10)
 }

@@ -24,12 +24,12 @@ fn print_whole(
     requires { (most_bytes ≤ length room.old) × (ledger_numbers ≤ length ledger.old) × (map_words ≤ length map.old) }
     ensures { Prints (printed (sheet_of «record».now)) lines.old result lines.new }
 {
-    let x = feed(empty(), record, &mut *room, &mut *ledger, &mut *map);
+    let x = feed(empty(), record, room, ledger, map);
     if let Err(refusal) = x.outcome {
-        return refuse(x.desk, refusal.number(), &mut *lines);
+        return refuse(x.desk, refusal.number(), lines);
     }
     let left = record.len() - x.used;
-    close(x.desk, left, &room[..], &ledger[..], &map[..], &mut *lines)
+    close(x.desk, left, room, ledger, map, lines)
 }
 
 // The first n bytes of the lines, a sheet, go to the front of out where they fit.
@@ -55,12 +55,6 @@ pub fn paperwhelk_sheet(record: &[u8], out: &mut [u8]) -> i32
     let mut ledger = [0i64; LEDGER_NUMBERS];
     let mut map = [0u64; MAP_WORDS];
     let mut lines = [0u8; MOST_SHEET];
-    let n = print_whole(
-        record,
-        &mut room[..],
-        &mut ledger[..],
-        &mut map[..],
-        &mut lines[..],
-    );
-    hand_over(&lines[..], n, &mut *out)
+    let n = print_whole(record, &mut room, &mut ledger, &mut map, &mut lines);
+    hand_over(&lines, n, out)
 }

@@ -18,7 +18,7 @@ pub fn put_text(out: &mut [u8], at: usize, text: &[u8], last: u8) -> usize
     requires { at + length text.now + 1 ≤ length out.old }
     ensures { Wrote (length text.now + 1) out.old at (text.now ++ last ∷ []) out.new result }
 {
-    let end = put(&mut *out, at, text);
+    let end = put(out, at, text);
     out[end] = last;
     end + 1
 }
@@ -31,7 +31,7 @@ fn put_digits(out: &mut [u8], at: usize, n: u64) -> usize
         out[at] = 48 + (n as u8);
         return at + 1;
     }
-    let next = put_digits(&mut *out, at, n / 10);
+    let next = put_digits(out, at, n / 10);
     out[next] = 48 + ((n % 10) as u8);
     next + 1
 }
@@ -41,7 +41,7 @@ pub fn put_number(out: &mut [u8], at: usize, n: u64, last: u8) -> usize
     requires { at + 21 ≤ length out.old }
     ensures { Wrote 21 out.old at (digits n ++ last ∷ []) out.new result }
 {
-    let next = put_digits(&mut *out, at, n);
+    let next = put_digits(out, at, n);
     out[next] = last;
     next + 1
 }
@@ -54,7 +54,7 @@ pub fn put_signed(out: &mut [u8], at: usize, z: i64, last: u8) -> usize
     let n = z.unsigned_abs();
     if z < 0 {
         out[at] = 45;
-        return put_number(&mut *out, at + 1, n, last);
+        return put_number(out, at + 1, n, last);
     }
-    put_number(&mut *out, at, n, last)
+    put_number(out, at, n, last)
 }

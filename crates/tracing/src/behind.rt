@@ -44,7 +44,7 @@ fn weight_lines(out: &mut [u8], at: usize, ledger: &[i64], whole: u64, n: usize)
     let mut next = at;
     for c in 0..n {
         let num = weight_in(ledger, whole, n, c);
-        next = weight_line(&mut *out, next, c as u64, num, den);
+        next = weight_line(out, next, c as u64, num, den);
     }
     next
 }
@@ -62,11 +62,11 @@ fn figure_lines(
     requires { (at + 4608 ≤ length out.old) × (bounded ledger.now ≡ true) × (whole ≤ most_whole) × (n ≤ most_cycles) }
     ensures { Wrote 4608 out.old at (figures_on ledger.now whole n charge x) out.new result }
 {
-    let weights = weight_lines(&mut *out, at, ledger, whole, n);
-    let weighted = number_line(&mut *out, weights, b"weighted", x.weighted);
-    let range = number_line(&mut *out, weighted, b"range", x.range);
-    let next = charge_line(&mut *out, range, charge);
-    recharge_line(&mut *out, next, x.recharge)
+    let weights = weight_lines(out, at, ledger, whole, n);
+    let weighted = number_line(out, weights, b"weighted", x.weighted);
+    let range = number_line(out, weighted, b"range", x.range);
+    let next = charge_line(out, range, charge);
+    recharge_line(out, next, x.recharge)
 }
 
 // The same, or the closing's refusal, behind which nothing stands.
@@ -83,8 +83,8 @@ fn closing_part(
     ensures { Wrote 4608 out.old at (closing_for ledger.now whole n charge closing) out.new result }
 {
     match closing {
-        Ok(x) => figure_lines(&mut *out, at, ledger, whole, n, charge, x),
-        Err(k) => refused_line(&mut *out, at, k),
+        Ok(x) => figure_lines(out, at, ledger, whole, n, charge, x),
+        Err(k) => refused_line(out, at, k),
     }
 }
 
@@ -114,9 +114,9 @@ pub fn behind_lines(
         out.new result }
 {
     let whole = whole_of(amounts.before, f.drawn);
-    let next = sum_lines(&mut *out, at, f.cycles, f.outside, f.drawn, amounts, whole);
+    let next = sum_lines(out, at, f.cycles, f.outside, f.drawn, amounts, whole);
     closing_part(
-        &mut *out,
+        out,
         next,
         ledger,
         u64::try_from(whole).unwrap_or(0),

@@ -41,10 +41,10 @@ fn trace_lines(
 {
     let run = reading.run;
     let figures = figures_on(reading, ledger);
-    let plan = opening_lines(&mut *out, 0, reading, cycle);
-    let offered = offered_lines(&mut *out, plan, run, fields, blocks, reading.passed);
-    let parts = part_lines(&mut *out, offered, run, cycle, ledger);
-    behind_lines(&mut *out, parts, figures, reading.amounts, ledger)
+    let plan = opening_lines(out, 0, reading, cycle);
+    let offered = offered_lines(out, plan, run, fields, blocks, reading.passed);
+    let parts = part_lines(out, offered, run, cycle, ledger);
+    behind_lines(out, parts, figures, reading.amounts, ledger)
 }
 
 // A record that was read to its end, on a desk without 1 or 2, with its cycle in the room.
@@ -63,7 +63,7 @@ fn trace_run(desk: Desk, blocks: u64, room: &[u8], ledger: &[i64], out: &mut [u8
         blocks,
         &room[..size],
         ledger,
-        &mut *out,
+        out,
     )
 }
 
@@ -87,10 +87,10 @@ pub fn trace_close(
         return 0;
     }
     if let Err(refusal) = desk_refusal(desk, room, ledger, map) {
-        return refuse(desk, refusal.number(), &mut *out);
+        return refuse(desk, refusal.number(), out);
     }
     match ended(desk.started, left) {
-        Err(unfinished) => refuse(desk, unfinished.number(), &mut *out),
-        Ok(()) => trace_run(desk, blocks, room, ledger, &mut *out),
+        Err(unfinished) => refuse(desk, unfinished.number(), out),
+        Ok(()) => trace_run(desk, blocks, room, ledger, out),
     }
 }

@@ -23,7 +23,7 @@ pub fn opening_lines(out: &mut [u8], at: usize, reading: Reading, cycle: &[u8]) 
 {
     let track = reading.run.track;
     plan_lines(
-        &mut *out,
+        out,
         at,
         &reading.vehicle[..],
         track.method,
@@ -38,10 +38,8 @@ fn stop_text(out: &mut [u8], at: usize, run: Run) -> usize
     ensures { Wrote 64 out.old at (stop_shown (stop_on run)) out.new result }
 {
     match stop_on(run) {
-        Stop::InE(_) => stop_in_e(&mut *out, at),
-        Stop::At(cycle, position) => {
-            stop_at_cycle(&mut *out, at, cycle as u64 + 1, position as u64)
-        }
+        Stop::InE(_) => stop_in_e(out, at),
+        Stop::At(cycle, position) => { stop_at_cycle(out, at, cycle as u64 + 1, position as u64) }
     }
 }
 
@@ -52,7 +50,7 @@ fn stop_line(out: &mut [u8], at: usize, run: Run) -> usize
 {
     match run.progress.end {
         End::None => at,
-        End::Stop => stop_text(&mut *out, at, run),
+        End::Stop => stop_text(out, at, run),
         End::Limit => at,
     }
 }
@@ -70,8 +68,8 @@ pub fn offered_lines(
     ensures { Wrote 224 out.old at (offered_on run fields blocks passed) out.new result }
 {
     let progress = run.progress;
-    let first = fields_line(&mut *out, at, fields, blocks, passed);
-    let second = number_line(&mut *out, first, b"offered", progress.offered as u64);
-    let third = end_line(&mut *out, second, progress.end, progress.counted);
-    stop_line(&mut *out, third, run)
+    let first = fields_line(out, at, fields, blocks, passed);
+    let second = number_line(out, first, b"offered", progress.offered as u64);
+    let third = end_line(out, second, progress.end, progress.counted);
+    stop_line(out, third, run)
 }
