@@ -1,27 +1,17 @@
 -- `listing::passing::pass_one` meets its contract.
 use mathlib.Core.Path.{sym, ap, ◌∙◌}
 use native.Mathlib.Omega.{arith}
-use borrow.Enum.Refused.{opened}
 use Rattle.laws.proofs.Tags.{sizes}
 use Rattle.fields.proofs.Fronts.{Whole, said_whole}
 use Rattle.listing.specs.Lines.{front_used, front_spot}
-use Rattle.listing.proofs.Fronted.{no_field_lem, counts_less}
+use Rattle.listing.proofs.Fronted.{counts_less}
 use Rattle.listing.proofs.passing.pass_one.Goals as goal
-
-pub returns-in_default : goal.returns-in_default
-returns-in_default c =
-    let s = c in
-    let none = no_field_lem s.args.input.now s.args.spot c.front_of.result c.front_of.ensures (opened c.in_default.in_default-own.keys2) in
-    sym none.used
 
 pub overflow_add-n : goal.overflow_add-n
 overflow_add-n c = let w : Whole c.args.input.now c.in-Field.tag c.in-Field.n = said_whole _ _ _ c.front_of.ensures c.in-Field.is in omega (arith, (sizes _ _ w.allowed).most, w.size)
 
 pub spot_after-requires : goal.spot_after-requires
 spot_after-requires c = let w : Whole c.args.input.now c.in-Field.tag c.in-Field.n = said_whole _ _ _ c.front_of.ensures c.in-Field.is in let s = c in (w.allowed, counts_less s.requires (omega (arith, w.size, w.long)))
-
-pub overflow_add-result : goal.overflow_add-result
-overflow_add-result c = let w : Whole c.args.input.now c.in-Field.tag c.in-Field.n = said_whole _ _ _ c.front_of.ensures c.in-Field.is in omega (arith, (sizes _ _ w.allowed).most, w.size)
 
 pub returns : goal.returns
 returns c =
