@@ -7,6 +7,8 @@ ghost use Rattle.rules.specs.Text.{digits, signed, line, end_line, refused_line,
 use super::text::{put_number, put_signed, put_text};
 use rules::End;
 
+// Stays: this and the next two are three, since a trait of what a line holds, with its text and its most bytes as ghost members, and three impls, would be
+// longer than the two lines of each; `put_text`, `put_number` and `put_signed` have bounds of their own (17, 20 and 21 bytes).
 pub fn text_line(out: &mut [u8], at: usize, word: &[u8], value: &[u8]) -> usize
     requires { (at + 32 ≤ length out.old) × (length word.now ≤ 8) × (length value.now ≤ 17) }
     ensures { Wrote 32 out.old at (line word.now value.now) out.new result }

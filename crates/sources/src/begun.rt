@@ -67,6 +67,7 @@ pub fn phase_finished(cycle: &[u8], k: usize, first: u32, closed: u32) -> bool
 }
 
 // Whether M has begun, behind two cycles of n positions.
+// Stays: this and the next two differ in the rule, and not in a type, a size or a constant.
 pub fn begun_m(method: Method, n: u32, closed: u32) -> bool
     requires { n ≤ most_positions }
     ensures { result ≡ begun_m method n closed }

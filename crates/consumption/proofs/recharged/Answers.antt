@@ -11,7 +11,7 @@ use Rattle.rules.specs.Words.{up}
 use Rattle.numbers.specs.Whole.{Sized}
 use Rattle.numbers.proofs.Tests.{pass, stop, tests, settled_taken, settled_answer}
 use Rattle.numbers.proofs.Whole.{le_up, le_not, abs_is, sized_add}
-use Rattle.numbers.proofs.Signed.{read, sum_fits, sum_read}
+use Rattle.numbers.proofs.Signed.{read, sum_read}
 use Rattle.std.specs.Result.{result_ok}
 use Rattle.std.proofs.lemmas.Result.{err_from_is_err_and}
 use Rattle.wide.specs.declared.Parts.{Parts}
@@ -51,9 +51,6 @@ module _ (s : Start) where
 some : (c : Else-both-lt1) → le_z (pos 1) (EF c.before) ≡ true
 some c = tested c.before false c.if-both-lt1.false
 
-pub overflow_add-both : goal.overflow_add-both
-overflow_add-both c = sum_fits w64 tt c.requires.le_range.3 c.requires.sized.0
-
 -- 14 or 12 as the answer, or the figure
 abbrev refusal : Start → ℕ
 refusal s = recharge_refusal (E s) s.args.range s.args.after s.args.wh
@@ -72,14 +69,6 @@ unfolding recharge_refusal
 returns-then-both-lt1 c =
     let s = (goal.at.returns-then-both-lt1 c).Start in
     refused_so s (stop _ (tested s true c.if-both-lt1.true))
-
-pub overflow_cast-total : goal.overflow_cast-total
-overflow_cast-total c = (cast tt (read c.ranges.total) (positive _ _ c.requires.le_range.3 c.requires.le_range.2)).fits
-
-pub overflow_cast-both : goal.overflow_cast-both
-overflow_cast-both c =
-    let s = (goal.at.overflow_cast-both c).Start in
-    (cast tt (machine_is s) (positive _ _ (sum_sized s) (some (goal.at.overflow_cast-both c).Else-both-lt1))).fits
 
 -- what `divided` says, of the numbers that are cast
 quotient : (c : After-divided) → (let a = c.args in

@@ -9,11 +9,6 @@ use Rattle.laws.proofs.Weighing.{weight_pos}
 use Rattle.wide.proofs.Answers.{is_quotient, over_quotient}
 use Rattle.consumption.proofs.weighted_of.Goals as goal
 
-pub weigh-requires : goal.weigh-requires
-weigh-requires c =
-    let g = c.requires in
-    (omega (arith, g.most), g.small, g.parts, g.first, g.second)
-
 pub returns-in-Some : goal.returns-in-Some
 returns-in-Some c = is_quotient _ _ _ _ (sym c.in-Some.is ∙ c.weigh.ensures)
 

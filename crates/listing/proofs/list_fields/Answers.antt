@@ -9,17 +9,11 @@ use Rattle.rules.specs.Listing.{Listed, list_from}
 use Rattle.sheet.specs.Overlaid.{Wrote}
 use Rattle.sheet.proofs.Overlaid.{wrote_most, wrote_is}
 use Rattle.listing.specs.Lines.{per_byte}
-use Rattle.listing.proofs.Walking.{gone_none, gone_more, behind_end, lent_length}
-use Rattle.listing.proofs.Fronted.{counts_less}
+use Rattle.listing.proofs.Walking.{gone_none, gone_more, behind_end}
 use Rattle.listing.proofs.list_fields.Goals as goal
 
 pub loop-x-init : goal.loop-x-init
 loop-x-init c = gone_none c.args.spot c.args.input.now c.args.out.now c.requires.1
-
-pub list_one-requires : goal.list_one-requires
-list_one-requires c =
-    let h = c.loop-x.invariant in
-    (omega (arith, h.wrote.place, h.wrote.most, h.same_length), counts_less h.behind.counts (omega (arith, lent_length c.args.spot c.args.input.now h.behind)))
 
 pub loop-x-preserved : goal.loop-x-preserved
 loop-x-preserved c =

@@ -30,6 +30,3 @@ returns-in-Regular c =
     let few = (progress_most _ _ _ _ g.progress).1 in
     let row : c.args.run.progress.counted / n ≤ most_cycles = div-le_of_le-mul n (omega (arith, most, few)) in
     record { value = c.ride_stop.ensures ∙ rw regular; cycle_le_row_e = omega (arith, ap row_of c.ride_stop.ensures) }
-
-pub returns-in-Shortened : goal.returns-in-Shortened
-returns-in-Shortened c = record { value = c.stop_around.ensures.value ∙ rw c.in-Shortened.is; cycle_le_row_e = c.stop_around.ensures.cycle_le_row_e }

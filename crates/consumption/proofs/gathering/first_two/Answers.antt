@@ -13,12 +13,6 @@ use Rattle.consumption.proofs.Gathers.{rates_two, energy_two, drawn_two, rated_t
 use Rattle.consumption.proofs.gathering.first_two.Goals as goal
 use Rattle.consumption.proofs.gathering.first_two.Goals.{After-rated_in-second}
 
-pub rated_in-first-requires : goal.rated_in-first-requires
-rated_in-first-requires c = (c.requires, omega arith)
-
-pub rated_in-second-requires : goal.rated_in-second-requires
-rated_in-second-requires c = (c.requires, omega arith)
-
 -- the two cycles
 module _ (c : After-rated_in-second) where
   energy_is : c.rated_in-first.result.energy + c.rated_in-second.result.energy ≡ up (energy_in c.args.ledger.now 0) + up (energy_in c.args.ledger.now 1)

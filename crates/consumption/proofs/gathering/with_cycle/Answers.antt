@@ -13,9 +13,6 @@ use Rattle.consumption.proofs.Gathers.{gathered_energy_most, gathered_rates_most
 use Rattle.consumption.proofs.gathering.with_cycle.Goals as goal
 use Rattle.consumption.proofs.gathering.with_cycle.Goals.{After-rated_in-x}
 
-pub rated_in-x-requires : goal.rated_in-x-requires
-rated_in-x-requires c = (c.requires.0, c.requires.2)
-
 -- what was gathered, and the cycle
 module _ (c : After-rated_in-x) where
   rates_small : c.args.g.rates + c.rated_in-x.result.rate < 2 ^ 64

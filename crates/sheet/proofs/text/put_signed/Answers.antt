@@ -4,15 +4,11 @@ use mathlib.Core.Path.{ap, ◌∙◌}
 use Prim.Native.Nat.{ℕ}
 use native.Mathlib.Omega.{arith}
 use lib.IntN.{nat_abs}
-use lib.ListN.{length-set}
 use Rattle.numbers.proofs.Signed.{read}
 use Rattle.sheet.proofs.Digits.{signed_negative, signed_natural}
 use Rattle.sheet.proofs.Signs.{sign_read}
 use Rattle.sheet.proofs.Overlaid.{one_byte, wrote_then, wrote_most, wrote_is}
 use Rattle.sheet.proofs.text.put_signed.Goals as goal
-
-pub put_number-requires : goal.put_number-requires
-put_number-requires c = simp length-set (omega arith)
 
 pub returns : goal.returns
 returns c =

@@ -11,7 +11,6 @@ use Rattle.std.specs.Int.{FitsUnsignedBits}
 use Rattle.std.specs.Result.{OkIff, result_unwrap_or}
 use Rattle.consumption.proofs.Weights.{machine, natural}
 use Rattle.numbers.proofs.Signed.{read}
-use Rattle.numbers.proofs.Whole.{abs_is}
 use Rattle.rules.specs.Words.{up}
 use Rattle.rules.specs.Trace.{sum_text}
 use Rattle.sheet.proofs.Overlaid.{wrote_then, wrote_is}
@@ -39,15 +38,6 @@ natural_is : {E : Type 0} (c : After-whole_of-whole) (r : Result ℕ E)
 natural_is c r h =
     let fits : SFits w64 c.whole_of-whole.result = record { sfits = c.whole_of-whole.type_inv } in
     natural r fits (read fits) h ∙ ap up (sym (read fits) ∙ whole_is c)
-
-pub closing_part-requires : goal.closing_part-requires
-closing_part-requires c =
-    let whole = c in
-    let s = whole in
-    let a = s.args in
-    let E = a.amounts.before +ℤ a.f.drawn in
-    let size = c.unwrap_or.ensures ∙ natural_is (goal.at.closing_part-requires c).After-whole_of-whole c.try_from.result c.try_from.ensures in
-    (omega arith, s.requires.1, omega (arith, size, abs_is E, s.requires.2.size), s.requires.3)
 
 pub returns : goal.returns
 returns c =
