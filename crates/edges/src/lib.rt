@@ -112,6 +112,7 @@ fn put(rt: HostRuntime, text: &[u8]) -> usize
     ensures { result ≤ length text.now }
 {
     let mut rest = text;
+    // Stays: no index is counted; how far a turn leads the system says.
     while !rest.is_empty() {
         match put_some(rt, rest) {
             Ok(n) if n > 0 => rest = &rest[n..],

@@ -14,20 +14,16 @@ pub fn figures_on(reading: Reading, ledger: &[i64]) -> Figures
     ensures { result ≡ figures_of reading ledger.now }
 {
     let vehicle = reading.vehicle;
-    let run = reading.run;
-    let amounts = reading.amounts;
-    let sums = judge::sums_of(run, ledger);
-    let end = sums.end;
-    let closing = closing::close_on(run, amounts, ledger);
+    let sums = judge::sums_of(reading.run, ledger);
     Figures {
         vehicle,
-        end,
+        end: sums.end,
         counted: sums.counted,
         cycles: sums.cycles,
         outside: sums.outside,
         passed: reading.passed,
         drawn: sums.drawn,
-        closing,
+        closing: closing::close_on(reading.run, reading.amounts, ledger),
     }
 }
 

@@ -126,6 +126,7 @@ pub fn skip(rt: HostRuntime, most: u64, buffer: &mut [u8]) {
         return;
     }
     let mut left = most;
+    // Stays: no index is counted; how far a turn leads the system says.
     while left > 0 {
         let end = at_most(buffer.len(), left);
         match fill(rt, &mut buffer[..end]) {

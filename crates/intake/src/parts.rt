@@ -143,6 +143,7 @@ pub fn read_through(
         held: 0,
         left: most,
     };
+    // Stays: no index is counted; a turn leads on by what was read.
     while turn.left > 0 {
         turn = read_once(rt, turn, buffer, room, ledger, map);
         if !goes_on(turn.turned) {

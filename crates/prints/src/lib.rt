@@ -42,9 +42,7 @@ fn print_run(desk: Desk, ledger: &[i64], out: &mut [u8]) -> usize
         ≡ unless out.old (leb most_sheet (length out.old))
         (overlaid out.old 0 (sheet_on desk.reading ledger.now)) }
 {
-    let reading = desk.reading;
-    let figures = figures_on(reading, ledger);
-    sheet_lines(figures, out)
+    sheet_lines(figures_on(desk.reading, ledger), out)
 }
 
 // The input ends, with so many bytes of an unfinished field left over.

@@ -198,6 +198,7 @@ pub fn all_fields(
     let mut along = k;
     let mut fields = 0;
     let mut used = 0;
+    // Stays: no index is counted; each field's own size leads on, and the answer that ends the loop is handed out.
     while used < size {
         let x = one_field(me, cycle, t, along, ledger, map, &input[used..]);
         along = x.along;

@@ -67,6 +67,7 @@ fn list_through(
 {
     let mut walk = begin(most);
     let mut sent: u64 = 0;
+    // Stays: no index is counted; a turn leads on by what was read.
     while walk.turn.left > 0 {
         let went = send(rt, lines, walk.printed);
         if went < walk.printed {
