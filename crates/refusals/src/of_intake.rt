@@ -10,14 +10,14 @@ fn try_take(rt: HostRuntime, what: &[u8], buffer: &mut [u8]) {
     let mut lines = [0u8; 512];
     let x = take_record(
         rt,
-        18_446_744_073_709_551_615,
+        u64::MAX,
         buffer,
         &mut room,
         &mut ledger,
         &mut map,
         &mut lines,
     );
-    say_line(rt, what, &lines[..], x.printed);
+    say_line(rt, what, &lines[..], x.printed.unwrap_or(0));
 }
 
 pub fn buffers(rt: HostRuntime) {
