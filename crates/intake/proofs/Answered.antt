@@ -1,9 +1,13 @@
 -- What is answered of a record: of its last turn, and where nothing was read.
 -- Assumes nothing.
 use mathlib.Core.Bool.{Bool, true, false, cond}
-use mathlib.Core.List.{List}
+use mathlib.Core.List.{List, [], ◌∷◌}
+use mathlib.Core.Logic.{⊎_elim}
 use mathlib.Core.Path.{◌≡◌, refl, sym, ap, subst⁻¹, ◌∙◌}
 use Prim.Native.Nat.{ℕ}
+use native.Mathlib.Omega.{arith}
+use types.Run.{OneOf}
+use denote.Enum.Declared.{tag_of}
 use lib.Dec.{leb}
 use lib.IntN.{ℤ}
 use lib.ListN.{length}
@@ -12,12 +16,15 @@ use Rattle.rules.specs.Words.{unless}
 use Rattle.edges.specs.declared.Fault.TheVariants.{Input}
 use Rattle.sheet.specs.Overlaid.{overlaid, most_sheet}
 use Rattle.desk.specs.declared.Desk.{Desk}
-use Rattle.desk.specs.Feeding.{Laid, laid_of, empty_desk}
+use Rattle.desk.specs.Feeding.{wanted, Laid, laid_of, empty_desk}
 use Rattle.prints.specs.Printed.{PrintsIn, Prints, refuse_text}
 use Rattle.prints.proofs.Texts.{as_text}
 use Rattle.intake.specs.declared.Intake.{Intake}
 use Rattle.intake.specs.declared.Turn.{Turn}
+use Rattle.intake.specs.declared.Turned.{Turned}
+use Rattle.intake.specs.declared.Turned.TheVariants.{On, Ended, Failed, Refused}
 use Rattle.intake.specs.Turns.{is_failed, turned_said, round_of, Stood, text_of, answered, lines_after, intake_of, lines_of, Recorded, Unread}
+use Rattle.intake.specs.contracts.Turned.{the_type as turned}
 
 module _ (x₀ : Laid) (most : ℕ) (out : List ℕ) (t : Turn) (b room : List ℕ) (l : List ℤ) (m : List ℕ) (s : Stood x₀ most (round_of t b room l m)) where
   abbrev x : Laid
@@ -61,6 +68,13 @@ module _ (n : ℕ) (t : Turn) (text out : List ℕ) where
 
   pub printed_of : is_failed t.turned ≡ false → {r : ℕ} {after : List ℕ} → PrintsIn n text out r after → Answers (record { printed = Ok r; left = t.left }) after
   printed_of e p = let y = by_failed e in ((λ i. record { printed = Ok (p.0 i); left = t.left }) ∙ y.0, p.1 ∙ y.1)
+
+-- no field was refused
+pub not_refused : (z : Turned) → OneOf (0 ∷ 1 ∷ 2 ∷ []) (tag_of turned z) → turned_said z ≡ wanted
+not_refused On h = refl
+not_refused Ended h = refl
+not_refused Failed h = refl
+not_refused (Refused k) h = absurd (⊎_elim (λ e. omega arith) (⊎_elim (λ e. omega arith) (λ e. omega arith)) h)
 
 -- nothing was read
 pub not_read : (most : ℕ) (out : List ℕ) (desk : Desk) (room : List ℕ) (l : List ℤ) (m : List ℕ) → desk ≡ empty_desk → {n : ℕ} {after : List ℕ}
