@@ -21,6 +21,7 @@ use state::{Ends, Progress, Run, Stretch, Stretched, Track};
 // A record as far as it was read: until the start the opening, after it the reading; and how many fields were accepted.
 #[derive(Clone, Copy)]
 pub struct Desk {
+    // Stays: both are in use after the start, as the opening knows how long the cycle in the room is; `empty_desk` and `desk_after` say it so.
     pub started: bool,
     pub opening: Opening,
     pub reading: Reading,

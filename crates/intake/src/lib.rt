@@ -27,6 +27,7 @@ pub enum Turned {
     On,
     Ended,
     Failed,
+    // Stays: the number: `turned_by` (intake/specs/Turns.antt) makes it of what the desk says.
     Refused(u32),
 }
 

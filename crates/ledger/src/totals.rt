@@ -18,6 +18,7 @@ fn sum_by(ledger: &[i64], a: usize, d: usize, n: usize) -> i64
 }
 
 // The energy of cycle c.
+// Stays: this and the next are one line each over `sum_by`, and each has its row and its theorem in docs/PROMISES.md.
 pub fn energy_in(ledger: &[i64], c: usize) -> i64
     requires { (bounded ledger.now ≡ true) × (c < most_cycles) }
     ensures { result ≡ energy_in ledger.now c }

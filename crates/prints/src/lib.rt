@@ -25,6 +25,7 @@ fn next_field(fields: u64) -> u64
 }
 
 // A refused field.
+// Stays: the number and no `Refusal`, here and in the lines below it: the line of every number is promised (`refuse_text`).
 pub fn refuse(desk: Desk, number: u32, out: &mut [u8]) -> usize
     ensures value { result ≡ unless 0 (leb most_sheet (length out.old)) (length (refusal_text number (next_field desk.fields))) }
     ensures out_after { out.new
@@ -46,6 +47,7 @@ fn print_run(desk: Desk, ledger: &[i64], out: &mut [u8]) -> usize
 }
 
 // The input ends, with so many bytes of an unfinished field left over.
+// Stays: beside `tracing::trace_close`: two tests and two ways out, each with a promise about another text and other room.
 pub fn close(
     desk: Desk,
     left: usize,

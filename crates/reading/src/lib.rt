@@ -24,6 +24,7 @@ use state::{Run, ground_refusal, with_method};
 use step::{Taken, going_at, with_taken};
 
 // After the start. Place in the order: 0 after the tolerances, 1 after a field 8, 2 after a 6 before, 3 after an own block, 4 after a 6 after, 5 after a 7.
+// Stays: the place is a number, since one past the last is a state that `is_reading` refuses 1 (crates/refusals tries 6).
 #[derive(Clone, Copy)]
 pub struct Reading {
     pub vehicle: [u8; 17],
@@ -169,6 +170,7 @@ pub fn one_field(
 }
 
 // How many bytes an accepted field has; 0 where the answer accepts none.
+// Stays: 0 and no Option, as `bytes_of` of the specs says it and the laws of the loop take it.
 fn bytes_of(step: Result<Step, Refusal>) -> usize
     ensures { result ≡ bytes_of (step_said step) }
 {

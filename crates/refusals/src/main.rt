@@ -58,6 +58,7 @@ fn open_number_of(step: Result<OpenStep, Refusal>) -> u32 {
     }
 }
 
+// Stays: limits and played have such functions too: two lines, with the program's own name.
 fn lost(rt: HostRuntime) {
     edges::tell(rt, b"refusals: the output was lost\n");
 }

@@ -30,6 +30,7 @@ pub fn sheet_lines(f: Figures, out: &mut [u8]) -> usize
 }
 
 // The line of a refused field, likewise.
+// Stays: the number and no `Refusal`: the line of every number is promised (`refusal_text`).
 pub fn refusal_line(number: u32, field: u64, out: &mut [u8]) -> usize
     ensures value { result ≡ unless 0 (leb most_sheet (length out.old)) (length (refusal_text number field)) }
     ensures out_after { out.new

@@ -12,6 +12,7 @@ use rules::limits::MOST_OFFERED;
 use state::Run;
 
 // The first sample of cycle c, of n positions each, where M of m samples stands before the third of four.
+// Stays: a number that no run reaches and no Option, as `first_around` of the specs says it: both tests of a phase just compare with it.
 fn first_around(m: u32, n: u32, c: u32) -> u32
     requires { (m ≤ most_offered) × (n ≤ most_positions) }
     ensures { (result ≡ first_around m n c) × (result ≤ most_first) }

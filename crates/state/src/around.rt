@@ -31,6 +31,7 @@ pub fn finished_around(closed: u32, n: u32, m: u32) -> u32
 }
 
 // The cycle, of n positions each, that stands last among the samples up to sample j, with M of m samples behind the second.
+// Stays: beside `finished_around`: the same places of the course, but each asks something else of them.
 pub fn last_around(j: u32, n: u32, m: u32) -> u32
     requires { (1 ≤ n) × (n ≤ most_positions) × (m ≤ most_offered) }
     ensures { result ≡ last_around j n m }

@@ -56,6 +56,7 @@ pub struct Stretch {
 }
 
 // What a run has of its stretches M and E. `watch` is 0 until a sample of E has reached the set speed, and then one more than the samples below in a row.
+// Stays: the watch is one number, as `watch_next` counts it and `is_run` bounds it; every number that is handed in is answered.
 #[derive(Clone, Copy, Debug, PartialEq, Eq)]
 pub struct Stretched {
     pub in_m: Stretch,
@@ -94,6 +95,7 @@ fn end_or_zero(cycle: &[u8], k: usize) -> u16
     0
 }
 
+// Stays: `valid cycle` is asked here and by many: the functions are public, and a type that carries it would ask more of who has bytes only.
 #[tactic(auto, unfolding(crate::specs::State::ends_of))]
 pub fn ends_of(cycle: &[u8]) -> Ends
     requires { valid cycle.now ≡ true }
@@ -190,6 +192,7 @@ pub fn closed_of(progress: Progress) -> u32
 }
 
 // The energy of M and E.
+// Stays: `is_run run` is asked here and by many, for the same reason; `ground_refusal` tests it once for each call.
 pub fn beside_of(run: Run) -> i64
     requires { is_run run ≡ true }
     ensures { result ≡ beside_by run }

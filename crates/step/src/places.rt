@@ -16,6 +16,7 @@ use state::Progress;
 use window::Window;
 
 // A row in which no sample stands.
+// Stays: no Option: `open_row` (step/specs/Step.antt) says this row before the first sample, and each turn copies the struct that holds it.
 const NO_ROW: usize = ROW_E + 1;
 
 // Up to which position phase and window stay what they are, but for the window's ends.

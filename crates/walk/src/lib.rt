@@ -86,6 +86,7 @@ fn walk_on(
 }
 
 // The line of what is refused behind a turn.
+// Stays: the number and no `Refusal`: it is handed on to `refused_field`, and comes from `Turned` too.
 fn refused_line(walk: Walk, number: u32, buffer: &[u8], lines: &mut [u8]) -> usize
     requires most_line_in_bounds { (walk.printed + most_line ≤ length lines.old) × (walk.turn.used + walk.turn.held ≤ length buffer.now) }
     requires fields_le_most_fields { walk.turn.desk.fields ≤ most_fields }
