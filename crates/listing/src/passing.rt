@@ -17,6 +17,7 @@ struct Passed {
 }
 
 // The field at the front of the input, if a whole one is there.
+// Stays: beside `list_one`, which needs room for its line; what both do would hand out tag and value, with a contract of its own.
 fn pass_one(spot: Spot, input: &[u8]) -> Option<Passed>
     requires { Counts spot (length input.now) }
     ensures { MatchOption result (front_used (front_of tags input.now) ≡ 0) (λ x. Takes spot (front_of tags input.now) x.spot x.used) }
@@ -31,6 +32,7 @@ fn pass_one(spot: Spot, input: &[u8]) -> Option<Passed>
 }
 
 // The whole fields of the input, one after another.
+// Stays: beside `list_fields`, whose promise is about the lines too, and asks room for them.
 pub fn pass_fields(spot: Spot, input: &[u8]) -> Spot
     requires { Counts spot (length input.now) }
     ensures { result ≡ (list_from spot input.now).spot }

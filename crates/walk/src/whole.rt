@@ -107,6 +107,7 @@ fn short_line(lines: &mut [u8]) -> usize
 
 // The field list of a record of at most so many bytes goes out, but for what is then to go out of the lines. A buffer that is too short for a field, and lines
 // that are too short for a turn, are refused 1 before all else.
+// Stays: beside `intake::take_record`, for the reason that `traced::trace_record` gives.
 pub fn list_record(
     rt: HostRuntime,
     most: u64,
