@@ -35,9 +35,9 @@ def line_of(wrong):
 
 
 def functions_of(path):
-    """Name and text of each function and constant, in order."""
+    """Name and text of each function and constant, in order; of what stands in an impl, each `pub fn`."""
     text = open(path).read()
-    starts = [m for m in re.finditer(r'^(?:pub )?(?:(?:extern "C" )?fn|const) (\w+)', text, re.M)]
+    starts = [m for m in re.finditer(r'^(?:(?:pub )?(?:(?:extern "C" )?fn|const)|    pub fn) (\w+)', text, re.M)]
     ends = [m.start() for m in starts[1:]] + [len(text)]
     return [(m.group(1), text[m.start():end]) for m, end in zip(starts, ends)]
 

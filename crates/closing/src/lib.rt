@@ -4,7 +4,7 @@
 ghost use Rattle.std.specs.Prelude.{◌≡◌, true};
 ghost use Rattle.rules.specs.Closing.{least_finished};
 ghost use Rattle.values.specs.Limits.{are_amounts};
-ghost use Rattle.laws.specs.Answers.{closing_said};
+ghost use Rattle.laws.specs.Answers.{closing_said, refused_by};
 ghost use Rattle.ledger.specs.Row.{bounded};
 ghost use Rattle.state.specs.State.{is_run};
 ghost use Rattle.state.specs.Refusals.{beside_by, cycles_by};
@@ -12,16 +12,22 @@ ghost use Rattle.consumption.specs.Figures.{closing_on};
 ghost use Rattle.closing.specs.Answers.{grounds, closing_answer};
 
 use rules::limits::{LEAST_FINISHED, LEAST_SHORTENED};
-use rules::{Amounts, ClosingAnswer, Method};
+use rules::{Amounts, Closing, Method, Refusal};
 use state::{Run, beside_of, cycles_of, ground_refusal};
 use values::are_amounts;
 
-// 1 or 2, or 0 where the closing may go on.
-fn grounds_refusal(run: Run, a: Amounts, cycle: &[u8], ledger: &[i64], map: &[u64]) -> u32
-    ensures { result ≡ grounds run a cycle.now ledger.now map.now 0 }
+// 1 or 2, unless the closing may go on.
+fn grounds_refusal(
+    run: Run,
+    a: Amounts,
+    cycle: &[u8],
+    ledger: &[i64],
+    map: &[u64],
+) -> Result<(), Refusal>
+    ensures { refused_by result ≡ grounds run a cycle.now ledger.now map.now 0 }
 {
     if !are_amounts(a) {
-        return 1;
+        return Err(Refusal::Ground);
     }
     ground_refusal(run, cycle, ledger, map)
 }
@@ -37,24 +43,28 @@ fn least_finished(y: Method) -> usize
 }
 
 // The closing of a run, amounts and a ledger without 1: 10, 11, 12, 13, or the figures together.
-pub fn close_on(run: Run, amounts: Amounts, ledger: &[i64]) -> ClosingAnswer
+pub fn close_on(run: Run, amounts: Amounts, ledger: &[i64]) -> Result<Closing, u32>
     requires { (is_run run ≡ true) × (are_amounts amounts ≡ true) × (bounded ledger.now ≡ true) }
     ensures { closing_said result
         ≡ closing_said (closing_on ledger.now (beside_by run) (least_finished run.track.method) (cycles_by run) amounts) }
 {
     let n = cycles_of(run) as usize;
-    let track = run.track;
-    let method = track.method;
+    let method = run.track.method;
     consumption::close(ledger, beside_of(run), least_finished(method), n, amounts)
 }
 
 // The closing: 1, 2, 10, 11, 12, 13, or weighted consumption and range with the recharge figure, absent, or its refusal 14, 12.
-pub fn close(run: Run, amounts: Amounts, cycle: &[u8], ledger: &[i64], map: &[u64]) -> ClosingAnswer
+pub fn close(
+    run: Run,
+    amounts: Amounts,
+    cycle: &[u8],
+    ledger: &[i64],
+    map: &[u64],
+) -> Result<Closing, u32>
     ensures { closing_said result ≡ closing_answer run amounts cycle.now ledger.now map.now }
 {
-    let refusal = grounds_refusal(run, amounts, cycle, ledger, map);
-    if refusal != 0 {
-        return ClosingAnswer::Refused(refusal);
+    if let Err(refusal) = grounds_refusal(run, amounts, cycle, ledger, map) {
+        return Err(refusal.number());
     }
     close_on(run, amounts, ledger)
 }

@@ -18,9 +18,8 @@ use Rattle.numbers.proofs.Range.{fold_more, fold_same}
 use Rattle.numbers.proofs.Sums.{sum_most, sum_pos}
 use Rattle.numbers.proofs.Tests.{all_at, all_by_lem, pass}
 use Rattle.numbers.proofs.Whole.{sum_is, le_up, up_le}
-use Rattle.rules.specs.declared.Charge.{Charge}
+use Rattle.rules.specs.Closing.{Charge, most_rate, is_rate, rate_of, weighing, weighted_figure, range_figure, closing_refusal, closing_figures, closing_by}
 use Rattle.laws.specs.Beside.{most_whole}
-use Rattle.rules.specs.Closing.{most_rate, is_rate, rate_of, weighing, weighted_figure, range_figure, closing_refusal, closing_figures, closing_by}
 use Rattle.laws.specs.Answers.{Said, gives, refuses, or_refused, Figured, figured_said, closing_said}
 use Rattle.laws.proofs.Answers.{closing_or}
 use Rattle.laws.proofs.Weighing.{greatest_rate, weighted_at_least_one}

@@ -1,17 +1,20 @@
 -- Numbers as the closing meets them: a cast of a signed number that is not below 0, amounts within their limits, energy and rate of one cycle.
 -- Assumes nothing.
-use mathlib.Core.Bool.{true, false, ◌&&◌, false≢true}
+use mathlib.Core.Bool.{true, ◌&&◌, false≢true}
 use mathlib.Core.List.{List}
 use mathlib.Core.Path.{◌≡◌, refl, sym, ap, subst, ◌∙◌}
 use Prim.Native.Nat.{ℕ, zero, suc, ◌*◌, ◌/◌, ◌^◌, ◌≤◌, ◌<◌}
 use native.Mathlib.Nat.{lt_of_le_of_lt, mul-le-mul, div-le_self, div-zero}
 use native.Mathlib.Omega.{arith}
-use borrow.Author.Tests.{leb-true, lt-ltb, ltb-true}
+use borrow.Author.Tests.{leb-true, lt-ltb}
 use lib.Dec.{T, leb, ltb, ltb→lt}
 use lib.IntN.{ℤ, pos, negsuc, nat_abs}
 use lib.Signed.{le_z, lt_z, non_neg}
 use mir.Syntax.{w64}
 use mir.Val.{Fits, SFits, to_z, of_z}
+use Rattle.std.specs.Prelude.{Result, Ok, Err}
+use Rattle.std.specs.Int.{FitsUnsignedBits}
+use Rattle.std.specs.Result.{OkIff, result_unwrap_or}
 use Rattle.rules.specs.Words.{up}
 use Rattle.numbers.specs.Whole.{Sized}
 use Rattle.numbers.proofs.Signed.{sized_fits}
@@ -59,17 +62,15 @@ cast {n} {y} {z} t e p = record { fits = (subst (λ (x : ℤ). T (non_neg x)) (s
     small : Fits w64 (nat_abs y)
     small = record { fits = rw is (lt_of_le_of_lt p.most (ltb→lt n (2 ^ 64) t)) }
 
--- likewise a natural z
-pub below_none : (z : ℤ) → lt_z z (pos 0) ≡ true → 0 ≡ up z
-below_none (pos m) e = absurd (omega (arith, ltb-true m 0 e))
-below_none (negsuc m) e = refl
-
-pub natural : {y : ℤ} (z : ℤ) → SFits w64 z → y ≡ z → lt_z y (pos 0) ≡ false → Cast y z
-natural {y} z fits e h = subst (λ (x : ℤ). Cast x z) (sym e) (go z (sized_fits fits).size (ap (λ (x : ℤ). lt_z x (pos 0)) (sym e) ∙ h))
+-- a number that is read as y, as a natural one, 0 where it is below 0
+pub natural : {E : Type 0} {y z : ℤ} (r : Result ℕ E) → SFits w64 z → y ≡ z → OkIff r (FitsUnsignedBits 64 y) (nat_abs y) → result_unwrap_or r 0 ≡ up z
+natural {E} {y} {z} r fits e h = go z (sized_fits fits).size r (subst (λ (x : ℤ). OkIff r (FitsUnsignedBits 64 x) (nat_abs x)) e h)
   where
-    go : (z : ℤ) → nat_abs z ≤ 2 ^ 63 → lt_z z (pos 0) ≡ false → Cast z z
-    go (pos m) s h = record { fits = (tt, record { fits = omega arith }); is = refl }
-    go (negsuc m) s h = absurd (false≢true (sym h))
+    go : (z : ℤ) → nat_abs z ≤ 2 ^ 63 → (r : Result ℕ E) → OkIff r (FitsUnsignedBits 64 z) (nat_abs z) → result_unwrap_or r 0 ≡ up z
+    go (pos m) s (Ok x) h = h.1
+    go (pos m) s (Err x) h = absurd (h (omega arith))
+    go (negsuc m) s (Ok x) h = absurd h.0
+    go (negsuc m) s (Err x) h = refl
 
 -- the machine's reading of a number that fits
 abbrev pub machine : ℤ → ℤ

@@ -4,10 +4,8 @@ use Rattle.std.specs.Prelude.{List, ℕ, ◌+◌, ◌-◌, ◌*◌, ◌/◌, ◌
 use Rattle.std.specs.Int.Signed.{le_z}
 use Rattle.rules.specs.Words.{all_below, sum, unless, up}
 use Rattle.rules.specs.declared.Amounts.{Amounts}
-use Rattle.rules.specs.declared.Charge.{Charge}
-use Rattle.rules.specs.declared.ClosingAnswer.{ClosingAnswer}
+use Rattle.rules.specs.Closing.{Charge, ClosingAnswer, most_rate, is_rate, rate_of, weight, range, recharge_by, together, closing_by}
 use Rattle.laws.specs.Beside.{most_whole}
-use Rattle.rules.specs.Closing.{most_rate, is_rate, rate_of, weight, range, recharge_by, together, closing_by}
 use Rattle.rules.specs.Bench.{most_cycles}
 use Rattle.laws.specs.Answers.{Said, gives, refuses, Figured, figured_said}
 use Rattle.ledger.specs.Row.{energy_in, distance_in, energy_all}

@@ -1,6 +1,5 @@
 // One pass over the finished cycles of a ledger.
 ghost use Rattle.std.specs.Prelude.{◌≡◌, true, ◌&&◌, ◌+◌, ◌≤◌, ◌<◌};
-ghost use Rattle.rules.specs.Words.{up};
 ghost use Rattle.rules.specs.Closing.{is_rate};
 ghost use Rattle.rules.specs.Bench.{most_cycles};
 ghost use Rattle.ledger.specs.Row.{bounded};
@@ -10,32 +9,10 @@ use crate::{Gathered, Rated};
 use ledger::totals::{distance_in, energy_in};
 use rules::limits::MOST_RATE;
 
-// z, or 0 where it is below 0.
-fn positive(z: i64) -> u64
-    ensures { result ≡ up z }
-{
-    if z < 0 {
-        return 0;
-    }
-    z as u64
-}
-
 fn is_rate(q: u64) -> bool
     ensures { result ≡ is_rate q }
 {
-    if q < 1 {
-        return false;
-    }
-    q <= MOST_RATE
-}
-
-fn both(a: bool, b: bool) -> bool
-    ensures { result ≡ (a && b) }
-{
-    if !a {
-        return false;
-    }
-    b
+    1 <= q && q <= MOST_RATE
 }
 
 // e_c and q_c.
@@ -43,8 +20,8 @@ fn rated_in(ledger: &[i64], c: usize) -> Rated
     requires { (bounded ledger.now ≡ true) × (c < most_cycles) }
     ensures { result ≡ rated_in ledger.now c }
 {
-    let energy = positive(energy_in(ledger, c));
-    let distance = positive(distance_in(ledger, c));
+    let energy = u64::try_from(energy_in(ledger, c)).unwrap_or(0);
+    let distance = u64::try_from(distance_in(ledger, c)).unwrap_or(0);
     if distance == 0 {
         return Rated { energy, rate: 0 };
     }
@@ -66,8 +43,8 @@ fn first_two(ledger: &[i64]) -> Gathered
         second,
         rates: 0,
         energy: first.energy + second.energy,
-        drawn: both(1 <= first.energy, 1 <= second.energy),
-        rated: both(is_rate(first.rate), is_rate(second.rate)),
+        drawn: (1 <= first.energy) & (1 <= second.energy),
+        rated: is_rate(first.rate) & is_rate(second.rate),
     }
 }
 
@@ -76,16 +53,14 @@ fn with_cycle(g: Gathered, ledger: &[i64], c: usize) -> Gathered
     requires { (bounded ledger.now ≡ true) × (2 ≤ c) × (c < most_cycles) × (g ≡ gathered_in ledger.now c) }
     ensures { result ≡ gathered_in ledger.now (c + 1) }
 {
-    let first = g.first;
-    let second = g.second;
     let x = rated_in(ledger, c);
     Gathered {
-        first,
-        second,
+        first: g.first,
+        second: g.second,
         rates: g.rates + x.rate,
         energy: g.energy + x.energy,
-        drawn: both(g.drawn, 1 <= x.energy),
-        rated: both(g.rated, is_rate(x.rate)),
+        drawn: g.drawn & (1 <= x.energy),
+        rated: g.rated & is_rate(x.rate),
     }
 }
 
@@ -95,10 +70,8 @@ pub fn gather_cycles(ledger: &[i64], n: usize) -> Gathered
     ensures { result ≡ gathered_in ledger.now n }
 {
     let mut g = first_two(ledger);
-    let mut c = 2;
-    while c < n {
+    for c in 2..n {
         g = with_cycle(g, ledger, c);
-        c += 1;
     }
     g
 }

@@ -3,12 +3,11 @@
 
 mod gathering;
 
-ghost use Rattle.std.specs.Prelude.{◌≡◌, true, ◌+◌, ◌-◌, ◌*◌, ◌/◌, ◌≤◌, ◌<◌, ◌^◌, pos, ◌+ℤ◌};
+ghost use Rattle.std.specs.Prelude.{◌≡◌, Some, true, ◌+◌, ◌-◌, ◌*◌, ◌/◌, ◌≤◌, ◌<◌, ◌^◌, pos, ◌+ℤ◌};
 ghost use Rattle.std.specs.Int.Signed.{le_z};
 ghost use Rattle.rules.specs.Words.{sumℤ, up};
 ghost use Rattle.numbers.specs.Whole.{Sized};
 ghost use Rattle.rules.specs.Closing.{is_charge, most_rate, most_charge, recharge_by};
-ghost use Rattle.rules.specs.declared.Charge.TheVariants.{Wh as of_wh};
 ghost use Rattle.values.specs.Limits.{are_amounts};
 ghost use Rattle.laws.specs.Answers.{figure_said, closing_said};
 ghost use Rattle.laws.specs.Beside.{most_transfer, most_whole};
@@ -21,8 +20,8 @@ ghost use Rattle.consumption.specs.Figures.{closing_on, weighed_by, Weighable, f
 use gathering::gather_cycles;
 use ledger::totals::energy_from;
 use rules::limits::MOST_RATE;
-use rules::{Amounts, Charge, Closing, ClosingAnswer, Figure};
-use wide::Ratio;
+use rules::{Amounts, Closing};
+use wide::Parts;
 
 // A cycle's energy, 0 where it is below 0, and its q, 0 where it has no distance.
 #[derive(Clone, Copy)]
@@ -53,7 +52,7 @@ fn whole_energy(ledger: &[i64], n: usize, finished: u64, beside: i64, before: i6
 }
 
 // The three products over one divisor, k the number of cycles after the second.
-fn weigh(k: u64, total: u64, e1: u64, e2: u64, q1: u64, q2: u64, s: u64) -> Ratio
+fn weigh(k: u64, total: u64, e1: u64, e2: u64, q1: u64, q2: u64, s: u64) -> Option<Parts>
     requires { (k ≤ 62) × (total ≤ most_whole) × (e1 + e2 ≤ total) × (q1 ≤ most_rate) × (q2 ≤ most_rate) }
     ensures { result ≡ ratio (k * (q1 * e1 + q2 * e2) + (total - e1 - e2) * s) (total * k) }
 {
@@ -74,58 +73,58 @@ fn weighted_of(g: Gathered, n: usize, total: u64) -> u64
     match weigh(
         k, total, one.energy, two.energy, one.rate, two.rate, g.rates,
     ) {
-        Ratio::Is(w, _) => w,
-        Ratio::Over => 0,
+        Some(w) => w.q,
+        None => 0,
     }
 }
 
 // E × A × 1,000,000 by the range, then by `both`, which is E + F: of total = a × range + b, b's part first.
-fn divided(total: u64, both: u64, wh: u64, range: u64) -> Ratio
+fn divided(total: u64, both: u64, wh: u64, range: u64) -> Option<Parts>
     requires { (wh ≤ most_charge) × (1 ≤ range) × (range < 2 ^ 51) }
     ensures { result ≡ ratio (total * wh * 1000000 / range) both }
 {
     let y = wh * 1_000_000;
-    match wide::muldiv(total % range, y, range) {
-        Ratio::Is(t, _) => wide::more(wide::whole(t, both), total / range, y, both),
-        Ratio::Over => Ratio::Over,
-    }
+    let t = wide::muldiv(total % range, y, range)?;
+    wide::more(wide::whole(t.q, both), total / range, y, both)
 }
 
 // The recharge figure, of the whole energy total and the transfer energy after the test: 14, 12, or the figure.
-fn recharged(range: u64, total: i64, after: i64, wh: u32) -> Figure
+fn recharged(range: u64, total: i64, after: i64, wh: u32) -> Result<Option<u64>, u32>
     requires le_range { (1 ≤ range) × (range < 2 ^ 51) × (le_z (pos 1) total ≡ true) × Sized most_whole total }
     requires sized { Sized most_transfer after × (wh ≤ most_charge) }
-    ensures { figure_said result ≡ figure_said (recharge_by total range after (of_wh wh)) }
+    ensures { figure_said result ≡ figure_said (recharge_by total range after (Some wh)) }
 {
     let both = total + after;
     if both < 1 {
-        return Figure::Refused(14);
+        return Err(14);
     }
-    match divided(total as u64, both as u64, wh as u64, range) {
-        Ratio::Is(r, _) => {
-            if MOST_RATE < r {
-                return Figure::Refused(12);
-            }
-            Figure::Is(r)
-        }
-        Ratio::Over => Figure::Refused(12),
+    let r = divided(total as u64, both as u64, wh as u64, range).ok_or(12u32)?;
+    if MOST_RATE < r.q {
+        return Err(12);
     }
+    Ok(Some(r.q))
 }
 
 // Absent where there is no recharge.
-fn charged(range: u64, total: i64, after: i64, charge: Charge) -> Figure
+fn charged(range: u64, total: i64, after: i64, charge: Option<u32>) -> Result<Option<u64>, u32>
     requires le_range { (1 ≤ range) × (range < 2 ^ 51) × (le_z (pos 1) total ≡ true) × Sized most_whole total }
     requires sized { Sized most_transfer after × (is_charge charge ≡ true) }
     ensures { figure_said result ≡ figure_said (recharge_by total range after charge) }
 {
     match charge {
-        Charge::Absent => Figure::Absent,
-        Charge::Wh(wh) => recharged(range, total, after, wh),
+        None => Ok(None),
+        Some(wh) => recharged(range, total, after, wh),
     }
 }
 
 // 13, or the figures together.
-fn finish(g: Gathered, n: usize, total: i64, after: i64, charge: Charge) -> ClosingAnswer
+fn finish(
+    g: Gathered,
+    n: usize,
+    total: i64,
+    after: i64,
+    charge: Option<u32>,
+) -> Result<Closing, u32>
     requires weighable { Weighable g n (up total) × (le_z (pos 1) total ≡ true) × Sized most_whole total }
     requires sized { Sized most_transfer after × (is_charge charge ≡ true) }
     ensures { closing_said result ≡ finished_by g n total after charge }
@@ -134,10 +133,10 @@ fn finish(g: Gathered, n: usize, total: i64, after: i64, charge: Charge) -> Clos
     let weighted = weighted_of(g, n, whole);
     let range = 5 * whole / (72 * weighted);
     if range < 1 {
-        return ClosingAnswer::Refused(13);
+        return Err(13);
     }
     let recharge = charged(range, total, after, charge);
-    ClosingAnswer::Closed(Closing {
+    Ok(Closing {
         weighted,
         range,
         recharge,
@@ -145,25 +144,30 @@ fn finish(g: Gathered, n: usize, total: i64, after: i64, charge: Charge) -> Clos
 }
 
 // The closing of n finished cycles with these amounts: 10, 11, 12, 13, or the figures together.
-pub fn close(ledger: &[i64], beside: i64, asked: usize, n: usize, a: Amounts) -> ClosingAnswer
+pub fn close(
+    ledger: &[i64],
+    beside: i64,
+    asked: usize,
+    n: usize,
+    a: Amounts,
+) -> Result<Closing, u32>
     requires ledger_value { (bounded ledger.now ≡ true) × (n ≤ most_cycles) × (are_amounts a ≡ true) }
     requires sized { Sized (2 * most_stretch_energy) beside × (3 ≤ asked) }
     ensures { closing_said result ≡ closing_said (closing_on ledger.now beside asked n a) }
 {
     if n < asked {
-        return ClosingAnswer::Refused(10);
+        return Err(10);
     }
     let g = gather_cycles(ledger, n);
     if !g.drawn {
-        return ClosingAnswer::Refused(11);
+        return Err(11);
     }
     let total = whole_energy(ledger, n, g.energy, beside, a.before);
     if total < (g.first.energy + g.second.energy) as i64 {
-        return ClosingAnswer::Refused(11);
+        return Err(11);
     }
     if !g.rated {
-        return ClosingAnswer::Refused(12);
+        return Err(12);
     }
-    let charge = a.charge;
-    finish(g, n, total, a.after, charge)
+    finish(g, n, total, a.after, a.charge)
 }

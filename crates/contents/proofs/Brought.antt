@@ -18,8 +18,10 @@ use Rattle.laws.proofs.Contents.{content_order, first_place, block_place, rechar
 use Rattle.laws.proofs.Tags.{pick, by_tag, no_length}
 use Rattle.fields.specs.Fields.{has_row}
 use Rattle.fields.proofs.Fronts.{row_of_energy}
-use Rattle.contents.specs.Content.{Content, Bring, bring_said, content_said, later_content}
-use Rattle.contents.specs.declared.Content.TheVariants.{Brought, Foreign, Refused}
+use Rattle.contents.specs.Content.{Bring, bring_said, content_said, later_content}
+use Rattle.std.specs.Prelude.{Option, Some, None, Result, Ok, Err}
+use Rattle.rules.specs.declared.Refusal.{Refusal}
+use Rattle.laws.proofs.Answers.{refusal_of, of_number}
 use Rattle.contents.specs.declared.Bring.TheVariants.{Stretch, Samples, Before, After, Recharge}
 
 -- ---- 8, 9, then its content
@@ -114,30 +116,30 @@ module _ (p : ℕ) (v : List ℕ) (tag : ℕ) where
       (λ w l _ _ _ _. absurd (false≢true (sym (no_length tag n w) ∙ l)))
 
 -- ---- one answer: each case is known by what it says
-abbrev case_of : Comes → Content
-case_of (brought nothing) = Refused 9
-case_of (brought (a_number v)) = Refused 9
-case_of (brought (a_cycle v)) = Refused 9
-case_of (brought (the_tolerances t)) = Refused 9
-case_of (brought (the_stretches x)) = Brought (Stretch x)
-case_of (brought (own_samples xs)) = Brought Samples
-case_of (brought (before e)) = Brought (Before e)
-case_of (brought (after e)) = Brought (After e)
-case_of (brought (charged w)) = Brought (Recharge w)
-case_of foreign = Foreign
-case_of (wrong n) = Refused n
+abbrev case_of : Comes → Result (Option Bring) Refusal
+case_of (brought nothing) = Err (refusal_of 9)
+case_of (brought (a_number v)) = Err (refusal_of 9)
+case_of (brought (a_cycle v)) = Err (refusal_of 9)
+case_of (brought (the_tolerances t)) = Err (refusal_of 9)
+case_of (brought (the_stretches x)) = Ok (Some (Stretch x))
+case_of (brought (own_samples xs)) = Ok (Some Samples)
+case_of (brought (before e)) = Ok (Some (Before e))
+case_of (brought (after e)) = Ok (Some (After e))
+case_of (brought (charged w)) = Ok (Some (Recharge w))
+case_of foreign = Ok None
+case_of (wrong n) = Err (refusal_of n)
 
-case_said : (v : List ℕ) (c : Content) → case_of (content_said v c) ≡ c
-case_said v (Brought b) = brings b
+case_said : (v : List ℕ) (c : Result (Option Bring) Refusal) → case_of (content_said v c) ≡ c
+case_said v (Ok (Some b)) = brings b
   where
-    brings : (b : Bring) → case_of (brought (bring_said v b)) ≡ Brought b
+    brings : (b : Bring) → case_of (brought (bring_said v b)) ≡ Ok (Some b)
     brings (Stretch x) = refl
     brings Samples = refl
     brings (Before e) = refl
     brings (After e) = refl
     brings (Recharge w) = refl
-case_said v Foreign = refl
-case_said v (Refused n) = refl
+case_said v (Ok None) = refl
+case_said v (Err e) = ap Err (of_number e)
 
-pub said_once : (v : List ℕ) (c d : Content) → content_said v c ≡ content_said v d → c ≡ d
+pub said_once : (v : List ℕ) (c d : Result (Option Bring) Refusal) → content_said v c ≡ content_said v d → c ≡ d
 said_once v c d e = sym (case_said v c) ∙ ap case_of e ∙ case_said v d

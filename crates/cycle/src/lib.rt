@@ -3,9 +3,9 @@
 
 ghost use Rattle.std.specs.Prelude.{◌≡◌, true, ◌+◌, ◌-◌, ◌*◌, ◌≤◌, ◌<◌, length};
 ghost use Rattle.rules.specs.Words.{all_below};
-ghost use Rattle.rules.specs.Cycle.{phases, phase_end, seconds, point, rises, is_speed, valid, positions, phase_at};
+ghost use Rattle.rules.specs.Cycle.{phases, phase_end, phase_start, seconds, point, rises, is_speed, valid, positions, phase_at};
 
-use numbers::{read16, wide};
+use numbers::read16;
 use rules::limits::{LEAST_BYTES, LEAST_SECONDS, MOST_PHASES, MOST_SECONDS, MOST_SPEED};
 
 // The limits of seconds, as wide as lengths are.
@@ -26,7 +26,7 @@ pub fn point_of(cycle: &[u8], k: usize) -> u16
     requires { 2 + 2 * phases cycle.now + 2 * k < length cycle.now }
     ensures { result ≡ point cycle.now k }
 {
-    read16(cycle, 1 + 2 * wide(cycle[0]) + 2 * k)
+    read16(cycle, 1 + 2 * usize::from(cycle[0]) + 2 * k)
 }
 
 // T.
@@ -34,82 +34,61 @@ pub fn seconds_of(cycle: &[u8]) -> u32
     requires { (1 ≤ phases cycle.now) × (2 * phases cycle.now < length cycle.now) }
     ensures { result ≡ seconds cycle.now }
 {
-    end_of(cycle, wide(cycle[0]) - 1) as u32
+    u32::from(end_of(cycle, usize::from(cycle[0]) - 1))
+}
+
+// The second at which phase k starts.
+fn start_of(cycle: &[u8], k: usize) -> u16
+    requires { 2 * k < length cycle.now }
+    ensures { result ≡ phase_start cycle.now k }
+{
+    if k == 0 { 0 } else { end_of(cycle, k - 1) }
 }
 
 fn ends_rise(cycle: &[u8], p: usize) -> bool
     requires { 2 * p < length cycle.now }
     ensures { result ≡ all_below p (rises cycle.now) }
 {
-    let mut start = 0;
-    let mut k = 0;
-    while k < p {
-        let end = end_of(cycle, k);
-        if end <= start {
-            return false;
-        }
-        start = end;
-        k += 1;
-    }
-    true
+    (0..p).all(|k| start_of(cycle, k) < end_of(cycle, k))
 }
 
 fn points_are_speeds(cycle: &[u8], n: usize) -> bool
     requires { 1 + 2 * phases cycle.now + 2 * n ≤ length cycle.now }
     ensures { result ≡ all_below n (is_speed cycle.now) }
 {
-    let mut k = 0;
-    while k < n {
-        if MOST_SPEED < point_of(cycle, k) {
-            return false;
-        }
-        k += 1;
-    }
-    true
+    (0..n).all(|k| point_of(cycle, k) <= MOST_SPEED)
 }
 
 // Whether the bytes are a cycle that breaks no rule.
+#[tactic(auto, unfolding(rules::specs::Cycle::valid))]
 pub fn is_cycle(cycle: &[u8]) -> bool
     ensures { result ≡ valid cycle.now }
 {
     if cycle.len() < LEAST_BYTES {
         return false;
     }
-    let p = wide(cycle[0]);
-    if p < 1 {
-        return false;
-    }
-    if MOST_PHASES < p {
+    let p = usize::from(cycle[0]);
+    if p < 1 || MOST_PHASES < p {
         return false;
     }
     let t = seconds_of(cycle) as usize;
-    if t < SHORTEST {
+    if t < SHORTEST || LONGEST < t || cycle.len() != 1 + 2 * p + 2 * (t + 1) {
         return false;
     }
-    if LONGEST < t {
-        return false;
-    }
-    if cycle.len() != 1 + 2 * p + 2 * (t + 1) {
-        return false;
-    }
-    if ends_rise(cycle, p) {
-        points_are_speeds(cycle, t + 1)
-    } else {
-        false
-    }
+    ends_rise(cycle, p) && points_are_speeds(cycle, t + 1)
 }
 
 // The phase in which position p lies.
+#[tactic(auto, using(laws::proofs::Sound::sound, laws::proofs::Sound::phase_before, laws::proofs::Sound::phase_least, laws::proofs::Sound::phase_exists))]
 pub fn phase_of(cycle: &[u8], p: u32) -> usize
     requires { (valid cycle.now ≡ true) × (p < positions cycle.now) }
     ensures { result ≡ phase_at cycle.now p }
 {
-    let mut k = 0;
-    while k < wide(cycle[0]) {
-        if p < 20 * (end_of(cycle, k) as u32) {
+    let phases = usize::from(cycle[0]);
+    for k in 0..phases {
+        if p < 20 * u32::from(end_of(cycle, k)) {
             return k;
         }
-        k += 1;
     }
-    k
+    phases
 }

@@ -1,5 +1,7 @@
 -- "what lies beyond is never touched": of every single call, on any state and memory.
 -- Assumes nothing.
+use Rattle.rules.specs.declared.Refusal.{Refusal}
+use Rattle.std.specs.Prelude.{Result, Ok, Err}
 use mathlib.Core.Bool.{Bool, true, false, cond}
 use mathlib.Core.List.{List}
 use mathlib.Core.Path.{◌≡◌, refl, subst⁻¹, ◌∙◌}
@@ -29,7 +31,6 @@ use Rattle.step.specs.Step.{State, open_row, open_phase, interval_closed, row_no
 use Rattle.step.proofs.Standing.{place_small, open_small}
 use Rattle.rules.specs.Values.{moment_at, count_in}
 use Rattle.blocks.proofs.Accepted.{one_accepted, block_accepted}
-use Rattle.judge.specs.declared.Answer.{Answer}
 use Rattle.judge.specs.Answers.{plan_of}
 use Rattle.judge.proofs.Promises.{Promised}
 use Rattle.demands.specs.Calls.{StartCall, SampleCall, BlockCall, start_lent, start_leaves, sample_lent, sample_leaves, block_lent, block_leaves}
@@ -111,7 +112,7 @@ module _ (p : Plan) where
 -- ---- the calls
 
 -- what was promised, by the number of the refusal
-promised_beyond : {n : ℕ} {r : Run} {a c : Memory} {l : List ℤ} {m : List ℕ} {x : Answer} → Promised n r a l m x c → (n ≡ 0 → Beyond (lent l m) a) → Beyond (lent l m) c
+promised_beyond : {n : ℕ} {r : Run} {a c : Memory} {l : List ℤ} {m : List ℕ} {x : Result Run Refusal} → Promised n r a l m x c → (n ≡ 0 → Beyond (lent l m) a) → Beyond (lent l m) c
 promised_beyond {n} {a = a} {c} {l} {m} k h = subst⁻¹ (Beyond (lent l m)) k.in_memory (go (eqb n 0) refl)
   where
     go : (t : Bool) → eqb n 0 ≡ t → Beyond (lent l m) (cond t a (lent l m))

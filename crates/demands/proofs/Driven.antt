@@ -1,5 +1,7 @@
 -- Whole runs, by calls that keep the contracts; each is a run that the judge's own definitions reach.
 -- Assumes nothing.
+use Rattle.rules.specs.declared.Refusal.{Refusal}
+use Rattle.std.specs.Prelude.{Result, Ok, Err}
 use mathlib.Core.List.{List}
 use mathlib.Core.Path.{◌≡◌, sym, ap, subst⁻¹, subst₂, transport, ◌∙◌}
 use Prim.Native.Nat.{ℕ}
@@ -9,13 +11,10 @@ use Rattle.rules.specs.declared.Method.{Method}
 use Rattle.rules.specs.declared.Moment.{Moment}
 use Rattle.rules.specs.declared.Tolerances.{Tolerances}
 use Rattle.rules.specs.Plan.{Plan}
-use Rattle.laws.specs.Answers.{gives}
+use Rattle.laws.specs.Answers.{gives, answer_said}
 use Rattle.laws.proofs.Answers.{was_given, given_is}
 use Rattle.state.specs.declared.Run.{Run}
 use Rattle.state.specs.State.{Memory, lent}
-use Rattle.judge.specs.declared.Answer.{Answer}
-use Rattle.judge.specs.declared.Answer.TheVariants.{Taken, Refused}
-use Rattle.judge.specs.Answers.{answer_said}
 use Rattle.judge.proofs.Promises.{Promised, promised, StartPromise, SamplePromise, BlockPromise, refused_changes_nothing}
 use Rattle.judge.proofs.Runs.{Reached}
 use Rattle.demands.specs.Calls.{StartCall, SampleCall, BlockCall, start_leaves, sample_leaves, block_leaves}
@@ -54,14 +53,14 @@ block_kept c on =
 
 module _ (p : Plan) (l₀ : List ℤ) (m₀ : List ℕ) where
   -- what was promised and taken was reached; what was refused is where it was
-  by_promise : {n : ℕ} {r r' : Run} {a c : Memory} {l : List ℤ} {m : List ℕ} {xs : List Moment} {x : Answer} → Promised n r a l m x c → x ≡ Taken r'
+  by_promise : {n : ℕ} {r r' : Run} {a c : Memory} {l : List ℤ} {m : List ℕ} {xs : List Moment} {x : Result Run Refusal} → Promised n r a l m x c → x ≡ Ok r'
       → (n ≡ 0 → Reached p l₀ m₀ xs r a.ledger a.map) → Reached p l₀ m₀ xs r' c.ledger c.map
   by_promise {n} {r} {r'} {l = l} {m = m} {xs = xs} k e reach =
       let (zero, given) = was_given n (gives r) r' (sym k.answer ∙ ap answer_said e) in
       let same = given_is given in
       subst₂ (λ (y : Run) (z : Memory). Reached p l₀ m₀ xs y z.ledger z.map) same (sym (k.in_memory ∙ settled_taken (lent l m) zero)) (reach zero)
 
-  by_refusal : {n : ℕ} {r s : Run} {a c : Memory} {l : List ℤ} {m : List ℕ} {xs : List Moment} {x : Answer} → Promised n s a l m x c → (k : ℕ) → x ≡ Refused k
+  by_refusal : {n : ℕ} {r s : Run} {a c : Memory} {l : List ℤ} {m : List ℕ} {xs : List Moment} {x : Result Run Refusal} → Promised n s a l m x c → (k : Refusal) → x ≡ Err k
       → Reached p l₀ m₀ xs r l m → Reached p l₀ m₀ xs r c.ledger c.map
   by_refusal {r = r} {c = c} {xs = xs} q k e h = subst⁻¹ (λ (z : Memory). Reached p l₀ m₀ xs r z.ledger z.map) (refused_changes_nothing _ _ _ _ _ k _ c q e).1 h
 

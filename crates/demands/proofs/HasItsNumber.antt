@@ -6,13 +6,10 @@ use lib.Dec.{eqb}
 use lib.IntN.{ℤ}
 use lib.ListN.{drop}
 use Rattle.rules.specs.Words.{unless}
-use Rattle.rules.specs.declared.Charge.{Charge}
-use Rattle.rules.specs.declared.Charge.TheVariants.{Absent as absent, Wh as wh}
+use Rattle.rules.specs.Closing.{Charge, Is, recharge_figure, recharge_refusal, recharge_by}
+use Rattle.std.specs.Prelude.{None as absent, Some as wh, Ok as Closed}
 use Rattle.rules.specs.declared.Closing.{Closing}
-use Rattle.rules.specs.declared.ClosingAnswer.TheVariants.{Closed}
-use Rattle.rules.specs.declared.Figure.TheVariants.{Is}
-use Rattle.rules.specs.Closing.{recharge_figure, recharge_refusal, recharge_by}
-use Rattle.laws.specs.Answers.{Said, number_of, figure_said, figured_said, closing_said}
+use Rattle.laws.specs.Answers.{Said, number_of, figure_said, figured_said, closing_said, answer_said}
 use Rattle.laws.proofs.Answers.{number_said, was_given, given_is, figure_or, same_figured}
 use Rattle.state.specs.declared.Run.{Run}
 use Rattle.state.specs.State.{Left}
@@ -20,8 +17,7 @@ use Rattle.closing.specs.Answers.{whole, refusal_of, closed_figures}
 use Rattle.opening.specs.Answers.{OpenLeft}
 use Rattle.reading.specs.declared.Reading.{Reading}
 use Rattle.reading.specs.Answers.{ReadSaid, AllSaid, read_ground}
-use Rattle.reader.specs.Answers.{ending_said, ending_of}
-use Rattle.figures.specs.declared.Found.{Found}
+use Rattle.reader.specs.Answers.{ending_of}
 use Rattle.demands.specs.Calls.{ClosingCall, EndedCall}
 use Rattle.demands.specs.Cases.{wrong_number, or_else, recharge_number, next_number}
 use Rattle.demands.specs.Demand1.{HasItsNumber}
@@ -42,7 +38,7 @@ closed_by_lem c x is =
 
 -- 15
 ends : (c : EndedCall) → (let (started, (left, _)) = c.args in
-    number_of (ending_said c.answer) ≡ unless 15 started (unless 15 (eqb left 0) 0))
+    number_of (answer_said c.answer) ≡ unless 15 started (unless 15 (eqb left 0) 0))
 unfolding ending_of
 ends c = ap number_of c.kept ∙ simp (unless_number (number_of {A = Unit {0}}))
 
@@ -61,7 +57,7 @@ has_its_number = record {
       ap (λ (y : Closing). number_of (figure_said y.recharge)) (sym same)
       ∙ recharge_has E (closed_figures r a b.now l.now m.now).range a.after a.charge
       ∙ ap (λ (y : Closing). recharge_number E y.range a.after a.charge) same;
-  figures_of_number = λ c. ap (λ (x : Found). x.refusal) c.kept;
+  figures_of_number = λ c. ap number_of c.kept ∙ number_said _ _ refl;
   front_of_number = λ c. ap number_of c.kept;
   content_of_number = λ c. ap wrong_number c.kept;
   open_number = λ c.

@@ -9,32 +9,30 @@ use borrow.Author.Tests.{eqb-false}
 use lib.Dec.{leb, eqb}
 use lib.IntN.{ℤ}
 use lib.ListN.{length}
+use Rattle.rules.specs.Numbered.{number}
 use Rattle.rules.specs.Words.{unless}
 use Rattle.rules.specs.declared.Amounts.{Amounts}
-use Rattle.rules.specs.declared.Charge.{Charge}
-use Rattle.rules.specs.declared.Charge.TheVariants.{Absent as absent, Wh as wh}
+use Rattle.rules.specs.Closing.{Charge, Is, recharge_figure, recharge_refusal, recharge_by}
+use Rattle.std.specs.Prelude.{None as absent, Some as wh}
 use Rattle.rules.specs.declared.Closing.{Closing}
-use Rattle.rules.specs.declared.Figure.TheVariants.{Is}
-use Rattle.rules.specs.Closing.{recharge_figure, recharge_refusal, recharge_by}
 use Rattle.rules.specs.Table.{Matter, behind_tolerances, tags}
 use Rattle.rules.specs.Machine.{Reply, to_field, not_yet, no_field, taken, passed, refused, End, waiting, broken, stopped, Ran, run}
 use Rattle.rules.specs.Record.{Told, content_at, bring_at, more_passed, take_field, untold, told, refused_at, sheet_by, sheet_of}
-use Rattle.laws.specs.Answers.{Said, gives, refuses, is, figure_said, closing_said, end_said}
+use Rattle.laws.specs.Answers.{Said, gives, refuses, is, figure_said, closing_said, end_said, answer_said}
 use Rattle.laws.proofs.Answers.{given_refused, figure_or}
 use Rattle.state.specs.State.{Left, left}
 use Rattle.ledger.specs.Row.{energy_in, distance_in}
 use Rattle.state.specs.declared.Run.{Run}
 use Rattle.state.specs.Refusals.{start_refusal, sample_refusal, cycles_by}
 use Rattle.blocks.specs.Blocks.{block_refusal}
-use Rattle.judge.specs.Answers.{answer_said, shown_said, totals_said}
 use Rattle.closing.specs.Answers.{whole, refusal_of, closed_figures}
 use Rattle.records.specs.Stage.{Stage, reply_on, run_on}
 use Rattle.opening.specs.declared.Opening.{Opening}
 use Rattle.opening.specs.Answers.{opens, starts, open_step_said, OpenLeft, stage_of, run_of, open_ground, not_opened, opened_by, front_opened}
 use Rattle.reading.specs.declared.Reading.{Reading}
 use Rattle.reading.specs.Answers.{unfinished, step_said, reply_said, ReadSaid, AllSaid, stage_at, read_ground}
-use Rattle.reader.specs.Answers.{may_end, ending_said, read_by, all_by, read_left, all_left, ending_of}
-use Rattle.desk.specs.Feeding.{outcome_said, Laid, Consumed, laid_of, stage_on, desk_ground, feed_of}
+use Rattle.reader.specs.Answers.{may_end, read_by, all_by, read_left, all_left, ending_of}
+use Rattle.desk.specs.Feeding.{Laid, Consumed, laid_of, stage_on, desk_ground, feed_of}
 use Rattle.desk.proofs.LeftOver.{by_feed}
 use Rattle.demands.specs.Cases.{Known, in_01, in_02, Listed}
 use Rattle.demands.specs.Demand1.{InTheList}
@@ -162,41 +160,41 @@ few_closed r a b l m = few_unless _ (in_01 (omega arith)) (few_ground r b l m _ 
 pub in_the_list : InTheList
 unfolding start_refusal sample_refusal block_refusal
 in_the_list = record {
-  start_listed = λ c n e.
-      given_listed _ _ n (few_unless _ (in_01 (omega arith)) (few_unless _ (in_01 (omega arith)) (few_unless _ (in_01 (omega arith)) (few_unless _ (in_01 (omega arith)) (few_unless _ (in_02 refl) (in_01 zero-le))))))
+  start_listed = λ c k e.
+      given_listed _ _ (number k) (few_unless _ (in_01 (omega arith)) (few_unless _ (in_01 (omega arith)) (few_unless _ (in_01 (omega arith)) (few_unless _ (in_01 (omega arith)) (few_unless _ (in_02 refl) (in_01 zero-le))))))
       (sym (ap (λ (y : Left (Said Run)). y.answer) c.kept) ∙ ap answer_said e);
-  sample_listed = λ c n e.
+  sample_listed = λ c k e.
       let (r, (b, (l, (m, _)))) = c.args in
-      given_listed _ _ n (few_ground r b.now l.now m.now _ (few_unless _ (in_01 (omega arith)) (few_unless _ (in_01 (omega arith)) (in_01 zero-le))))
+      given_listed _ _ (number k) (few_ground r b.now l.now m.now _ (few_unless _ (in_01 (omega arith)) (few_unless _ (in_01 (omega arith)) (in_01 zero-le))))
       (sym (ap (λ (y : Left (Said Run)). y.answer) c.kept) ∙ ap answer_said e);
-  block_listed = λ c n e.
+  block_listed = λ c k e.
       let (r, (b, (l, (m, _)))) = c.args in
-      given_listed _ _ n
+      given_listed _ _ (number k)
       (few_ground r b.now l.now m.now _ (few_unless _ (in_01 (omega arith)) (few_unless _ (in_01 (omega arith)) (few_unless _ (in_01 (omega arith)) (few_unless _ (in_01 (omega arith)) (in_01 zero-le))))))
       (sym (ap (λ (y : Left (Said Run)). y.answer) c.kept) ∙ ap answer_said e);
-  shown_listed = λ c n e.
+  shown_listed = λ c k e.
       let (r, (b, (l, (m, _)))) = c.args in
-      given_listed _ _ n (few_ground r b.now l.now m.now 0 (in_01 zero-le)) (sym c.kept ∙ ap shown_said e);
-  totals_listed = λ c n e.
+      given_listed _ _ (number k) (few_ground r b.now l.now m.now 0 (in_01 zero-le)) (sym c.kept ∙ ap answer_said e);
+  totals_listed = λ c k e.
       let (r, (b, (l, (m, _)))) = c.args in
-      given_listed _ _ n (few_ground r b.now l.now m.now 0 (in_01 zero-le)) (sym c.kept ∙ ap totals_said e);
+      given_listed _ _ (number k) (few_ground r b.now l.now m.now 0 (in_01 zero-le)) (sym c.kept ∙ ap answer_said e);
   closing_listed = λ c n e. given_listed _ _ n (few_closed _ _ _ _ _) (sym c.kept ∙ ap closing_said e);
   recharge_listed = λ c x is n e.
       let (r, (a, (b, (l, (m, _))))) = c.args in
       recharge_listed (whole r a b.now l.now m.now) (closed_figures r a b.now l.now m.now).range a.after a.charge n
       (ap (λ (y : Closing). figure_said y.recharge) (closed_by_lem c x is) ∙ ap figure_said e);
-  open_listed = λ c n e.
+  open_listed = λ c k e.
       let (o, (i, (room, (l, (m, _))))) = c.args in
-      open_listed o room.now l.now m.now i.now n (sym (ap (λ (y : OpenLeft). y.answer.says) c.kept) ∙ ap open_step_said e);
-  read_listed = λ c n e.
+      open_listed o room.now l.now m.now i.now (number k) (sym (ap (λ (y : OpenLeft). y.answer.says) c.kept) ∙ ap open_step_said e);
+  read_listed = λ c k e.
       let (r, (i, (b, (l, (m, _))))) = c.args in
-      read_listed r b.now l.now m.now i.now n (sym (ap (λ (y : Left (ReadSaid Reading)). y.answer.says) c.kept) ∙ ap step_said e);
-  read_all_listed = λ c n e.
+      read_listed r b.now l.now m.now i.now (number k) (sym (ap (λ (y : Left (ReadSaid Reading)). y.answer.says) c.kept) ∙ ap step_said e);
+  read_all_listed = λ c k e.
       let (r, (i, (b, (l, (m, _))))) = c.args in
-      read_all_listed r b.now l.now m.now i.now n (sym (ap (λ (y : Left (AllSaid Reading)). y.answer.last) c.kept) ∙ ap step_said e);
-  ended_listed = λ c n e. ended_listed c.args.0 c.args.1.0 n (sym c.kept ∙ ap ending_said e);
-  feed_listed = λ c n e.
+      read_all_listed r b.now l.now m.now i.now (number k) (sym (ap (λ (y : Left (AllSaid Reading)). y.answer.last) c.kept) ∙ ap step_said e);
+  ended_listed = λ c k e. ended_listed c.args.0 c.args.1.0 (number k) (sym c.kept ∙ ap answer_said e);
+  feed_listed = λ c k e.
       let (d, (i, (room, (l, (m, _))))) = c.args in
-      feed_listed (laid_of d room.now l.now m.now) i.now n (sym (ap (λ (y : Consumed). y.outcome) c.kept) ∙ ap outcome_said e);
+      feed_listed (laid_of d room.now l.now m.now) i.now (number k) (sym (ap (λ (y : Consumed). y.outcome) c.kept) ∙ ap answer_said e);
   sheet_listed = sheet_listed;
 }

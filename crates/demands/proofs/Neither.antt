@@ -8,10 +8,9 @@ use native.Mathlib.Omega.{arith}
 use lib.Dec.{leb}
 use lib.IntN.{ℤ}
 use Rattle.rules.specs.Words.{unless}
-use Rattle.rules.specs.declared.Charge.{Charge}
-use Rattle.rules.specs.declared.Charge.TheVariants.{Absent as absent, Wh as wh}
+use Rattle.rules.specs.Closing.{Charge, closing_refusal, recharge_refusal}
+use Rattle.std.specs.Prelude.{None as absent, Some as wh}
 use Rattle.rules.specs.Bench.{most_passed}
-use Rattle.rules.specs.Closing.{closing_refusal, recharge_refusal}
 use Rattle.rules.specs.Table.{Row, Matter, among, place_after, behind_tolerances, tags}
 use Rattle.rules.specs.Front.{Field, Front, incomplete, impossible, field, bytes_of, front_of}
 use Rattle.rules.specs.Machine.{to_field, reply_as, reply_at}

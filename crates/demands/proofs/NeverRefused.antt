@@ -1,5 +1,8 @@
 -- Demand 2 of a whole run: "such a call is never refused 1 or 2", of every later call.
 -- Assumes nothing.
+use Rattle.rules.specs.declared.Figures.{Figures}
+use Rattle.rules.specs.declared.Refusal.{Refusal}
+use Rattle.std.specs.Prelude.{Err, Result}
 use mathlib.Core.Bool.{true}
 use mathlib.Core.List.{List}
 use mathlib.Core.Path.{◌≡◌, refl, sym, ap, ◌∙◌}
@@ -11,30 +14,17 @@ use lib.ListN.{drop}
 use Rattle.numbers.proofs.Tests.{pass}
 use Rattle.rules.specs.declared.Moment.{Moment}
 use Rattle.rules.specs.Plan.{Plan}
-use Rattle.laws.specs.Answers.{number_of, figure_said, closing_said}
+use Rattle.laws.specs.Answers.{number_of, figure_said, closing_said, refuses, answer_said}
 use Rattle.values.specs.Limits.{are_amounts}
 use Rattle.state.specs.declared.Run.{Run}
 use Rattle.state.specs.State.{run_ground}
 use Rattle.state.specs.Refusals.{sample_refusal}
 use Rattle.blocks.specs.Blocks.{block_refusal}
-use Rattle.judge.specs.declared.Answer.{Answer}
-use Rattle.judge.specs.declared.Answer.TheVariants as answer
-use Rattle.judge.specs.declared.ShownAnswer.{ShownAnswer}
-use Rattle.judge.specs.declared.ShownAnswer.TheVariants as counts
-use Rattle.judge.specs.declared.TotalsAnswer.{TotalsAnswer}
-use Rattle.judge.specs.declared.TotalsAnswer.TheVariants as sums
-use Rattle.judge.specs.Answers.{answer_said, shown_said, totals_said}
 use Rattle.judge.proofs.Runs as runs
-use Rattle.rules.specs.declared.ClosingAnswer.{ClosingAnswer}
-use Rattle.rules.specs.declared.ClosingAnswer.TheVariants as closings
-use Rattle.rules.specs.declared.Figure.{Figure}
-use Rattle.rules.specs.declared.Figure.TheVariants as fig
+use Rattle.rules.specs.Closing.{ClosingAnswer, Figure}
 use Rattle.closing.specs.Answers.{whole, refusal_of}
 use Rattle.reading.specs.declared.Reading.{Reading}
-use Rattle.reading.specs.declared.Step.{Step}
-use Rattle.reading.specs.declared.Step.TheVariants as step
 use Rattle.reading.specs.Answers.{step_said, is_reading, read_ground}
-use Rattle.figures.specs.declared.Found.{Found}
 use Rattle.demands.specs.Calls.{SampleCall, BlockCall, ClosingCall}
 use Rattle.demands.specs.Demand2.{NeverRefused}
 use Rattle.demands.specs.Runs.{On, SampleOn, BlockOn, ClosingOn, Driven, closing_amounts}
@@ -53,22 +43,22 @@ module _ {p : Plan} {l₀ : List ℤ} {m₀ : List ℕ} {xs : List Moment} {r : 
   grounded on others =
       (λ i. run_ground (on.run_is i) (on.cycle_is i) (on.ledger_is i) (on.map_is i) others) ∙ runs.never_refused p l₀ m₀ (driven_reached p l₀ m₀ h) others
 
-  sample_neither : (c : SampleCall) → SampleOn r p.cycle l m c → Neither1Nor2 answer.Refused c.answer
+  sample_neither : (c : SampleCall) → SampleOn r p.cycle l m c → Neither1Nor2 refuses (answer_said c.answer)
   unfolding sample_refusal
   sample_neither c on =
-      by_number (λ (z : Answer). number_of (answer_said z)) answer.Refused (λ k. refl) (has_its_number.sample_number c ∙ grounded on _)
+      by_number number_of refuses (λ k. refl) (has_its_number.sample_number c ∙ grounded on _)
       (unless_neither _ (omega arith) (unless_neither _ (omega arith) zero_neither))
 
-  block_neither : (c : BlockCall) → BlockOn r p.cycle l m c → Neither1Nor2 answer.Refused c.answer
+  block_neither : (c : BlockCall) → BlockOn r p.cycle l m c → Neither1Nor2 refuses (answer_said c.answer)
   unfolding block_refusal
   block_neither c on =
-      by_number (λ (z : Answer). number_of (answer_said z)) answer.Refused (λ k. refl) (has_its_number.block_number c ∙ grounded on _)
+      by_number number_of refuses (λ k. refl) (has_its_number.block_number c ∙ grounded on _)
       (unless_neither _ (omega arith) (unless_neither _ (omega arith) (unless_neither _ (omega arith) (unless_neither _ (omega arith) zero_neither))))
 
-  closing_call_neither : (c : ClosingCall) → ClosingOn r p.cycle l m c → are_amounts (closing_amounts c) ≡ true → Neither1Nor2 closings.Refused c.answer
+  closing_call_neither : (c : ClosingCall) → ClosingOn r p.cycle l m c → are_amounts (closing_amounts c) ≡ true → Neither1Nor2 Err c.answer
   unfolding refusal_of
   closing_call_neither c on ok =
-      by_number (λ (z : ClosingAnswer). number_of (closing_said z)) closings.Refused (λ k. refl)
+      by_number (λ (z : ClosingAnswer). number_of (closing_said z)) Err (λ k. refl)
       (has_its_number.closing_number c ∙ sym (pass 1 ok (sym (grounded on _)))) (closing_neither _ _ _ _ _)
 
   reading_neither : (reading : Reading) (cycle : List ℕ) (ledger : List ℤ) (map : List ℕ) → On r p.cycle l m reading.run cycle ledger map
@@ -82,19 +72,19 @@ module _ {p : Plan} {l₀ : List ℤ} {m₀ : List ℕ} {xs : List Moment} {r : 
   never_refused = record {
     sample = sample_neither;
     block = block_neither;
-    shown = λ c on. by_number (λ (z : ShownAnswer). number_of (shown_said z)) counts.Refused (λ k. refl) (has_its_number.shown_number c ∙ grounded on 0) zero_neither;
-    totals = λ c on. by_number (λ (z : TotalsAnswer). number_of (totals_said z)) sums.Refused (λ k. refl) (has_its_number.totals_number c ∙ grounded on 0) zero_neither;
+    shown = λ c on. by_number number_of refuses (λ k. refl) (has_its_number.shown_number c ∙ grounded on 0) zero_neither;
+    totals = λ c on. by_number number_of refuses (λ k. refl) (has_its_number.totals_number c ∙ grounded on 0) zero_neither;
     closing = closing_call_neither;
     recharge = λ c x is.
         let (r, (a, (b, (l, (m, _))))) = c.args in
-        by_number (λ (z : Figure). number_of (figure_said z)) fig.Refused (λ k. refl) (has_its_number.recharge_number_lem c x is)
+        by_number (λ (z : Figure). number_of (figure_said z)) Err (λ k. refl) (has_its_number.recharge_number_lem c x is)
         (recharge_neither (whole r a b.now l.now m.now) x.range a.after a.charge);
-    figures = λ c on ok. ap (λ (x : Found). x.refusal) ((run_answers h).figures_of_run c on ok);
+    figures = λ c on ok. ap (λ (z : Result Figures Refusal). number_of (answer_said z)) ((run_answers h).figures_of_run c on ok);
     read = λ c on ok.
         let (reading, (i, (cycle, (ledger, (map, _))))) = c.args in
-        by_number (λ (z : Step). number_of (step_said z)) step.Refused (λ k. refl) (has_its_number.read_number c) (reading_neither reading cycle.now ledger.now map.now on ok _ (next_neither reading cycle.now ledger.now map.now i.now));
+        by_number number_of refuses (λ k. refl) (has_its_number.read_number c) (reading_neither reading cycle.now ledger.now map.now on ok _ (next_neither reading cycle.now ledger.now map.now i.now));
     read_all = λ c on ok.
         let (reading, (i, (cycle, (ledger, (map, _))))) = c.args in
-        by_number (λ (z : Step). number_of (step_said z)) step.Refused (λ k. refl) (has_its_number.read_all_number c)
+        by_number number_of refuses (λ k. refl) (has_its_number.read_all_number c)
         (reading_neither reading cycle.now ledger.now map.now on ok _ (next_neither c.answer.reading cycle.now c.lasts.1.1.1.0 c.lasts.1.1.1.1.0 (drop c.answer.used i.now)));
   }

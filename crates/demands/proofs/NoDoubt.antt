@@ -3,6 +3,7 @@
 use mathlib.Core.Path.{◌≡◌, sym, ap, ◌∙◌}
 use denote.Triple.Clauses.{Ended, Lasts, at_exit}
 use Rattle.demands.specs.Calls.{Promise, Call, left}
+pub mod OfRules
 pub mod OfNumbers
 pub mod OfValues
 pub mod OfCycle

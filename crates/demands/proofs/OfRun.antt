@@ -1,5 +1,6 @@
 -- Demand 2 of a whole run: what its state, its ledger and its map show, and what its later calls answer.
 -- Assumes nothing.
+use Rattle.std.specs.Prelude.{Ok}
 use mathlib.Core.Bool.{Bool, true}
 use mathlib.Core.List.{List}
 use mathlib.Core.Path.{◌≡◌, refl, sym, ap, ◌∙◌}
@@ -21,12 +22,10 @@ use Rattle.laws.proofs.Total.{energy_none, distance_none}
 use Rattle.laws.proofs.RunNear.{run_near}
 use Rattle.ledger.specs.Row.{at, outside_in}
 use Rattle.laws.specs.Answers.{gives}
-use Rattle.laws.proofs.Answers.{same_closing}
+use Rattle.laws.proofs.Answers.{same_closing, same_answer}
 use Rattle.state.specs.declared.Run.{Run}
 use Rattle.state.specs.State.{run_ground}
 use Rattle.state.specs.Refusals.{last_cycle}
-use Rattle.judge.specs.declared.ShownAnswer.TheVariants as counts
-use Rattle.judge.proofs.Promises.{same_shown, same_totals}
 use Rattle.judge.proofs.Runs as runs
 use Rattle.judge.proofs.Runs.{Reached, Shown}
 use Rattle.closing.proofs.Joined as closing
@@ -87,13 +86,13 @@ module _ {p : Plan} {l₀ : List ℤ} {m₀ : List ℕ} {xs : List Moment} {r : 
   -- ---- the calls that look at it
 
   shown_is : (c : ShownCall) → ShownOn r p.cycle l m c → (let o = outside y s (shown_row y.layout (judged y s n)) (judged y s n) in
-      c.answer ≡ counts.Counted (record { ones = o; outside = pos o; agree = true }))
+      c.answer ≡ Ok (record { ones = o; outside = pos o; agree = true }))
   shown_is c on =
       let o = outside y s (shown_row y.layout (judged y s n)) (judged y s n) in
       let last = last_cycle_is p l₀ m₀ reached in
       let in_ledger : outside_in l (last_cycle r p.cycle) ≡ pos o =
       outsides_are p l₀ m₀ reached (last_cycle r p.cycle) (last_cycle_most p l₀ m₀ reached) ∙ ap (λ (c : ℕ). pos (outside y s c (judged y s n))) last in
-      same_shown _ _
+      same_answer _ _
       (shown_kept c on ∙ settled_taken _ (runs.never_refused p l₀ m₀ reached 0)
       ∙ (λ i. gives (record { ones = shows.ones_are_outside i; outside = in_ledger i; agree = eq_z (pos (shows.ones_are_outside i)) (in_ledger i) }))
       ∙ ap (λ (y : Bool). gives (record { ones = o; outside = pos o; agree = y })) (eq-eqb o o refl))
@@ -107,7 +106,7 @@ module _ {p : Plan} {l₀ : List ℤ} {m₀ : List ℕ} {xs : List Moment} {r : 
   run_answers = record {
     shown_agrees = shown_is;
     totals_of_run = λ c on.
-        same_totals _ _
+        same_answer _ _
         (totals_kept c on ∙ settled_taken _ (runs.never_refused p l₀ m₀ reached 0)
         ∙ (λ i. gives (record {
           end = shows.end_is i;
@@ -119,8 +118,7 @@ module _ {p : Plan} {l₀ : List ℤ} {m₀ : List ℕ} {xs : List Moment} {r : 
     closing_of_run = λ c on ok. same_closing _ _ (closing_kept c on ∙ closing.closing_of_run p l₀ m₀ reached (closing_amounts c) ok);
     figures_of_run = λ c on ok.
         let none = reading_not_refused (figures_reading c r) (ap (λ (z : Run). is_reading (figures_reading c z)) (sym on.run_is) ∙ ok) refl in
-        let found = settled_taken _ none ∙ figures.figures_of_run p l₀ m₀ (figures_reading c r) reached in
-        figures_kept c on ∙ (λ i. record { refusal = none i; figures = found i });
+        same_answer _ _ (figures_kept c on ∙ settled_taken _ none ∙ ap gives (figures.figures_of_run p l₀ m₀ (figures_reading c r) reached));
   }
 
   -- ---- a call of `close` that answers the figures

@@ -12,8 +12,8 @@ use Rattle.numbers.proofs.Tests.{every_append}
 use Rattle.rules.specs.declared.End.{End}
 use Rattle.rules.specs.declared.End.TheVariants.{None as none, Stop as stop, Limit as limit}
 use Rattle.rules.specs.declared.Closing.{Closing}
-use Rattle.rules.specs.declared.ClosingAnswer.{ClosingAnswer}
-use Rattle.rules.specs.declared.ClosingAnswer.TheVariants.{Closed, Refused}
+use Rattle.rules.specs.Closing.{ClosingAnswer}
+use Rattle.std.specs.Prelude.{Ok as Closed, Err as Refused}
 use Rattle.rules.specs.declared.Figures.{Figures}
 use Rattle.rules.specs.Table.{length_allowed, tags}
 use Rattle.rules.specs.Front.{Field}

@@ -1,5 +1,7 @@
 -- "Demand 2 shuts out a judge that ..": the six judges that document 01 names, each of which breaks a contract.
 -- Assumes nothing.
+use Rattle.rules.specs.declared.Refusal.{Refusal}
+use Rattle.std.specs.Prelude.{Result, Ok, Err}
 use mathlib.Core.Bool.{Bool, true, false, cond, false≢true}
 use mathlib.Core.List.{List, [], ◌++◌}
 use mathlib.Core.Path.{◌≡◌, refl, sym, ap, ◌∙◌}
@@ -23,7 +25,7 @@ use Rattle.rules.specs.Cycle.{valid}
 use Rattle.rules.specs.Band.{grid20, inside, side, verdict}
 use Rattle.rules.specs.Tally as tally
 use Rattle.rules.specs.Course.{outside, judged, closed}
-use Rattle.laws.specs.Answers.{gives, refuses}
+use Rattle.laws.specs.Answers.{gives, refuses, answer_said}
 use Rattle.laws.specs.Beside.{stopped, is_block}
 use Rattle.rules.specs.Regular.{moment_in}
 use Rattle.rules.specs.Plan.{Plan, plan, course_of}
@@ -42,9 +44,7 @@ use Rattle.blocks.specs.Blocks.{block_refusal}
 use Rattle.laws.proofs.Answers.{was_given, given_refused, given_is}
 use Rattle.laws.proofs.Samples.{block_of}
 use Rattle.blocks.proofs.Accepted.{block_accepted}
-use Rattle.judge.specs.declared.Answer.{Answer}
-use Rattle.judge.specs.declared.Answer.TheVariants.{Taken, Refused}
-use Rattle.judge.specs.Answers.{answer_said, plan_of, after_sample, after_block}
+use Rattle.judge.specs.Answers.{plan_of, after_sample, after_block}
 use Rattle.judge.proofs.Promises.{Promised}
 use Rattle.judge.proofs.Runs as runs
 use Rattle.rules.specs.Question.{question}
@@ -59,13 +59,13 @@ use Rattle.demands.proofs.SomeRun.{some_run}
 
 -- ---- "a judge that refuses everything"
 
-not_refused : {n : ℕ} {r : Run} {a c : Memory} {l : List ℤ} {m : List ℕ} {x : Answer} → Promised n r a l m x c → n ≡ 0 → (k : ℕ) → x ≡ Refused k → ⊥
+not_refused : {n : ℕ} {r : Run} {a c : Memory} {l : List ℤ} {m : List ℕ} {x : Result Run Refusal} → Promised n r a l m x c → n ≡ 0 → (k : Refusal) → x ≡ Err k → ⊥
 not_refused {n} {r} p z k e =
     given_refused (sym (settled_taken (refuses n) z) ∙ sym p.answer ∙ ap answer_said e)
 
 -- a start on memory that is long enough, with a cycle, tolerances and a method that break no rule
 pub start_not_refused : {b : List ℕ} {t : Tolerances} {y : Method} {l : List ℤ} {m : List ℕ} (c : StartCall) → StartOn b t y l m c → ledger_numbers ≤ length l
-    → map_words ≤ length m → valid b ≡ true → tolerable t ≡ true → is_method y ≡ true → (k : ℕ) → c.answer ≡ Refused k → ⊥
+    → map_words ≤ length m → valid b ≡ true → tolerable t ≡ true → is_method y ≡ true → (k : Refusal) → c.answer ≡ Err k → ⊥
 unfolding start_refusal
 start_not_refused {b} {t} {y} {l} {m} c on long_ledger long_map good tolerated fits =
     not_refused (start_kept c on)
@@ -76,7 +76,7 @@ module _ {p : Plan} {l₀ : List ℤ} {m₀ : List ℕ} {xs : List Moment} {r : 
   grounded : (others : ℕ) → run_ground r p.cycle l m others ≡ others
   grounded = runs.never_refused p l₀ m₀ (driven_reached p l₀ m₀ h)
 
-  pub sample_not_refused : (c : SampleCall) → SampleOn r p.cycle l m c → is_sample (sample_in c) ≡ true → r.progress.offered < most_offered → (k : ℕ) → c.answer ≡ Refused k → ⊥
+  pub sample_not_refused : (c : SampleCall) → SampleOn r p.cycle l m c → is_sample (sample_in c) ≡ true → r.progress.offered < most_offered → (k : Refusal) → c.answer ≡ Err k → ⊥
   unfolding sample_refusal
   sample_not_refused c on ok room =
       not_refused (sample_kept c on)
@@ -84,7 +84,7 @@ module _ {p : Plan} {l₀ : List ℤ} {m₀ : List ℕ} {xs : List Moment} {r : 
 
   pub block_not_refused : (c : BlockCall) → BlockOn r p.cycle l m c → (let q = bytes_in c in
       is_block (length q) ≡ true → c.args.1.1.1.1.0 ≡ r.progress.offered → r.progress.offered + count_in q ≤ most_offered → are_samples q (count_in q) ≡ true
-      → (k : ℕ) → c.answer ≡ Refused k → ⊥)
+      → (k : Refusal) → c.answer ≡ Err k → ⊥)
   unfolding block_refusal
   block_not_refused c on whole first room ok =
       not_refused (block_kept c on)
@@ -152,7 +152,7 @@ no_constant_mark l₀ m₀ long_ledger long_map y h =
 -- ---- "one that does nothing"
 
 -- a sample that is taken raises the number offered
-module _ (c : SampleCall) {r' : Run} (e : c.answer ≡ Taken r') where
+module _ (c : SampleCall) {r' : Run} (e : c.answer ≡ Ok r') where
   pub sample_is_offered : r'.progress.offered ≡ suc c.args.0.progress.offered
   sample_is_offered =
       let (r, (b, (l, (m, (x, _))))) = c.args in
@@ -165,7 +165,7 @@ module _ (c : SampleCall) {r' : Run} (e : c.answer ≡ Taken r') where
 
 -- ---- "one that works through the first block and lets later ones slide by"
 
-pub every_block_is_worked_through : {r : Run} {b : List ℕ} {l : List ℤ} {m : List ℕ} (c : BlockCall) → BlockOn r b l m c → {r' : Run} → c.answer ≡ Taken r'
+pub every_block_is_worked_through : {r : Run} {b : List ℕ} {l : List ℤ} {m : List ℕ} (c : BlockCall) → BlockOn r b l m c → {r' : Run} → c.answer ≡ Ok r'
     → WorkedThrough r b l m (bytes_in c) r' c.lasts.1.1.0 c.lasts.1.1.1.0
 every_block_is_worked_through {r} {b} {l} {m} c on {r'} e =
     let k = block_kept c on in
@@ -184,7 +184,7 @@ every_block_is_worked_through {r} {b} {l} {m} c on {r'} e =
 
 module _ {p : Plan} {l₀ : List ℤ} {m₀ : List ℕ} {xs : List Moment} {r : Run} {l : List ℤ} {m : List ℕ} (h : Driven p l₀ m₀ xs r l m) where
   -- so after a later block the ledger shows its samples behind those before
-  pub later_block_shows : (c : BlockCall) → BlockOn r p.cycle l m c → {r' : Run} → c.answer ≡ Taken r'
+  pub later_block_shows : (c : BlockCall) → BlockOn r p.cycle l m c → {r' : Run} → c.answer ≡ Ok r'
       → (let ys = xs ++ table (moment_at (bytes_in c)) (count_in (bytes_in c)) in
       (i : ℕ) → i < ledger_numbers → at c.lasts.1.1.0 i ≡ figure (course_of p) (moment_in ys) (length ys) i)
   later_block_shows c on e = (run_shows (takes_block h c on e)).ledger_shows

@@ -1,6 +1,7 @@
 -- What is said of records speaks of something: by calls that keep the contracts every record whose fields are none refused is fed, in any parts, and closed;
 -- and there are records with blocks added between.
 -- Assumes nothing.
+use Rattle.std.specs.Prelude.{Ok}
 use mathlib.Core.List.{List, [], ◌++◌}
 use mathlib.Core.Path.{◌≡◌, refl, sym}
 use Prim.Native.Nat.{ℕ, ◌≤◌}
@@ -17,7 +18,6 @@ use Rattle.rules.specs.Record.{Told, take_field, untold, block_content, field_co
 use Rattle.rules.specs.Records.{me, four, sample, block, charge}
 use Rattle.desk.specs.Feeding.{wanted, Lent, Laid, feed_of}
 use Rattle.sheet.specs.Overlaid.{overlaid, most_sheet}
-use Rattle.desk.specs.declared.Outcome.TheVariants.{More}
 use Rattle.prints.specs.Printed.{close_text}
 use Rattle.demands.specs.Calls.{FeedCall, CloseCall, left}
 use Rattle.demands.specs.Demand2.{Speaks}
@@ -32,7 +32,7 @@ feed_call x i e =
     record {
       κs = ([], ([], ([], ([], tt))));
       args = (x.desk, (to i, (mut_to x.room, (mut_to x.memory.ledger, (mut_to x.memory.map, tt)))));
-      answer = record { outcome = More; used = y.used; desk = y.laid.desk };
+      answer = record { outcome = Ok tt; used = y.used; desk = y.laid.desk };
       lasts = (tt, (tt, (y.laid.room, (y.laid.memory.ledger, (y.laid.memory.map, tt)))));
       kept = λ j. record { laid = y.laid; used = y.used; outcome = sym e j };
     }

@@ -1,5 +1,7 @@
 -- Demand 2 speaks of something: by calls that keep the contracts there is a run of every list of samples within their limits, 4,000,000 at most.
 -- Assumes nothing.
+use Rattle.rules.specs.declared.Refusal.{Refusal}
+use Rattle.std.specs.Prelude.{Result, Ok, Err}
 use mathlib.Core.Bool.{true}
 use mathlib.Core.List.{List, [], ◌∷◌, ◌++◌, append-nil, append_assoc}
 use mathlib.Core.Path.{◌≡◌, refl, sym, subst, ◌∙◌}
@@ -24,7 +26,6 @@ use Rattle.values.specs.Limits.{is_method}
 use Rattle.state.specs.declared.Run.{Run}
 use Rattle.state.specs.Refusals.{start_refusal, started, sample_refusal}
 use Rattle.step.specs.Step.{start_of, run_to}
-use Rattle.judge.specs.declared.Answer.TheVariants.{Taken}
 use Rattle.judge.specs.Answers.{after_sample}
 use Rattle.judge.proofs.Calls.{taken}
 use Rattle.judge.proofs.Runs as runs
@@ -48,7 +49,7 @@ start_call b t q l m z =
     record {
       κs = ([], ([], ([], tt)));
       args = (to b, (t, (q, (mut_to l, (mut_to m, tt)))));
-      answer = Taken (started b t q);
+      answer = Ok (started b t q);
       lasts = (tt, (tt, (tt, (y.ledger, (y.map, tt)))));
       kept = taken (start_refusal b t q l m) (started b t q) y l m z refl refl;
     }
@@ -59,7 +60,7 @@ sample_call r b l m x z =
     record {
       κs = ([], ([], ([], tt)));
       args = (r, (to b, (mut_to l, (mut_to m, (x, tt)))));
-      answer = Taken (run_to r y.progress y.stretched);
+      answer = Ok (run_to r y.progress y.stretched);
       lasts = (tt, (tt, (y.memory.ledger, (y.memory.map, (tt, tt)))));
       kept = taken (sample_refusal r b l m x) (run_to r y.progress y.stretched) y.memory l m z refl refl;
     }

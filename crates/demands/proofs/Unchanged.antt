@@ -1,5 +1,6 @@
 -- "A refusal returns its number and no figure; state, ledger, map and every other lent buffer stay exactly as they were.": over the contracts.
 -- Assumes nothing.
+use Rattle.std.specs.Prelude.{Result, Ok, Err}
 use mathlib.Core.Bool.{Bool, true, false}
 use mathlib.Core.List.{List}
 use mathlib.Core.Path.{◌≡◌, sym, ap, subst, ◌∙◌}
@@ -9,6 +10,9 @@ use borrow.Author.Tests.{lt-leb}
 use lib.Dec.{leb}
 use lib.ListN.{length, take, drop}
 use lib.Seq.{drop-append_seam}
+use Rattle.rules.specs.declared.Figures.{Figures}
+use Rattle.rules.specs.declared.Refusal.{Refusal}
+use Rattle.laws.specs.Answers.{answer_said, number_of}
 use Rattle.rules.specs.Words.{unless}
 use Rattle.rules.specs.Record.{sheet_of}
 use Rattle.rules.specs.Text.{printed}
@@ -26,8 +30,6 @@ use Rattle.reader.specs.Answers.{all_left}
 use Rattle.reader.proofs.Unchanged.{OpenStays, open_stays, ReadStays, read_stays, none_read, read_alone}
 use Rattle.sheet.specs.Overlaid.{overlaid, most_sheet}
 use Rattle.tracing.specs.Traced.{most_trace}
-use Rattle.figures.specs.declared.Found.{Found}
-use Rattle.figures.specs.Figured.{blank as no_figures}
 use Rattle.desk.specs.Feeding.{Laid, Consumed, laid_of, feed_of}
 use Rattle.desk.proofs.LeftOver as desk
 use Rattle.paperwhelk.proofs.Fitting.{does_not_fit}
@@ -36,14 +38,14 @@ use Rattle.demands.specs.Demand1.{RefusedChangesNothing, LinesStay}
 use Rattle.demands.proofs.NoDoubt.{left_by}
 use Rattle.demands.proofs.Driven.{start_promised, sample_promised, block_promised}
 
-open_unchanged : (c : OpenCall) (s : OpenStep) → c.answer.step ≡ s → OpenStays (open_step_said s) → (c.answer.opening ≡ c.args.0) × (left c ≡ c.args)
+open_unchanged : (c : OpenCall) (s : Result OpenStep Refusal) → c.answer.step ≡ s → OpenStays (open_step_said s) → (c.answer.opening ≡ c.args.0) × (left c ≡ c.args)
 open_unchanged c s e h =
     let (o, (i, (room, (l, (m, _))))) = c.args in
     let k = c.kept in
     let f = k ∙ open_stays o room.now l.now m.now i.now (subst OpenStays (ap open_step_said (sym e) ∙ ap (λ (y : OpenLeft). y.answer.says) k) h) in
     (ap (λ (y : OpenLeft). y.answer.opening) f, left_by c (λ j. (tt, (tt, ((f j).room, ((f j).memory.ledger, ((f j).memory.map, tt)))))))
 
-read_unchanged : (c : ReadCall) (s : Step) → c.answer.step ≡ s → ReadStays (step_said s) → (c.answer.reading ≡ c.args.0) × (left c ≡ c.args)
+read_unchanged : (c : ReadCall) (s : Result Step Refusal) → c.answer.step ≡ s → ReadStays (step_said s) → (c.answer.reading ≡ c.args.0) × (left c ≡ c.args)
 read_unchanged c s e h =
     let (r, (i, (b, (l, (m, _))))) = c.args in
     let k = c.kept in
@@ -61,10 +63,10 @@ refused_changes_nothing = record {
   block_refused_changes_nothing = λ c n e.
       let s = judge.refused_changes_nothing _ _ _ _ _ n _ _ (block_promised c) e in
       left_by c (λ i. (tt, (tt, ((s.1 i).ledger, ((s.1 i).map, (tt, (tt, tt)))))));
-  open_refused_changes_nothing = λ c n e. open_unchanged c (opening.Refused n) e tt;
-  open_incomplete_changes_nothing = λ c e. open_unchanged c opening.Incomplete e tt;
-  read_refused_changes_nothing = λ c n e. read_unchanged c (step.Refused n) e tt;
-  read_incomplete_changes_nothing = λ c e. read_unchanged c step.Incomplete e tt;
+  open_refused_changes_nothing = λ c n e. open_unchanged c (Err n) e tt;
+  open_incomplete_changes_nothing = λ c e. open_unchanged c (Ok opening.Incomplete) e tt;
+  read_refused_changes_nothing = λ c n e. read_unchanged c (Err n) e tt;
+  read_incomplete_changes_nothing = λ c e. read_unchanged c (Ok step.Incomplete) e tt;
   read_all_none_accepted_changes_nothing = λ c e.
       let (r, (i, (b, (l, (m, _))))) = c.args in
       let k = c.kept in
@@ -93,9 +95,7 @@ refused_changes_nothing = record {
       let fed = d.kept ∙ (λ j. feed_of (laid_of (s.state j) (s.bytes j) (s.ledger j) (s.map j)) (input j)) in
       let end = ap (λ (y : Consumed). y.laid) fed ∙ desk.feed_alone (laid_of x r.now l.now m.now) i.now ∙ sym (ap (λ (y : Consumed). y.laid) p) in
       (ap (λ (y : Laid). y.desk) end, λ j. (tt, (tt, ((end j).room, ((end j).memory.ledger, ((end j).memory.map, tt))))));
-  figures_of_refused_has_no_figure = λ c h.
-      let refusal = ap (λ (x : Found). x.refusal) c.kept in
-      ap (λ (x : Found). x.figures) c.kept ∙ settled_refused _ (λ z. h (refusal ∙ z)) ∙ ap no_figures (sym refusal);
+  figures_of_refused_has_no_figure = λ c h x e. h (ap (λ (y : Result Figures Refusal). number_of (answer_said y)) e);
 }
 
 -- ---- lines

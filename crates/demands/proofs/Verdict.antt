@@ -12,6 +12,7 @@ use lib.IntN.{ℤ, pos}
 use lib.ListN.{length, length-append}
 use lib.Seq.{get_or-append_seam}
 use borrow.Author.Tests.{eq-eqb, lt-ltb, le-leb, leb-true}
+use Rattle.laws.specs.Answers.{answer_said}
 use Rattle.numbers.proofs.Tests.{both, pass}
 use Rattle.rules.specs.declared.End.TheVariants.{None as none}
 use Rattle.rules.specs.declared.Method.{Method}
@@ -42,7 +43,6 @@ use Rattle.state.specs.declared.Run.{Run}
 use Rattle.step.proofs.Standing.{Riding, place_small, riding}
 use Rattle.state.proofs.Checked.{Startable, start_passed}
 use Rattle.blocks.proofs.Accepted.{one_accepted}
-use Rattle.judge.specs.Answers.{answer_said}
 use Rattle.judge.proofs.Runs.{in_order}
 use Rattle.demands.specs.Demand2.{VerdictIsTheJudges}
 use Rattle.demands.specs.Runs.{Driven, takes, sample_in}

@@ -1,22 +1,24 @@
 -- Wrong programs for functions that hold no loop and no test worth an edit: any program that answers so breaks the contract.
 -- Assumes nothing.
+use Rattle.std.specs.Prelude.{Ok, Err}
 use mathlib.Core.Bool.{false, false≢true}
 use mathlib.Core.List.{List}
 use mathlib.Core.Path.{◌≡◌, sym, ap, ◌∙◌}
 use Prim.Native.Nat.{ℕ, suc}
 use native.Mathlib.Omega.{arith}
 use lib.ListN.{get_or, replicate}
-use Rattle.laws.specs.Answers.{refuses}
+use Rattle.laws.specs.Answers.{refuses, answer_said}
 use Rattle.laws.proofs.Answers.{given_refused}
 use Rattle.opening.specs.declared.Opening.{Opening}
 use Rattle.opening.specs.declared.OpenStep.TheVariants as step
-use Rattle.opening.specs.Answers.{open_step_said, OpenSaid}
+use Rattle.rules.specs.Numbered.{number}
+use Rattle.rules.specs.declared.Refusal.{Refusal}
+use Rattle.opening.specs.declared.OpenAnswer.{OpenAnswer}
+use Rattle.opening.specs.Answers.{open_step_said, OpenSaid, open_said}
+use Rattle.opening.specs.Begin.{refused_at}
 use Rattle.opening.specs.contracts as opening_contracts
-use Rattle.opening.proofs.refused_at
 use Rattle.opening.proofs.characters_of
 use Rattle.reading.specs.declared.Reading.{Reading}
-use Rattle.reader.specs.declared.Ending.TheVariants.{Whole}
-use Rattle.reader.specs.Answers.{ending_said}
 use Rattle.reader.proofs.Endings.{only_whole}
 use Rattle.reader.specs.contracts as reader_contracts
 use Rattle.reader.proofs.blank
@@ -24,13 +26,13 @@ use Rattle.reader.proofs.reading_of
 use Rattle.reader.proofs.ended
 use Rattle.demands.specs.Calls.{Call}
 
--- a refusal that is another's number, or no refusal at all
-module _ (c : Call opening_contracts.refused_at.ended refused_at.Reads.Learnt) where
-  pub refused_another_number_breaks : (n : ℕ) → (n ≡ c.args.1.0 → ⊥) → c.answer.step ≡ step.Refused n → ⊥
-  refused_another_number_breaks n h e = let z : refuses n ≡ refuses c.args.1.0 = sym (ap open_step_said e) ∙ ap (λ (x : OpenSaid). x.says) c.kept in h cc
+-- a refusal of the number n, where the answer is another's, or no refusal at all
+module _ (o : Opening) (n : ℕ) (a : OpenAnswer) (kept : open_said a ≡ refused_at o n) where
+  pub refused_another_number_breaks : (e : Refusal) → (number e ≡ n → ⊥) → a.step ≡ Err e → ⊥
+  refused_another_number_breaks e h is = let z : refuses (number e) ≡ refuses n = sym (ap open_step_said is) ∙ ap (λ (x : OpenSaid). x.says) kept in h cc
 
-  pub refused_as_incomplete_breaks : c.answer.step ≡ step.Incomplete → ⊥
-  refused_as_incomplete_breaks e = given_refused (sym (ap open_step_said e) ∙ ap (λ (x : OpenSaid). x.says) c.kept)
+  pub refused_as_incomplete_breaks : a.step ≡ Ok step.Incomplete → ⊥
+  refused_as_incomplete_breaks e = given_refused (sym (ap open_step_said e) ∙ ap (λ (x : OpenSaid). x.says) kept)
 
 -- an opening whose vehicle is seventeen bytes of 0, or that has a cycle already
 module _ (c : Call reader_contracts.blank.ended blank.Reads.Learnt) where
@@ -52,11 +54,11 @@ module _ (c : Call reader_contracts.reading_of.ended reading_of.Reads.Learnt) wh
 
 -- an end that is let by before the start, or inside a field
 module _ (c : Call reader_contracts.ended.ended ended.Reads.Learnt) where
-  pub ended_before_the_start_breaks : c.args.0 ≡ false → c.answer ≡ Whole → ⊥
-  ended_before_the_start_breaks s e = false≢true (sym s ∙ (only_whole c.args.0 c.args.1.0 (sym c.kept ∙ ap ending_said e)).0)
+  pub ended_before_the_start_breaks : c.args.0 ≡ false → c.answer ≡ Ok tt → ⊥
+  ended_before_the_start_breaks s e = false≢true (sym s ∙ (only_whole c.args.0 c.args.1.0 (sym c.kept ∙ ap answer_said e)).0)
 
-  pub ended_with_bytes_left_breaks : (n : ℕ) → c.args.1.0 ≡ suc n → c.answer ≡ Whole → ⊥
-  ended_with_bytes_left_breaks n s e = let z = (only_whole c.args.0 c.args.1.0 (sym c.kept ∙ ap ending_said e)).1 in omega arith
+  pub ended_with_bytes_left_breaks : (n : ℕ) → c.args.1.0 ≡ suc n → c.answer ≡ Ok tt → ⊥
+  ended_with_bytes_left_breaks n s e = let z = (only_whole c.args.0 c.args.1.0 (sym c.kept ∙ ap answer_said e)).1 in omega arith
 
 -- seventeen characters that are not those of the value
 module _ (c : Call opening_contracts.characters_of.ended characters_of.Reads.Learnt) where

@@ -1,10 +1,8 @@
 -- Document 01's orders of refusals, as numbers, 0 where nothing is refused; its list of them.
 -- Assumes nothing.
-use Rattle.std.specs.Prelude.{List, ◌≡◌, ℕ, ◌≤◌, ℤ}
+use Rattle.std.specs.Prelude.{List, ◌≡◌, ℕ, ◌≤◌, ℤ, None as absent, Some as wh}
 use Rattle.rules.specs.Words.{settled}
-use Rattle.rules.specs.declared.Charge.{Charge}
-use Rattle.rules.specs.declared.Charge.TheVariants.{Absent as absent, Wh as wh}
-use Rattle.rules.specs.Closing.{recharge_refusal}
+use Rattle.rules.specs.Closing.{Charge, recharge_refusal}
 use Rattle.rules.specs.Machine.{Reply, to_field, not_yet, no_field}
 use Rattle.rules.specs.Machine as machine
 use Rattle.rules.specs.Record.{Content, brought, foreign, wrong}

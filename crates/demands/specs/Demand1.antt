@@ -1,24 +1,20 @@
 -- Demand 1: "Reader and judge take every input, broken ones included, and end. .. Each refusal has a number, adds nothing to the run, changes no lent memory."
 -- Stated here, over all that is known by the contracts; proved in proofs/ (`demand_1`).
 -- Assumes nothing.
-use Rattle.std.specs.Prelude.{List, ◌≡◌, ℕ, ◌<◌, eqb, length, drop}
+use Rattle.std.specs.Prelude.{Ok, Err, List, ◌≡◌, ℕ, ◌<◌, eqb, length, drop}
 use Rattle.rules.specs.Words.{unless}
-use Rattle.rules.specs.declared.Figure.TheVariants as figure
 use Rattle.rules.specs.declared.Closing.{Closing}
-use Rattle.rules.specs.declared.ClosingAnswer.TheVariants as closings
 use Rattle.rules.specs.Record.{refused_at, sheet_of}
 use Rattle.rules.specs.Table.{tags}
 use Rattle.rules.specs.Front.{front_of}
 use Rattle.rules.specs.Question.{minus}
 use Rattle.rules.specs.Text.{printed}
-use Rattle.laws.specs.Answers.{number_of, figure_said, closing_said}
+use Rattle.laws.specs.Answers.{number_of, figure_said, closing_said, answer_said, refuses}
 use Rattle.state.specs.State.{run_ground}
 use Rattle.state.specs.Refusals.{start_refusal, sample_refusal}
 use Rattle.blocks.specs.Blocks.{block_refusal}
-use Rattle.judge.specs.declared.Answer.TheVariants as answer
-use Rattle.judge.specs.declared.ShownAnswer.TheVariants as counts
-use Rattle.judge.specs.declared.TotalsAnswer.TheVariants as sums
-use Rattle.judge.specs.Answers.{answer_said, shown_said, totals_said}
+use Rattle.rules.specs.Numbered.{number}
+use Rattle.rules.specs.declared.Refusal.{Refusal}
 use Rattle.closing.specs.Answers.{whole, refusal_of}
 use Rattle.fields.specs.Fields.{front_said, stands_said}
 use Rattle.contents.specs.Content.{content_said, later_content}
@@ -26,10 +22,7 @@ use Rattle.opening.specs.declared.OpenStep.TheVariants as opening
 use Rattle.opening.specs.Answers.{open_step_said}
 use Rattle.reading.specs.declared.Step.TheVariants as step
 use Rattle.reading.specs.Answers.{step_said, read_ground}
-use Rattle.reader.specs.declared.Ending.TheVariants as ending
-use Rattle.reader.specs.Answers.{ending_said}
-use Rattle.desk.specs.declared.Outcome.TheVariants as outcome
-use Rattle.figures.specs.Figured.{blank as no_figures}
+use Rattle.rules.specs.declared.Figures.{Figures}
 use Rattle.sheet.specs.Overlaid.{most_sheet}
 use Rattle.tracing.specs.Traced.{most_trace}
 use Rattle.judge.specs.contracts as judge_contracts
@@ -70,12 +63,7 @@ use Rattle.walk.proofs.whole.list_record
 use Rattle.paperwhelk.specs.contracts as paperwhelk_contracts
 use Rattle.paperwhelk.proofs.verdict.paperwhelk_verdict
 use Rattle.paperwhelk.proofs.sheets.paperwhelk_sheet
-use Rattle.demands.specs.Calls.{AsksNothing, left, StartCall, SampleCall, BlockCall, ShownCall, TotalsCall, ClosingCall}
-use Rattle.demands.specs.Calls.{FrontCall, ContentCall, OpenCall, ReadCall, AllCall, EndedCall, FiguresCall}
-use Rattle.demands.specs.Calls.{SheetCall, RefusalCall, FeedCall, CloseCall, RefuseCall, TraceCall, RecordSheetCall}
-use Rattle.demands.specs.Calls.{start_lent, start_leaves, sample_lent, sample_leaves}
-use Rattle.demands.specs.Calls.{block_lent, block_leaves, open_lent, open_leaves, read_lent, read_leaves, all_lent, all_leaves, feed_lent, feed_leaves}
-use Rattle.demands.specs.Calls.{OpenStayed, ReadStayed, AllStayed, FeedStayed}
+use Rattle.demands.specs.Calls.{AsksNothing, left, StartCall, SampleCall, BlockCall, ShownCall, TotalsCall, ClosingCall, FrontCall, ContentCall, OpenCall, ReadCall, AllCall, EndedCall, FiguresCall, SheetCall, RefusalCall, FeedCall, CloseCall, RefuseCall, TraceCall, RecordSheetCall, start_lent, start_leaves, sample_lent, sample_leaves, block_lent, block_leaves, open_lent, open_leaves, read_lent, read_leaves, all_lent, all_leaves, feed_lent, feed_leaves, OpenStayed, ReadStayed, AllStayed, FeedStayed}
 use Rattle.demands.specs.Runs.{Beyond, all_given, feed_given, Shorter}
 use Rattle.demands.specs.Cases.{wrong_number, or_else, recharge_number, opening_number, next_number, reading_number, Listed}
 
@@ -125,18 +113,18 @@ pub record HasItsNumber : Type 0 where
       number_of (answer_said c.answer) ≡ block_refusal r b.now l.now m.now first q.now)
   -- "In a started run 1 and 2 come before all others"
   pub shown_number : (c : ShownCall) → (let (r, (b, (l, (m, _)))) = c.args in
-      number_of (shown_said c.answer) ≡ run_ground r b.now l.now m.now 0)
+      number_of (answer_said c.answer) ≡ run_ground r b.now l.now m.now 0)
   pub totals_number : (c : TotalsCall) → (let (r, (b, (l, (m, _)))) = c.args in
-      number_of (totals_said c.answer) ≡ run_ground r b.now l.now m.now 0)
+      number_of (answer_said c.answer) ≡ run_ground r b.now l.now m.now 0)
   -- "Closing: 10, 11, 12, 13.", after 1 and 2
   pub closing_number : (c : ClosingCall) → (let (r, (a, (b, (l, (m, _))))) = c.args in
       number_of (closing_said c.answer) ≡ refusal_of r a b.now l.now m.now)
   -- "Recharge: whatever closing refuses, then absent, 14, 12."
-  pub recharge_number_lem : (c : ClosingCall) (x : Closing) → c.answer ≡ closings.Closed x → (let (r, (a, (b, (l, (m, _))))) = c.args in
+  pub recharge_number_lem : (c : ClosingCall) (x : Closing) → c.answer ≡ Ok x → (let (r, (a, (b, (l, (m, _))))) = c.args in
       number_of (figure_said x.recharge) ≡ recharge_number (whole r a b.now l.now m.now) x.range a.after a.charge)
   -- the figures of the report: 1 and 2, as of `read`
   pub figures_of_number : (c : FiguresCall) → (let (r, (b, (l, (m, _)))) = c.args in
-      c.answer.refusal ≡ read_ground r b.now l.now m.now)
+      number_of (answer_said c.answer) ≡ read_ground r b.now l.now m.now)
   -- 8, of what can be no field
   pub front_of_number : (c : FrontCall) → number_of (front_said c.answer) ≡ number_of (stands_said (front_of tags c.args.0.now))
   -- of a whole field after the start: 8, 9, then its content
@@ -154,36 +142,36 @@ pub record HasItsNumber : Type 0 where
       (next_number c.answer.reading b.now c.lasts.1.1.1.0 c.lasts.1.1.1.1.0 (drop c.answer.used i.now)))
   -- 15: "input ends inside a field, or before field 4 was accepted"
   pub ended_number : (c : EndedCall) → (let (started, (left, _)) = c.args in
-      number_of (ending_said c.answer) ≡ unless 15 started (unless 15 (eqb left 0) 0))
+      number_of (answer_said c.answer) ≡ unless 15 started (unless 15 (eqb left 0) 0))
 
 -- a refusal's number is one of the list, of every operation and of a record
 pub record InTheList : Type 0 where
-  pub start_listed : (c : StartCall) (n : ℕ) → c.answer ≡ answer.Refused n → Listed n
-  pub sample_listed : (c : SampleCall) (n : ℕ) → c.answer ≡ answer.Refused n → Listed n
-  pub block_listed : (c : BlockCall) (n : ℕ) → c.answer ≡ answer.Refused n → Listed n
-  pub shown_listed : (c : ShownCall) (n : ℕ) → c.answer ≡ counts.Refused n → Listed n
-  pub totals_listed : (c : TotalsCall) (n : ℕ) → c.answer ≡ sums.Refused n → Listed n
-  pub closing_listed : (c : ClosingCall) (n : ℕ) → c.answer ≡ closings.Refused n → Listed n
-  pub recharge_listed : (c : ClosingCall) (x : Closing) → c.answer ≡ closings.Closed x → (n : ℕ) → x.recharge ≡ figure.Refused n → Listed n
-  pub open_listed : (c : OpenCall) (n : ℕ) → c.answer.step ≡ opening.Refused n → Listed n
-  pub read_listed : (c : ReadCall) (n : ℕ) → c.answer.step ≡ step.Refused n → Listed n
-  pub read_all_listed : (c : AllCall) (n : ℕ) → c.answer.last ≡ step.Refused n → Listed n
-  pub ended_listed : (c : EndedCall) (n : ℕ) → c.answer ≡ ending.Refused n → Listed n
-  pub feed_listed : (c : FeedCall) (n : ℕ) → c.answer.outcome ≡ outcome.Refused n → Listed n
+  pub start_listed : (c : StartCall) (e : Refusal) → c.answer ≡ Err e → Listed (number e)
+  pub sample_listed : (c : SampleCall) (e : Refusal) → c.answer ≡ Err e → Listed (number e)
+  pub block_listed : (c : BlockCall) (e : Refusal) → c.answer ≡ Err e → Listed (number e)
+  pub shown_listed : (c : ShownCall) (e : Refusal) → c.answer ≡ Err e → Listed (number e)
+  pub totals_listed : (c : TotalsCall) (e : Refusal) → c.answer ≡ Err e → Listed (number e)
+  pub closing_listed : (c : ClosingCall) (n : ℕ) → c.answer ≡ Err n → Listed n
+  pub recharge_listed : (c : ClosingCall) (x : Closing) → c.answer ≡ Ok x → (n : ℕ) → x.recharge ≡ Err n → Listed n
+  pub open_listed : (c : OpenCall) (e : Refusal) → c.answer.step ≡ Err e → Listed (number e)
+  pub read_listed : (c : ReadCall) (e : Refusal) → c.answer.step ≡ Err e → Listed (number e)
+  pub read_all_listed : (c : AllCall) (e : Refusal) → c.answer.last ≡ Err e → Listed (number e)
+  pub ended_listed : (c : EndedCall) (e : Refusal) → c.answer ≡ Err e → Listed (number e)
+  pub feed_listed : (c : FeedCall) (e : Refusal) → c.answer.outcome ≡ Err e → Listed (number e)
   pub sheet_listed : (i : List ℕ) (n k : ℕ) → sheet_of i ≡ refused_at n k → Listed n
 
 -- ---- "A refusal returns its number and no figure; state, ledger, map and every other lent buffer stay exactly as they were."
 
 pub record RefusedChangesNothing : Type 0 where
   -- the judge: an answer that refuses holds no state, and one of the closing no figure
-  pub start_refused_changes_nothing : (c : StartCall) (n : ℕ) → c.answer ≡ answer.Refused n → left c ≡ c.args
-  pub sample_refused_changes_nothing : (c : SampleCall) (n : ℕ) → c.answer ≡ answer.Refused n → left c ≡ c.args
-  pub block_refused_changes_nothing : (c : BlockCall) (n : ℕ) → c.answer ≡ answer.Refused n → left c ≡ c.args
+  pub start_refused_changes_nothing : (c : StartCall) (e : Refusal) → c.answer ≡ Err e → left c ≡ c.args
+  pub sample_refused_changes_nothing : (c : SampleCall) (e : Refusal) → c.answer ≡ Err e → left c ≡ c.args
+  pub block_refused_changes_nothing : (c : BlockCall) (e : Refusal) → c.answer ≡ Err e → left c ≡ c.args
   -- the reader; and of its answer to an unfinished field: "That answer changes nothing."
-  pub open_refused_changes_nothing : (c : OpenCall) (n : ℕ) → c.answer.step ≡ opening.Refused n → OpenStayed c
-  pub open_incomplete_changes_nothing : (c : OpenCall) → c.answer.step ≡ opening.Incomplete → OpenStayed c
-  pub read_refused_changes_nothing : (c : ReadCall) (n : ℕ) → c.answer.step ≡ step.Refused n → ReadStayed c
-  pub read_incomplete_changes_nothing : (c : ReadCall) → c.answer.step ≡ step.Incomplete → ReadStayed c
+  pub open_refused_changes_nothing : (c : OpenCall) (e : Refusal) → c.answer.step ≡ Err e → OpenStayed c
+  pub open_incomplete_changes_nothing : (c : OpenCall) → c.answer.step ≡ Ok opening.Incomplete → OpenStayed c
+  pub read_refused_changes_nothing : (c : ReadCall) (e : Refusal) → c.answer.step ≡ Err e → ReadStayed c
+  pub read_incomplete_changes_nothing : (c : ReadCall) → c.answer.step ≡ Ok step.Incomplete → ReadStayed c
   -- `read_all` and `feed` take field after field. Where none was accepted, all is as it was; and what ends the call, a refusal or an unfinished field,
   -- leaves no trace: a call on the bytes of the accepted fields alone leaves the same
   pub read_all_none_accepted_changes_nothing : (c : AllCall) → c.answer.fields ≡ 0 → AllStayed c
@@ -193,7 +181,7 @@ pub record RefusedChangesNothing : Type 0 where
   pub feed_refused_leaves_no_trace : (c d : FeedCall) → Shorter c.answer.used (feed_given c) (feed_given d)
       → (d.answer.desk ≡ c.answer.desk) × (d.lasts ≡ c.lasts)
   -- "no figure"
-  pub figures_of_refused_has_no_figure : (c : FiguresCall) → (c.answer.refusal ≡ 0 → ⊥) → c.answer.figures ≡ no_figures c.answer.refusal
+  pub figures_of_refused_has_no_figure : (c : FiguresCall) → (number_of (answer_said c.answer) ≡ 0 → ⊥) → (x : Figures) → c.answer ≡ Ok x → ⊥
 
 -- ---- "every other lent buffer": lines shorter than 512 bytes stay as they were, and the result is 0; what lies beyond the text is never touched
 

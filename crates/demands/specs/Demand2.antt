@@ -5,12 +5,10 @@
 -- judges that it shuts out in ShutOut.antt.
 -- Proved in proofs/ (`demand_2`).
 -- Assumes nothing.
-use Rattle.std.specs.Prelude.{true, not, List, ◌++◌, ◌≡◌, ℕ, suc, ◌+◌, ◌*◌, ◌≤◌, ◌<◌, eqb, ℤ, pos, ◌+ℤ◌, length, drop}
+use Rattle.std.specs.Prelude.{Ok, Err, true, not, List, ◌++◌, ◌≡◌, ℕ, suc, ◌+◌, ◌*◌, ◌≤◌, ◌<◌, eqb, ℤ, pos, ◌+ℤ◌, length, drop}
 use Rattle.rules.specs.Words.{every}
 use Rattle.rules.specs.declared.End.TheVariants.{None as none}
-use Rattle.rules.specs.declared.Figure.TheVariants as figure
 use Rattle.rules.specs.declared.Closing.{Closing}
-use Rattle.rules.specs.declared.ClosingAnswer.TheVariants as closings
 use Rattle.rules.specs.declared.Method.{Method}
 use Rattle.rules.specs.declared.Moment.{Moment}
 use Rattle.rules.specs.declared.Sample.{Sample}
@@ -29,7 +27,7 @@ use Rattle.rules.specs.Machine.{run}
 use Rattle.rules.specs.Record.{Told, take_field, untold, told, refused_at, sheet_of}
 use Rattle.rules.specs.Figures.{energies, distances, cycles_in, outside_total, closing_in, figures_by}
 use Rattle.rules.specs.Text.{refusal_text, printed}
-use Rattle.laws.specs.Answers.{refuses, number_of}
+use Rattle.laws.specs.Answers.{refuses, number_of, answer_said}
 use Rattle.laws.specs.Beside.{stand_of, place_of}
 use Rattle.laws.specs.Claims.{ForeignBlock}
 use Rattle.laws.specs.Near.{NearRun, NotClaimed}
@@ -38,21 +36,16 @@ use Rattle.ledger.specs.Row.{at, energy_all}
 use Rattle.map.specs.Map.{is_set, ones_of}
 use Rattle.state.specs.declared.Run.{Run}
 use Rattle.state.specs.Refusals.{beside_by}
-use Rattle.judge.specs.declared.Answer.TheVariants as answer
-use Rattle.judge.specs.declared.ShownAnswer.TheVariants as counts
-use Rattle.judge.specs.declared.TotalsAnswer.TheVariants as sums
 use Rattle.step.specs.Step.{held_of, stretched_of}
-use Rattle.reading.specs.declared.Step.TheVariants as step
+use Rattle.reading.specs.Answers.{step_said}
+use Rattle.rules.specs.Numbered.{number}
+use Rattle.rules.specs.declared.Refusal.{Refusal}
 use Rattle.reading.specs.Answers.{is_reading}
 use Rattle.sheet.specs.Overlaid.{most_sheet}
-use Rattle.desk.specs.declared.Outcome.TheVariants as outcome
-use Rattle.desk.specs.Feeding.{wanted, outcome_said, Laid, Lent, stops, desk_ground, feed_of}
+use Rattle.desk.specs.Feeding.{wanted, Laid, Lent, stops, desk_ground, feed_of}
 use Rattle.prints.specs.Printed.{next_field}
-use Rattle.demands.specs.Calls.{SampleCall, BlockCall, ShownCall, TotalsCall, ClosingCall}
-use Rattle.demands.specs.Calls.{FiguresCall, ReadCall, AllCall, FeedCall, CloseCall, RefuseCall, VerdictCall}
-use Rattle.demands.specs.Runs.{SampleOn, BlockOn, ShownOn, TotalsOn, ClosingOn, FiguresOn, ReadOn, AllOn}
-use Rattle.demands.specs.Runs.{sample_in, closing_amounts, Driven, FeedOn, laid_by, FedIn, CloseOn}
-use Rattle.demands.specs.Runs.{RefuseOn, closed_to, refused_to, AskedOn, SomeRun, SomeClose}
+use Rattle.demands.specs.Calls.{SampleCall, BlockCall, ShownCall, TotalsCall, ClosingCall, FiguresCall, ReadCall, AllCall, FeedCall, CloseCall, RefuseCall, VerdictCall}
+use Rattle.demands.specs.Runs.{SampleOn, BlockOn, ShownOn, TotalsOn, ClosingOn, FiguresOn, ReadOn, AllOn, sample_in, closing_amounts, Driven, FeedOn, laid_by, FedIn, CloseOn, RefuseOn, closed_to, refused_to, AskedOn, SomeRun, SomeClose}
 use Rattle.demands.specs.Cases.{Neither1Nor2}
 use Rattle.demands.specs.Rows.{moments_of}
 use Rattle.demands.specs.Range.{PrintsNear}
@@ -105,10 +98,10 @@ module _ (p : Plan) (l₀ : List ℤ) (m₀ : List ℕ) (xs : List Moment) (r : 
   pub record RunAnswers : Type 0 where
     -- `shown`: ones and outside count are that of the cycle last judged, by the rules, and agree
     pub shown_agrees : (c : ShownCall) → ShownOn r p.cycle l m c → (let o = outside y s (shown_row y.layout (judged y s n)) (judged y s n) in
-        c.answer ≡ counts.Counted (record { ones = o; outside = pos o; agree = true }))
+        c.answer ≡ Ok (record { ones = o; outside = pos o; agree = true }))
     -- `totals`: end, counted samples, finished cycles, outside and drawn in all
     pub totals_of_run : (c : TotalsCall) → TotalsOn r p.cycle l m c
-        → c.answer ≡ sums.Summed (record {
+        → c.answer ≡ Ok (record {
           end = ending y s n;
           counted = counted y s n;
           cycles = cycles_in p xs;
@@ -120,7 +113,7 @@ module _ (p : Plan) (l₀ : List ℤ) (m₀ : List ℕ) (xs : List Moment) (r : 
         → c.answer ≡ closing_in p xs (closing_amounts c)
     -- all figures of the report
     pub figures_of_run : (c : FiguresCall) → FiguresOn r p.cycle l m c → is_reading c.args.0 ≡ true
-        → (let x = c.args.0 in c.answer ≡ record { refusal = 0; figures = figures_by x.vehicle x.passed x.amounts p xs })
+        → (let x = c.args.0 in c.answer ≡ Ok (figures_by x.vehicle x.passed x.amounts p xs))
 
   -- a call of `close` that answers the figures x
   pub record ClosedHolds : Type 0 where
@@ -128,30 +121,30 @@ module _ (p : Plan) (l₀ : List ℤ) (m₀ : List ℕ) (xs : List Moment) (r : 
     pub recharge_aside : (c : ClosingCall) → ClosingOn r p.cycle l m c → are_amounts (closing_amounts c) ≡ true
         → (let a = closing_amounts c in
         closing_refusal (E a.before) (cycles_in p xs) (energies p xs) (distances p xs) (least_finished p.method) ≡ 0
-        → c.answer ≡ closings.Closed (closing_figures (E a.before) (cycles_in p xs) (energies p xs) (distances p xs) a.after a.charge))
+        → c.answer ≡ Ok (closing_figures (E a.before) (cycles_in p xs) (energies p xs) (distances p xs) a.after a.charge))
     -- document 02, L11: W and range lie near what is unrounded
     pub closed_near : (c : ClosingCall) → ClosingOn r p.cycle l m c → are_amounts (closing_amounts c) ≡ true
-        → (x : Closing) → c.answer ≡ closings.Closed x → NearRun p xs (closing_amounts c).before x.weighted x.range
+        → (x : Closing) → c.answer ≡ Ok x → NearRun p xs (closing_amounts c).before x.weighted x.range
 
   -- "such a call is never refused 1 or 2", of every later call
   pub record NeverRefused : Type 0 where
-    pub sample : (c : SampleCall) → SampleOn r p.cycle l m c → Neither1Nor2 answer.Refused c.answer
-    pub block : (c : BlockCall) → BlockOn r p.cycle l m c → Neither1Nor2 answer.Refused c.answer
-    pub shown : (c : ShownCall) → ShownOn r p.cycle l m c → Neither1Nor2 counts.Refused c.answer
-    pub totals : (c : TotalsCall) → TotalsOn r p.cycle l m c → Neither1Nor2 sums.Refused c.answer
+    pub sample : (c : SampleCall) → SampleOn r p.cycle l m c → Neither1Nor2 refuses (answer_said c.answer)
+    pub block : (c : BlockCall) → BlockOn r p.cycle l m c → Neither1Nor2 refuses (answer_said c.answer)
+    pub shown : (c : ShownCall) → ShownOn r p.cycle l m c → Neither1Nor2 refuses (answer_said c.answer)
+    pub totals : (c : TotalsCall) → TotalsOn r p.cycle l m c → Neither1Nor2 refuses (answer_said c.answer)
     -- with amounts within their limits
-    pub closing : (c : ClosingCall) → ClosingOn r p.cycle l m c → are_amounts (closing_amounts c) ≡ true → Neither1Nor2 closings.Refused c.answer
-    pub recharge : (c : ClosingCall) (x : Closing) → c.answer ≡ closings.Closed x → Neither1Nor2 figure.Refused x.recharge
+    pub closing : (c : ClosingCall) → ClosingOn r p.cycle l m c → are_amounts (closing_amounts c) ≡ true → Neither1Nor2 Err c.answer
+    pub recharge : (c : ClosingCall) (x : Closing) → c.answer ≡ Ok x → Neither1Nor2 Err x.recharge
     -- with a reading whose own numbers are within their limits
-    pub figures : (c : FiguresCall) → FiguresOn r p.cycle l m c → is_reading c.args.0 ≡ true → c.answer.refusal ≡ 0
-    pub read : (c : ReadCall) → ReadOn r p.cycle l m c → is_reading c.args.0 ≡ true → Neither1Nor2 step.Refused c.answer.step
-    pub read_all : (c : AllCall) → AllOn r p.cycle l m c → is_reading c.args.0 ≡ true → Neither1Nor2 step.Refused c.answer.last
+    pub figures : (c : FiguresCall) → FiguresOn r p.cycle l m c → is_reading c.args.0 ≡ true → number_of (answer_said c.answer) ≡ 0
+    pub read : (c : ReadCall) → ReadOn r p.cycle l m c → is_reading c.args.0 ≡ true → Neither1Nor2 refuses (step_said c.answer.step)
+    pub read_all : (c : AllCall) → AllOn r p.cycle l m c → is_reading c.args.0 ≡ true → Neither1Nor2 refuses (step_said c.answer.last)
 
   -- "Its verdict is the judge's.": the bench controller is answered the verdict, and the judge, while the run goes on, marks the sample that it takes
   -- exactly where that is not 0, if it stands in a cycle ("after cycle 64 it is not judged": document 02, L2; "M is recorded and not judged": L5)
   abbrev pub VerdictIsTheJudges : Type 0
   VerdictIsTheJudges =
-      (c : SampleCall) → SampleOn r p.cycle l m c → (r' : Run) → c.answer ≡ answer.Taken r' → r.progress.end ≡ none
+      (c : SampleCall) → SampleOn r p.cycle l m c → (r' : Run) → c.answer ≡ Ok r' → r.progress.end ≡ none
       → row_of p.cycle (stand_of p.cycle p.method n) < most_cycles → (let position = place_of p.cycle (stand_of p.cycle p.method n) in
       (q : VerdictCall) → AskedOn p.cycle p.tolerances position (sample_in c).speed q
       → (let v = verdict p.cycle p.tolerances position (sample_in c).speed in
@@ -189,16 +182,16 @@ pub record Prints (w rest : List ℕ) (x : Laid) : Type 0 where
   -- document 02, L11: the weighted consumption and the range printed lie near what is unrounded
   pub report_near : (c : CloseCall) → CloseOn x rest c → PrintsNear w (closed_to c)
   -- new bytes, of which a field is refused: its number is the record's, with the number of its field, whatever would follow
-  pub feed_number : (new : List ℕ) (f : FeedCall) → FeedOn x (rest ++ new) f → (k : ℕ) → f.answer.outcome ≡ outcome.Refused k → (q : List ℕ)
-      → sheet_of ((w ++ new) ++ q) ≡ refused_at (number_of (outcome_said f.answer.outcome)) (suc f.answer.desk.fields)
+  pub feed_number : (new : List ℕ) (f : FeedCall) → FeedOn x (rest ++ new) f → (k : Refusal) → f.answer.outcome ≡ Err k → (q : List ℕ)
+      → sheet_of ((w ++ new) ++ q) ≡ refused_at (number_of (answer_said f.answer.outcome)) (suc f.answer.desk.fields)
   -- "A refused field gives only `refused N field K`, K from 1"
-  pub refusal_prints : (new : List ℕ) (f : FeedCall) → FeedOn x (rest ++ new) f → (k : ℕ) → f.answer.outcome ≡ outcome.Refused k
-      → (c : RefuseCall) → RefuseOn (laid_by f) k c → (q : List ℕ) → refused_to c ≡ printed (sheet_of ((w ++ new) ++ q))
+  pub refusal_prints : (new : List ℕ) (f : FeedCall) → FeedOn x (rest ++ new) f → (k : Refusal) → f.answer.outcome ≡ Err k
+      → (c : RefuseCall) → RefuseOn (laid_by f) (number k) c → (q : List ℕ) → refused_to c ≡ printed (sheet_of ((w ++ new) ++ q))
 
 -- "Before all else it refuses 1 .. Then it refuses 2", and changes nothing: of any desk, whether a record's bytes brought it or not
 pub record BeforeAll (x : Laid) : Type 0 where
   pub feed_before_all : (i : List ℕ) (c : FeedCall) → FeedOn x i c
-      → record { laid = laid_by c; used = c.answer.used; outcome = outcome_said c.answer.outcome } ≡ stops x (refuses (desk_ground x))
+      → record { laid = laid_by c; used = c.answer.used; outcome = answer_said c.answer.outcome } ≡ stops x (refuses (desk_ground x))
   pub close_before_all : (rest : List ℕ) (c : CloseCall) → CloseOn x rest c → closed_to c ≡ refusal_text (desk_ground x) (next_field x.desk.fields)
 
 -- ---- together

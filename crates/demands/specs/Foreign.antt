@@ -1,6 +1,6 @@
 -- Of demand 2: "Blocks of another vehicle change nothing but the passed-over count (and the field number of a later refusal)."
 -- Assumes nothing.
-use Rattle.std.specs.Prelude.{List, ◌++◌, ◌≡◌, ℕ, suc, ◌+◌}
+use Rattle.std.specs.Prelude.{List, ◌++◌, ◌≡◌, ℕ, suc, ◌+◌, Ok}
 use Rattle.rules.specs.Record.{Told, more_passed, told, refused_at, sheet_of}
 use Rattle.rules.specs.Figures.{figures_told}
 use Rattle.rules.specs.Text.{refusal_text, printed}
@@ -23,4 +23,4 @@ pub record ForeignChangesNothing (p f q : List ℕ) : Type 0 where
 
 -- of a single call of `read`: "only the passed-over count rises"
 abbrev pub ReadPassesOver : Type 0
-ReadPassesOver = (c : ReadCall) (n : ℕ) → c.answer.step ≡ step.Passed n → (c.answer.reading ≡ one_passed c.args.0) × (left c ≡ c.args)
+ReadPassesOver = (c : ReadCall) (n : ℕ) → c.answer.step ≡ Ok (step.Passed n) → (c.answer.reading ≡ one_passed c.args.0) × (left c ≡ c.args)

@@ -1,6 +1,6 @@
 -- Demand 2, of the programs: what each prints is what the rules give for the bytes that came, to the bytes that are written.
 -- Assumes nothing.
-use Rattle.std.specs.Prelude.{false, List, [], ◌++◌, ◌≡◌, ℕ, ◌+◌, ◌*◌, ◌≤◌, min, ℤ, pos, length, take}
+use Rattle.std.specs.Prelude.{Ok, List, [], ◌++◌, ◌≡◌, ℕ, ◌+◌, ◌*◌, ◌≤◌, min, ℤ, pos, length, take}
 use Rattle.rules.specs.Words.{sum}
 use Rattle.rules.specs.Closing.{weighing, weight}
 use Rattle.rules.specs.Record.{refused_at, sheet_of}
@@ -24,13 +24,13 @@ use Rattle.demands.specs.Range.{PrintsNear}
 pub record ProgramPrints (lent : Lent) : Type 0 where
   pub take_record_prints : {most : ℕ} {out room after : List ℕ} {l : List ℤ} {m : List ℕ} {r : Intake}
       (c : Recorded (laid_of empty_desk lent.room₀ lent.l₀ lent.m₀) most out r room l m after)
-      → r.failed ≡ false → most_sheet ≤ length out → take r.printed after ≡ printed (sheet_of c.bytes)
+      → {n : ℕ} → r.printed ≡ Ok n → most_sheet ≤ length out → take n after ≡ printed (sheet_of c.bytes)
   pub take_record_near : {most : ℕ} {out room after : List ℕ} {l : List ℤ} {m : List ℕ} {r : Intake}
       (c : Recorded (laid_of empty_desk lent.room₀ lent.l₀ lent.m₀) most out r room l m after)
-      → r.failed ≡ false → most_sheet ≤ length out → PrintsNear c.bytes (take r.printed after)
+      → {n : ℕ} → r.printed ≡ Ok n → most_sheet ≤ length out → PrintsNear c.bytes (take n after)
   pub short_buffer_prints : {most : ℕ} {out room after : List ℕ} {l : List ℤ} {m : List ℕ} {r : Intake}
       → Unread (laid_of empty_desk lent.room₀ lent.l₀ lent.m₀) most out r room l m after → most_sheet ≤ length out
-      → take r.printed after ≡ printed (refused_at 1 1)
+      → (n : ℕ) × (r.printed ≡ Ok n) × (take n after ≡ printed (refused_at 1 1))
 
 -- from C, of a record that is lent whole with the bytes out: what the rules give for it stands at the front of out, where it fits
 pub record FromC : Type 0 where
@@ -48,16 +48,16 @@ pub record FromC : Type 0 where
 pub record DeskPrints (lent : Lent) : Type 0 where
   pub trace_record_prints : {most : ℕ} {out : List ℕ} {r : Intake} {buffer room : List ℕ} {l : List ℤ} {m after : List ℕ}
       (c : Traced (laid_of empty_desk lent.room₀ lent.l₀ lent.m₀) most out r buffer room l m after)
-      → r.failed ≡ false → most_trace ≤ length out → take r.printed after ≡ traced c.walked.shows.stood.bytes
+      → {n : ℕ} → r.printed ≡ Ok n → most_trace ≤ length out → take n after ≡ traced c.walked.shows.stood.bytes
   pub list_record_prints : {most : ℕ} {r : Listed} {buffer room : List ℕ} {l : List ℤ} {m after : List ℕ}
       (c : ListRecorded (laid_of empty_desk lent.room₀ lent.l₀ lent.m₀) most r buffer room l m after)
-      → r.failed ≡ false → r.lost ≡ false → c.out ++ take r.printed after ≡ fields_text c.shows.stood.bytes
+      → {n : ℕ} → r.printed ≡ Ok n → c.out ++ take n after ≡ fields_text c.shows.stood.bytes
   pub list_record_counts : {most : ℕ} {r : Listed} {buffer room : List ℕ} {l : List ℤ} {m after : List ℕ}
       (c : ListRecorded (laid_of empty_desk lent.room₀ lent.l₀ lent.m₀) most r buffer room l m after)
       → r.sent ≡ min (length c.out) most_count
   pub short_list_prints : {most : ℕ} {out room after : List ℕ} {l : List ℤ} {m : List ℕ} {r : Listed}
       → Unlisted (laid_of empty_desk lent.room₀ lent.l₀ lent.m₀) most out r room l m after → most_line ≤ length out
-      → take r.printed after ≡ last_line (refused_at 1 1) 0 []
+      → (n : ℕ) × (r.printed ≡ Ok n) × (take n after ≡ last_line (refused_at 1 1) 0 [])
 
 -- "each finished cycle's weight as a fraction": the rates with these weights make the number of which W is the quotient, and the weights make its divisor
 pub record WeightsAreWs : Type 0 where

@@ -1,10 +1,9 @@
 -- Document 02, L11, from a record's bytes to the bytes printed: the weighted consumption and the range that a sheet shows lie near the range from unrounded
 -- cycle consumptions. What near is, stands in laws/specs/Near.antt.
 -- Assumes nothing.
-use Rattle.std.specs.Prelude.{cond, List, [], ◌∷◌, ◌++◌, ◌≡◌, ℕ, zero, suc, eqb}
+use Rattle.std.specs.Prelude.{cond, List, [], ◌∷◌, ◌++◌, ◌≡◌, ℕ, zero, suc, eqb, Ok as Closed}
 use Rattle.rules.specs.Words.{spell}
 use Rattle.rules.specs.declared.Closing.{Closing}
-use Rattle.rules.specs.declared.ClosingAnswer.TheVariants.{Closed}
 use Rattle.rules.specs.Record.{Told, told, sheet_of}
 use Rattle.rules.specs.Figures.{plan_told, figures_told}
 use Rattle.rules.specs.Text.{digits, spaced}

@@ -1,6 +1,6 @@
 -- Whole runs, and records, by calls that keep the contracts: what each call is lent and leaves.
 -- Assumes nothing.
-use Rattle.std.specs.Prelude.{List, [], ◌∷◌, ◌++◌, ◌≡◌, ℕ, ◌≤◌, ℤ, length, take, drop}
+use Rattle.std.specs.Prelude.{List, [], ◌∷◌, ◌++◌, ◌≡◌, ℕ, ◌≤◌, ℤ, length, take, drop, Ok, Err}
 use Rattle.rules.specs.declared.Amounts.{Amounts}
 use Rattle.rules.specs.declared.Method.{Method}
 use Rattle.rules.specs.declared.Moment.{Moment}
@@ -12,11 +12,10 @@ use Rattle.rules.specs.Shown.{ledger_numbers, map_words}
 use Rattle.rules.specs.Values.{moments_in}
 use Rattle.state.specs.declared.Run.{Run}
 use Rattle.state.specs.State.{Memory}
-use Rattle.judge.specs.declared.Answer.TheVariants.{Taken, Refused}
+use Rattle.rules.specs.declared.Refusal.{Refusal}
 use Rattle.reading.specs.declared.Reading.{Reading}
 use Rattle.sheet.specs.Overlaid.{most_sheet}
 use Rattle.desk.specs.declared.Desk.{Desk}
-use Rattle.desk.specs.declared.Outcome.TheVariants.{More}
 use Rattle.desk.specs.Feeding.{Laid, Lent, laid_of, empty_desk}
 use Rattle.demands.specs.Calls.{StartCall, SampleCall, BlockCall, ShownCall, TotalsCall, ClosingCall}
 use Rattle.demands.specs.Calls.{FiguresCall, ReadCall, AllCall, FeedCall, CloseCall, RefuseCall, VerdictCall, start_leaves, sample_leaves}
@@ -89,19 +88,19 @@ pub record Beyond (a c : Memory) : Type 0 where
 
 -- a run, its ledger and its map, after a start and calls that took the samples of the list, one by one or in blocks, or refused
 pub data Driven (p : Plan) (l₀ : List ℤ) (m₀ : List ℕ) : List Moment → Run → List ℤ → List ℕ → Type 0 where
-  begins : (c : StartCall) → StartOn p.cycle p.tolerances p.method l₀ m₀ c → {r : Run} → c.answer ≡ Taken r
+  begins : (c : StartCall) → StartOn p.cycle p.tolerances p.method l₀ m₀ c → {r : Run} → c.answer ≡ Ok r
       → Driven p l₀ m₀ [] r (start_leaves c).ledger (start_leaves c).map
   takes : {xs : List Moment} {r : Run} {l : List ℤ} {m : List ℕ} → Driven p l₀ m₀ xs r l m
-      → (c : SampleCall) → SampleOn r p.cycle l m c → {r' : Run} → c.answer ≡ Taken r'
+      → (c : SampleCall) → SampleOn r p.cycle l m c → {r' : Run} → c.answer ≡ Ok r'
       → Driven p l₀ m₀ (xs ++ moment_of (sample_in c) ∷ []) r' (sample_leaves c).ledger (sample_leaves c).map
   takes_block : {xs : List Moment} {r : Run} {l : List ℤ} {m : List ℕ} → Driven p l₀ m₀ xs r l m
-      → (c : BlockCall) → BlockOn r p.cycle l m c → {r' : Run} → c.answer ≡ Taken r'
+      → (c : BlockCall) → BlockOn r p.cycle l m c → {r' : Run} → c.answer ≡ Ok r'
       → Driven p l₀ m₀ (xs ++ moments_in (bytes_in c)) r' (block_leaves c).ledger (block_leaves c).map
   refuses : {xs : List Moment} {r : Run} {l : List ℤ} {m : List ℕ} → Driven p l₀ m₀ xs r l m
-      → (c : SampleCall) → SampleOn r p.cycle l m c → (k : ℕ) → c.answer ≡ Refused k
+      → (c : SampleCall) → SampleOn r p.cycle l m c → (k : Refusal) → c.answer ≡ Err k
       → Driven p l₀ m₀ xs r (sample_leaves c).ledger (sample_leaves c).map
   refuses_block : {xs : List Moment} {r : Run} {l : List ℤ} {m : List ℕ} → Driven p l₀ m₀ xs r l m
-      → (c : BlockCall) → BlockOn r p.cycle l m c → (k : ℕ) → c.answer ≡ Refused k
+      → (c : BlockCall) → BlockOn r p.cycle l m c → (k : Refusal) → c.answer ≡ Err k
       → Driven p l₀ m₀ xs r (block_leaves c).ledger (block_leaves c).map
 
 -- there is such a run
@@ -135,7 +134,7 @@ laid_by c = laid_of c.answer.desk c.lasts.1.1.0 c.lasts.1.1.1.0 c.lasts.1.1.1.1.
 -- the bytes w have arrived, in calls that each had what was left over before and new bytes behind it; the desk has taken all but the rest
 pub data FedIn (lent : Lent) : List ℕ → Laid → List ℕ → Type 0 where
   empty : FedIn lent [] (laid_of empty_desk lent.room₀ lent.l₀ lent.m₀) []
-  more : {w rest : List ℕ} {x : Laid} → FedIn lent w x rest → (new : List ℕ) (c : FeedCall) → FeedOn x (rest ++ new) c → c.answer.outcome ≡ More
+  more : {w rest : List ℕ} {x : Laid} → FedIn lent w x rest → (new : List ℕ) (c : FeedCall) → FeedOn x (rest ++ new) c → c.answer.outcome ≡ Ok tt
       → FedIn lent (w ++ new) (laid_by c) (drop c.answer.used (rest ++ new))
 
 -- the input ends at the desk x with the rest left over

@@ -9,31 +9,18 @@ use lib.Dec.{leb}
 use lib.ListN.{length}
 use Rattle.numbers.proofs.Tests.{pass, stop, not_refused, settled_taken, settled_refused, settled_answer}
 use Rattle.laws.specs.Answers.{Said, gives, refuses}
-use Rattle.laws.proofs.Answers.{known_by}
+use Rattle.laws.proofs.Answers.{same_answer}
 use Rattle.records.specs.Stage.{run_on}
 use Rattle.opening.specs.Answers.{open_ground}
 use Rattle.reading.specs.Answers.{read_ground}
 use Rattle.desk.specs.declared.Fed.{Fed}
-use Rattle.desk.specs.declared.Outcome.{Outcome}
-use Rattle.desk.specs.declared.Outcome.TheVariants.{More, Refused}
-use Rattle.desk.specs.Feeding.{outcome_said, FedSaid, fed_said, Laid, lent_cycle, stage_on, stops, fed_by, feed_of, most_fields, started_ground, desk_ground, Steady}
+use Rattle.desk.specs.Feeding.{FedSaid, fed_said, Laid, lent_cycle, stage_on, stops, fed_by, feed_of, most_fields, started_ground, desk_ground, Steady}
 
 -- ---- answers that say the same are the same
 
-same_outcome : (x y : Outcome) → outcome_said x ≡ outcome_said y → x ≡ y
-same_outcome = known_by outcome_said back known
-  where
-    back : Said (Unit {0}) → Outcome
-    back (gives _) = More
-    back (refuses n) = Refused n
-
-    known : (x : Outcome) → back (outcome_said x) ≡ x
-    known More = refl
-    known (Refused n) = refl
-
 pub same_fed : (x y : Fed) → fed_said x ≡ fed_said y → x ≡ y
 same_fed x y e =
-    let outcome_is = same_outcome x.outcome y.outcome (ap (λ (z : FedSaid). z.outcome) e) in
+    let outcome_is = same_answer x.outcome y.outcome (ap (λ (z : FedSaid). z.outcome) e) in
     λ i. record { outcome = outcome_is i; used = (e i).used; desk = (e i).desk }
 
 -- ---- before all else

@@ -12,6 +12,8 @@ use lib.Seq.{drop-drop}
 use Rattle.numbers.proofs.Lists.{part_rest}
 use Rattle.opening.specs.declared.Opening.{Opening}
 use Rattle.opening.specs.declared.OpenAnswer.{OpenAnswer}
+use Rattle.std.specs.Prelude.{Result}
+use Rattle.rules.specs.declared.Refusal.{Refusal}
 use Rattle.opening.specs.declared.OpenStep.{OpenStep}
 use Rattle.opening.specs.Answers.{open_step_said, open_left, front_opened}
 use Rattle.desk.specs.Feeding.{Desk, wanted, Laid, FedSaid, fed_on, Consumed, stops, behind, opens_as, opens_to, open_one, open_rest, open_all}
@@ -20,8 +22,8 @@ use Rattle.desk.proofs.Opens.{Onward, View, stays, goes, view_of}
 -- ---- one field
 
 -- by what its answer is known to be
-pub opens_by : (d : Desk) (o : Opening) {s s' : OpenStep} {r : FedSaid} → s ≡ s' → r ≡ opens_as d (open_step_said s') o → r ≡ opens_as d (open_step_said s) o
-opens_by d o e h = h ∙ ap (λ (z : OpenStep). opens_as d (open_step_said z) o) (sym e)
+pub opens_by : (d : Desk) (o : Opening) {s s' : Result OpenStep Refusal} {r : FedSaid} → s ≡ s' → r ≡ opens_as d (open_step_said s') o → r ≡ opens_as d (open_step_said s) o
+opens_by d o e h = h ∙ ap (λ (z : Result OpenStep Refusal). opens_as d (open_step_said z) o) (sym e)
 
 pub one_left : (x : Laid) (i : List ℕ) (a : OpenAnswer) {room : List ℕ} {l : List ℤ} {m : List ℕ} {r : FedSaid}
     → open_left a room l m ≡ front_opened x.desk.opening x.room x.memory.ledger x.memory.map i → r ≡ opens_as x.desk (open_step_said a.step) a.opening

@@ -7,7 +7,7 @@ use Rattle.rules.specs.Cycle.{most_bytes}
 use Rattle.rules.specs.Shown.{ledger_numbers, map_words}
 use Rattle.rules.specs.Table.{behind_tolerances, behind_recharge, tags}
 use Rattle.rules.specs.Machine.{Ran, upto}
-use Rattle.laws.specs.Answers.{Said, gives, refuses, end_said}
+use Rattle.laws.specs.Answers.{Said, gives, refuses, answer_said, end_said}
 use Rattle.state.specs.declared.Run.{Run}
 use Rattle.state.specs.State.{Memory, lent}
 use Rattle.rules.specs.declared.Method.TheVariants.{Regular as by_cycles}
@@ -17,8 +17,6 @@ use Rattle.opening.specs.declared.Opening.{Opening}
 use Rattle.opening.specs.Answers.{Opened, opens, starts, unfinished, unopened, no_tolerances, stage_of, opening_of, run_of, OpenLeft, open_ground, front_opened}
 use Rattle.reading.specs.Answers.{FieldRead, started_reading, stage_at, reading_of, read_ground}
 pub use Rattle.desk.specs.declared.Desk.{Desk}
-use Rattle.desk.specs.declared.Outcome.{Outcome}
-use Rattle.desk.specs.declared.Outcome.TheVariants.{More, Refused}
 use Rattle.desk.specs.declared.Fed.{Fed}
 
 -- ---- what the answer says
@@ -27,11 +25,6 @@ use Rattle.desk.specs.declared.Fed.{Fed}
 abbrev pub wanted : Said (Unit {0})
 wanted = gives tt
 
--- what the cases say
-abbrev pub outcome_said : Outcome → Said (Unit {0})
-outcome_said More = wanted
-outcome_said (Refused n) = refuses n
-
 -- with how many bytes were taken, and the desk that is left
 pub record FedSaid : Type 0 where
   pub outcome : Said (Unit {0})
@@ -39,7 +32,7 @@ pub record FedSaid : Type 0 where
   pub desk : Desk
 
 abbrev pub fed_said : Fed → FedSaid
-fed_said f = record { outcome = outcome_said f.outcome; used = f.used; desk = f.desk }
+fed_said f = record { outcome = answer_said f.outcome; used = f.used; desk = f.desk }
 
 -- ---- a desk and its memory
 

@@ -1,15 +1,17 @@
 // The fields until the start, one after another, at most four.
 ghost use Rattle.std.specs.Prelude.{◌≡◌, ◌+◌, ◌≤◌};
+ghost use Rattle.laws.specs.Answers.{answer_said};
 ghost use Rattle.opening.specs.Answers.{open_step_said};
-ghost use Rattle.desk.specs.Feeding.{outcome_said, fed_said, laid_of, fed_left, opens_as, open_one, open_all, most_fields};
+ghost use Rattle.desk.specs.Feeding.{fed_said, laid_of, fed_left, opens_as, open_one, open_all, most_fields};
 
-use crate::{Desk, Fed, Outcome};
+use crate::{Desk, Fed};
 use opening::{OpenAnswer, OpenStep};
 use reader::{open, reading_of};
+use rules::Refusal;
 
 // Nothing was taken.
-pub fn stopped(desk: Desk, outcome: Outcome) -> Fed
-    ensures { fed_said result ≡ record { outcome = outcome_said outcome; used = 0; desk = desk } }
+pub fn stopped(desk: Desk, outcome: Result<(), Refusal>) -> Fed
+    ensures { fed_said result ≡ record { outcome = answer_said outcome; used = 0; desk = desk } }
 {
     Fed {
         outcome,
@@ -23,22 +25,20 @@ fn opened(desk: Desk, answer: OpenAnswer) -> Fed
     requires { desk.fields ≤ most_fields + 4 }
     ensures { fed_said result ≡ opens_as desk (open_step_said answer.step) answer.opening }
 {
-    let step = answer.step;
     let opening = answer.opening;
-    let reading = desk.reading;
-    match step {
-        OpenStep::Taken(n) => Fed {
-            outcome: Outcome::More,
+    match answer.step {
+        Ok(OpenStep::Taken(n)) => Fed {
+            outcome: Ok(()),
             used: n,
             desk: Desk {
                 started: false,
                 opening,
-                reading,
                 fields: desk.fields + 1,
+                ..desk
             },
         },
-        OpenStep::Started(n, run) => Fed {
-            outcome: Outcome::More,
+        Ok(OpenStep::Started(n, run)) => Fed {
+            outcome: Ok(()),
             used: n,
             desk: Desk {
                 started: true,
@@ -47,8 +47,8 @@ fn opened(desk: Desk, answer: OpenAnswer) -> Fed
                 fields: desk.fields + 1,
             },
         },
-        OpenStep::Incomplete => stopped(desk, Outcome::More),
-        OpenStep::Refused(number) => stopped(desk, Outcome::Refused(number)),
+        Ok(OpenStep::Incomplete) => stopped(desk, Ok(())),
+        Err(refusal) => stopped(desk, Err(refusal)),
     }
 }
 
@@ -58,8 +58,7 @@ fn open_one(desk: Desk, input: &[u8], room: &mut [u8], ledger: &mut [i64], map: 
     ensures { fed_left result room.new ledger.new map.new
         ≡ open_one (laid_of desk room.old ledger.old map.old) input.now }
 {
-    let opening = desk.opening;
-    let answer = open(opening, input, &mut *room, &mut *ledger, &mut *map);
+    let answer = open(desk.opening, input, room, ledger, map);
     opened(desk, answer)
 }
 
@@ -77,31 +76,28 @@ pub fn open_all(
 {
     let mut on = desk;
     let mut used = 0;
-    let mut left: u32 = 4;
-    while left != 0 {
+    for _turn in 0..4u32 {
         if on.started {
             return Fed {
-                outcome: Outcome::More,
+                outcome: Ok(()),
                 used,
                 desk: on,
             };
         }
-        let x = open_one(on, &input[used..], &mut *room, &mut *ledger, &mut *map);
+        let x = open_one(on, &input[used..], room, ledger, map);
         on = x.desk;
-        let outcome = x.outcome;
         let n = x.used;
         used += n;
-        left -= 1;
         if n == 0 {
             return Fed {
-                outcome,
+                outcome: x.outcome,
                 used,
                 desk: on,
             };
         }
     }
     Fed {
-        outcome: Outcome::More,
+        outcome: Ok(()),
         used,
         desk: on,
     }

@@ -4,9 +4,10 @@
 mod beginning;
 
 ghost use Rattle.std.specs.Prelude.{◌≡◌, ◌+◌, ◌≤◌, true};
+ghost use Rattle.laws.specs.Answers.{answer_said, refused_by};
 ghost use Rattle.records.specs.Stage.{run_on};
 ghost use Rattle.reading.specs.Answers.{step_said};
-ghost use Rattle.desk.specs.Feeding.{outcome_said, empty_desk, laid_of, fed_left, stage_on, fed_by, outcome_by, feed_of};
+ghost use Rattle.desk.specs.Feeding.{empty_desk, laid_of, fed_left, stage_on, fed_by, outcome_by, feed_of};
 ghost use Rattle.desk.specs.Feeding.{most_fields, started_ground, desk_ground, Steady};
 
 use beginning::{open_all, stopped};
@@ -14,29 +15,23 @@ use opening::{Opening, open_refusal};
 use reader::{blank, read_fields, reading_of};
 use reading::{Reading, Step, read_refusal};
 use rules::limits::{MOST_OFFERED, MOST_PASSED};
-use rules::{End, Method, Moment, Tolerances};
+use rules::{End, Method, Moment, Refusal, Tolerances};
 use state::{Ends, Progress, Run, Stretch, Stretched, Track};
 
 // A record as far as it was read: until the start the opening, after it the reading; and how many fields were accepted.
 #[derive(Clone, Copy)]
 pub struct Desk {
+    // Stays: both are in use after the start, as the opening knows how long the cycle in the room is; `empty_desk` and `desk_after` say it so.
     pub started: bool,
     pub opening: Opening,
     pub reading: Reading,
     pub fields: u64,
 }
 
-// What became of the bytes: all whole fields are taken and more bytes are wanted, or the number of a refusal.
-#[derive(Clone, Copy)]
-pub enum Outcome {
-    More,
-    Refused(u32),
-}
-
-// How many bytes were taken, and the desk with them.
+// What became of the bytes: all whole fields are taken and more bytes are wanted, or a field is refused; how many bytes were taken, and the desk with them.
 #[derive(Clone, Copy)]
 pub struct Fed {
-    pub outcome: Outcome,
+    pub outcome: Result<(), Refusal>,
     pub used: usize,
     pub desk: Desk,
 }
@@ -95,15 +90,11 @@ pub fn empty() -> Desk
 }
 
 // What the answer after the last accepted field says of the bytes.
-fn outcome_of(step: Step) -> Outcome
-    ensures { outcome_said result ≡ outcome_by (step_said step) }
+fn outcome_of(step: Result<Step, Refusal>) -> Result<(), Refusal>
+    ensures { answer_said result ≡ outcome_by (step_said step) }
 {
-    match step {
-        Step::Taken(_) => Outcome::More,
-        Step::Passed(_) => Outcome::More,
-        Step::Incomplete => Outcome::More,
-        Step::Refused(number) => Outcome::Refused(number),
-    }
+    step?;
+    Ok(())
 }
 
 // All whole fields after the start, with the cycle in the room.
@@ -114,25 +105,20 @@ fn read_on(desk: Desk, input: &[u8], room: &[u8], ledger: &mut [i64], map: &mut 
     ensures { fed_left result room.now ledger.new map.new
         ≡ (let x = laid_of desk room.now ledger.old map.old in fed_by x (run_on (stage_on x) input.now)) }
 {
-    let opening = desk.opening;
-    let before = desk.reading;
     let x = read_fields(
-        before,
+        desk.reading,
         input,
-        &room[..opening.cycle],
-        &mut *ledger,
-        &mut *map,
+        &room[..desk.opening.cycle],
+        ledger,
+        map,
     );
-    let reading = x.reading;
-    let last = x.last;
     Fed {
-        outcome: outcome_of(last),
+        outcome: outcome_of(x.last),
         used: x.used,
         desk: Desk {
-            started: desk.started,
-            opening,
-            reading,
+            reading: x.reading,
             fields: desk.fields + x.fields as u64,
+            ..desk
         },
     }
 }
@@ -149,39 +135,34 @@ pub fn feed_on(
     ensures { fed_left result room.new ledger.new map.new
         ≡ feed_of (laid_of desk room.old ledger.old map.old) input.now }
 {
-    let x = open_all(desk, input, &mut *room, &mut *ledger, &mut *map);
+    let x = open_all(desk, input, room, ledger, map);
     let on = x.desk;
     if !on.started {
         return x;
     }
     let used = x.used;
-    let y = read_on(on, &input[used..], &room[..], &mut *ledger, &mut *map);
-    let outcome = y.outcome;
-    let desk = y.desk;
+    let y = read_on(on, &input[used..], room, ledger, map);
     Fed {
-        outcome,
         used: used + y.used,
-        desk,
+        ..y
     }
 }
 
-// 1 or 2, or 0 where the desk may go on.
-pub fn desk_refusal(desk: Desk, room: &[u8], ledger: &[i64], map: &[u64]) -> u32
-    ensures { result ≡ desk_ground (laid_of desk room.now ledger.now map.now) }
+// 1 or 2, unless the desk may go on.
+pub fn desk_refusal(desk: Desk, room: &[u8], ledger: &[i64], map: &[u64]) -> Result<(), Refusal>
+    ensures { refused_by result ≡ desk_ground (laid_of desk room.now ledger.now map.now) }
 {
     if MOST_FIELDS < desk.fields {
-        return 1;
+        return Err(Refusal::Ground);
     }
-    let opening = desk.opening;
     if !desk.started {
-        return open_refusal(opening, room);
+        return open_refusal(desk.opening, room);
     }
-    let size = opening.cycle;
+    let size = desk.opening.cycle;
     if room.len() < size {
-        return 1;
+        return Err(Refusal::Ground);
     }
-    let reading = desk.reading;
-    read_refusal(reading, &room[..size], ledger, map)
+    read_refusal(desk.reading, &room[..size], ledger, map)
 }
 
 // All whole fields of the input, on any desk: desk, memory and cycle are tested once.
@@ -189,9 +170,8 @@ pub fn feed(desk: Desk, input: &[u8], room: &mut [u8], ledger: &mut [i64], map: 
     ensures { fed_left result room.new ledger.new map.new
         ≡ feed_of (laid_of desk room.old ledger.old map.old) input.now }
 {
-    let a = desk_refusal(desk, &room[..], &ledger[..], &map[..]);
-    if a != 0 {
-        return stopped(desk, Outcome::Refused(a));
+    if let Err(refusal) = desk_refusal(desk, room, ledger, map) {
+        return stopped(desk, Err(refusal));
     }
-    feed_on(desk, input, &mut *room, &mut *ledger, &mut *map)
+    feed_on(desk, input, room, ledger, map)
 }

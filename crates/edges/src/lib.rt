@@ -1,14 +1,12 @@
-// The edges of a program: the descriptors it reads and writes, what the system's answers mean, a part read, a text written.
+// The edges of a program: what the system's answers mean, a part read, a text written.
 #![tactic(auto)]
 
-ghost use Rattle.std.specs.Prelude.{true, ◌≡◌, ◌≤◌, length};
-ghost use Rattle.std.specs.Io.{WritesAtMost};
+ghost use Rattle.std.specs.Prelude.{false, IfErr, OnOk, ◌≡◌, ◌≤◌, length};
 ghost use Rattle.edges.specs.Answers.{meant, is_again, Within};
-ghost use Rattle.edges.specs.Answers.{input as the_input, output as the_output, messages as the_messages};
 
-use std::io;
-use std::io::{Read, Write};
+use std::io::{Error, ErrorKind, Read, Write};
 use std::os::fd::AsRawFd;
+use std::{fmt, io};
 
 // The numbers of the descriptors.
 const STDIN_FILENO: i32 = 0;
@@ -17,199 +15,153 @@ const STDOUT_FILENO: i32 = 1;
 
 const STDERR_FILENO: i32 = 2;
 
-// The error number of a call that a signal interrupted.
-const EINTR: i32 = 4;
-
-// What one answer of the system means: so many bytes were moved, the end of the input, an interruption before the first byte, or a fault.
-#[derive(Clone, Copy)]
-pub enum Got {
-    Bytes(usize),
-    End,
-    Again,
-    Failed,
+// Why a program ends before its work is done: the input could not be read, or the system took no more of the output.
+#[derive(Clone, Copy, Debug, PartialEq, Eq)]
+pub enum Fault {
+    Input,
+    Output,
 }
 
-// How often in a row a call that was interrupted is made again. A proved loop has to end: this number no program uses up.
-const TRIES: u64 = 18_446_744_073_709_551_615;
-
-// Standard input.
-fn input() -> i32
-    ensures { result ≡ the_input }
-{
-    STDIN_FILENO
-}
-
-// Standard output.
-fn output() -> i32
-    ensures { result ≡ the_output }
-{
-    STDOUT_FILENO
-}
-
-// Standard error.
-fn messages() -> i32
-    ensures { result ≡ the_messages }
-{
-    STDERR_FILENO
-}
-
-// What an answer of the system's read or write means, with the error number that it left.
-fn meaning(answer: isize, error: i32) -> Got
-    ensures { result ≡ meant answer error }
-{
-    if answer > 0 {
-        return Got::Bytes(answer as usize);
-    }
-    if answer == 0 {
-        return Got::End;
-    }
-    if error == EINTR {
-        return Got::Again;
-    }
-    Got::Failed
-}
-
-// Whether the call is to be made again.
-fn is_again(got: Got) -> bool
-    ensures { result ≡ is_again got }
-{
-    match got {
-        Got::Bytes(_) => false,
-        Got::End => false,
-        Got::Again => true,
-        Got::Failed => false,
+impl fmt::Display for Fault {
+    fn fmt<W: fmt::Write>(&self, f: &mut fmt::Formatter<W>) -> fmt::Result {
+        match self {
+            Fault::Input => write!(f, "the input could not be read"),
+            Fault::Output => write!(f, "the output was lost"),
+        }
     }
 }
 
-// The error number that a call left; 0 where it left none.
-fn number_of(error: io::Error) -> i32 {
-    error.raw_os_error().unwrap_or(0)
+// Whether a call that failed so is to be made again: a signal interrupted it before the first byte.
+fn is_again(error: Error) -> bool
+    ensures { result ≡ is_again error }
+{
+    error.kind() == ErrorKind::Interrupted
+}
+
+// What one answer of the system means: so many bytes were moved, in reading none at the end of the input, or a fault; None where the call is to be made again.
+fn meaning(answer: io::Result<usize>) -> Option<io::Result<usize>>
+    ensures { result ≡ meant answer }
+{
+    match answer {
+        Ok(n) => Some(Ok(n)),
+        Err(error) if is_again(error) => None,
+        Err(error) => Some(Err(error)),
+    }
+}
+
+// A proved loop has to end, and counts to a number that no program uses up: what is answered behind it.
+fn unanswered() -> Error
+    ensures { is_again result ≡ false }
+{
+    Error::from(ErrorKind::TimedOut)
 }
 
 // One call that reads.
-fn read_once(rt: HostRuntime, part: &mut [u8]) -> Got
+fn read_once(rt: HostRuntime, part: &mut [u8]) -> io::Result<usize>
     ensures { Within (length part.old) result }
 {
     let mut from = rt.stdin();
-    prove!(from.as_raw_fd() == input());
-    match from.read(&mut *part) {
-        Ok(answer) => meaning(answer as isize, 0),
-        Err(error) => meaning(-1, number_of(error)),
-    }
+    prove!(from.as_raw_fd() == STDIN_FILENO);
+    from.read(part)
 }
 
-// One call that writes, as std hands its answer on.
-fn write_to(rt: HostRuntime, fd: i32, text: &[u8]) -> io::Result<usize>
-    ensures { WritesAtMost result text.now }
+// One call that writes to standard output.
+fn write_once(rt: HostRuntime, text: &[u8]) -> io::Result<usize>
+    ensures { Within (length text.now) result }
 {
-    if fd == output() {
-        let mut to = rt.stdout();
-        prove!(to.as_raw_fd() == fd);
-        return to.write(text);
-    }
-    let mut to = rt.stderr();
-    prove!(to.as_raw_fd() == messages());
+    let mut to = rt.stdout();
+    prove!(to.as_raw_fd() == STDOUT_FILENO);
     to.write(text)
 }
 
-// One call that writes: to standard output, or else to standard error.
-fn write_once(rt: HostRuntime, fd: i32, text: &[u8]) -> Got
-    ensures { Within (length text.now) result }
-{
-    match write_to(rt, fd, text) {
-        Ok(moved) => meaning(moved as isize, 0),
-        Err(error) => meaning(-1, number_of(error)),
-    }
-}
-
 // Reads from standard input to the front of the part, which has place for a byte, so that no bytes are the end of the input.
-pub fn fill(rt: HostRuntime, part: &mut [u8]) -> Got
+pub fn fill(rt: HostRuntime, part: &mut [u8]) -> io::Result<usize>
     requires { 1 ≤ length part.old }
-    ensures { Within (length part.old) result }
+    ensures within { Within (length part.old) result }
+    ensures answered { IfErr result (λ e. is_again e ≡ false) }
 {
-    let mut tries = TRIES;
-    while tries > 0 {
-        let got = read_once(rt, &mut *part);
-        if !is_again(got) {
+    for _ in 0..u64::MAX {
+        if let Some(got) = meaning(read_once(rt, part)) {
             return got;
         }
-        tries -= 1;
     }
-    Got::Failed
+    Err(unanswered())
 }
 
 // Reads from standard input until the part is full; false where the input ends before, or reading fails.
 pub fn fill_whole(rt: HostRuntime, part: &mut [u8]) -> bool {
-    let mut from = 0;
-    while from < part.len() {
-        let got = fill(rt, &mut part[from..]);
-        let Got::Bytes(n) = got else {
-            return false;
-        };
-        from += n;
-    }
-    true
+    let mut input = rt.stdin();
+    prove!(input.as_raw_fd() == STDIN_FILENO);
+    input.read_exact(part).is_ok()
 }
 
-// Writes from the front of the text.
-fn put_some(rt: HostRuntime, fd: i32, text: &[u8]) -> Got
+// Writes from the front of the text to standard output.
+fn put_some(rt: HostRuntime, text: &[u8]) -> io::Result<usize>
     ensures { Within (length text.now) result }
 {
-    let mut tries = TRIES;
-    while tries > 0 {
-        let got = write_once(rt, fd, text);
-        if !is_again(got) {
+    for _ in 0..u64::MAX {
+        if let Some(got) = meaning(write_once(rt, text)) {
             return got;
         }
-        tries -= 1;
     }
-    Got::Failed
+    Err(unanswered())
 }
 
-// Writes the text: how many of its bytes the system took, all of them or those before it took no more.
-fn put(rt: HostRuntime, fd: i32, text: &[u8]) -> usize
+// Writes the text to standard output: how many of its bytes the system took, all of them or those before it took no more.
+fn put(rt: HostRuntime, text: &[u8]) -> usize
     ensures { result ≤ length text.now }
 {
-    let mut from = 0;
-    while from < text.len() {
-        let got = put_some(rt, fd, &text[from..]);
-        let Got::Bytes(n) = got else {
-            return from;
-        };
-        from += n;
+    let mut rest = text;
+    // Stays: no index is counted; how far a turn leads the system says.
+    while !rest.is_empty() {
+        match put_some(rt, rest) {
+            Ok(n) if n > 0 => rest = &rest[n..],
+            _ => return text.len() - rest.len(),
+        }
     }
-    from
+    text.len()
 }
 
 // The text goes to standard output: whether all of it did.
 pub fn say(rt: HostRuntime, text: &[u8]) -> bool {
-    put(rt, output(), text) == text.len()
+    put(rt, text) == text.len()
 }
 
 // The first bytes of the lines, so many of them, go to standard output: how many did; none where there are not so many.
 pub fn send(rt: HostRuntime, lines: &[u8], n: usize) -> usize
     ensures { (result ≤ n) × (result ≤ length lines.now) }
 {
-    if lines.len() < n {
-        return 0;
-    }
-    put(rt, output(), &lines[..n])
+    lines.get(..n).map_or(0, |text| put(rt, text))
 }
 
-// The same: whether all did.
-pub fn print(rt: HostRuntime, lines: &[u8], n: usize) -> bool
-    ensures { result ≡ true → n ≤ length lines.now }
+// The same: a fault where not all did.
+pub fn print(rt: HostRuntime, lines: &[u8], n: usize) -> Result<(), Fault>
+    ensures { OnOk result (n ≤ length lines.now) }
 {
-    send(rt, lines, n) == n
+    if send(rt, lines, n) == n {
+        Ok(())
+    } else {
+        Err(Fault::Output)
+    }
 }
 
 // The text goes to standard error: whether all of it did.
 pub fn tell(rt: HostRuntime, text: &[u8]) -> bool {
-    put(rt, messages(), text) == text.len()
+    let mut err = rt.stderr();
+    prove!(err.as_raw_fd() == STDERR_FILENO);
+    err.write_all(text).is_ok()
+}
+
+// What went wrong goes to standard error, behind the program's name: whether all of it did.
+pub fn tell_fault(rt: HostRuntime, program: &str, fault: Fault) -> bool {
+    let mut log = rt.stderr();
+    prove!(log.as_raw_fd() == STDERR_FILENO);
+    writeln!(log, "{program}: {fault}").is_ok()
 }
 
 // A number goes to standard output, by its digits: whether all of them did.
 pub fn say_number(rt: HostRuntime, n: u64) -> bool {
-    let mut digits = itoa::Buffer::new();
-    say(rt, digits.format(n).as_bytes())
+    let mut out = rt.stdout();
+    prove!(out.as_raw_fd() == STDOUT_FILENO);
+    write!(out, "{n}").is_ok()
 }

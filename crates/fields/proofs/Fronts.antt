@@ -11,11 +11,13 @@ use lib.ListN.{length, get_or, take, drop}
 use Rattle.rules.specs.Words.{all_below}
 use Rattle.rules.specs.Table.{begins, by_row, length_allowed, tags, run1}
 use Rattle.rules.specs.Front.{Field, Front as Stands, incomplete, impossible, field, front_of}
-use Rattle.laws.proofs.Answers.{known_by}
+use Rattle.laws.proofs.Answers.{known_by, refusal_of, of_number}
 use Rattle.laws.proofs.Fronts.{front_whole, front_allowed}
 use Rattle.laws.specs.Answers.{Said, gives, refuses}
+use Rattle.std.specs.Prelude.{Option, Some, None, Result, Ok, Err}
+use Rattle.rules.specs.Numbered.{number}
+use Rattle.rules.specs.declared.Refusal.{Refusal}
 use Rattle.fields.specs.declared.Front.{Front}
-use Rattle.fields.specs.declared.Front.TheVariants as front
 use Rattle.fields.specs.Fields.{AtFront, whole, unfinished, front_said, stands_said, has_row}
 
 -- ---- the value
@@ -41,8 +43,11 @@ pub record Whole (i : List ℕ) (tag n : ℕ) : Type 0 where
   pub long : 3 + n ≤ length i
 
 -- r is the answer to the input
-pub said_whole : (i : List ℕ) (tag n : ℕ) {r : Front} → front_said r ≡ stands_said (front_of tags i) → r ≡ front.Field tag n → Whole i tag n
-said_whole i tag n {r} p q = go (front_of tags i) refl (sym p ∙ ap front_said q)
+abbrev Answers : Result (Option Front) Refusal → List ℕ → Type 0
+Answers r i = front_said r ≡ stands_said (front_of tags i)
+
+stands_whole : (i : List ℕ) (tag n : ℕ) → stands_said (front_of tags i) ≡ gives (whole tag n) → Whole i tag n
+stands_whole i tag n h = go (front_of tags i) refl h
   where
     go : (x : Stands) → front_of tags i ≡ x → stands_said x ≡ gives (whole tag n) → Whole i tag n
     go incomplete e h = absurd (false≢true cc)
@@ -61,8 +66,11 @@ said_whole i tag n {r} p q = go (front_of tags i) refl (sym p ∙ ap front_said 
           long = omega (arith, w.length_is, w.long);
         }
 
+pub said_whole : (i : List ℕ) (f : Front) {r : Result (Option Front) Refusal} → Answers r i → r ≡ Ok (Some f) → Whole i f.tag f.size
+said_whole i f p q = stands_whole i f.tag f.size (sym p ∙ ap front_said q)
+
 -- by what else is said
-pub said_incomplete : (i : List ℕ) {r : Front} → front_said r ≡ stands_said (front_of tags i) → r ≡ front.Incomplete → front_of tags i ≡ incomplete
+pub said_incomplete : (i : List ℕ) {r : Result (Option Front) Refusal} → Answers r i → r ≡ Ok None → front_of tags i ≡ incomplete
 said_incomplete i p q = go (front_of tags i) (sym p ∙ ap front_said q)
   where
     go : (x : Stands) → stands_said x ≡ gives unfinished → x ≡ incomplete
@@ -70,27 +78,27 @@ said_incomplete i p q = go (front_of tags i) (sym p ∙ ap front_said q)
     go impossible h = absurd (false≢true cc)
     go (field f) h = absurd (false≢true cc)
 
-pub said_impossible : (i : List ℕ) {r : Front} → front_said r ≡ stands_said (front_of tags i) → r ≡ front.Impossible → front_of tags i ≡ impossible
-said_impossible i p q = go (front_of tags i) (sym p ∙ ap front_said q)
+pub said_impossible : (i : List ℕ) (e : Refusal) {r : Result (Option Front) Refusal} → Answers r i → r ≡ Err e → (front_of tags i ≡ impossible) × (number e ≡ 8)
+said_impossible i e p q = go (front_of tags i) (sym p ∙ ap front_said q)
   where
-    go : (x : Stands) → stands_said x ≡ refuses 8 → x ≡ impossible
+    go : (x : Stands) → stands_said x ≡ refuses (number e) → (x ≡ impossible) × (number e ≡ 8)
     go incomplete h = absurd (false≢true cc)
-    go impossible h = refl
+    go impossible h = (refl, cc h)
     go (field f) h = absurd (false≢true cc)
 
 -- answers that say the same are the same
-pub same_front : (x y : Front) → front_said x ≡ front_said y → x ≡ y
+pub same_front : (x y : Result (Option Front) Refusal) → front_said x ≡ front_said y → x ≡ y
 same_front = known_by front_said back known
   where
-    back : Said AtFront → Front
-    back (gives (whole tag n)) = front.Field tag n
-    back (gives unfinished) = front.Incomplete
-    back (refuses n) = front.Impossible
+    back : Said AtFront → Result (Option Front) Refusal
+    back (gives (whole tag n)) = Ok (Some (record { tag = tag; size = n }))
+    back (gives unfinished) = Ok None
+    back (refuses n) = Err (refusal_of n)
 
-    known : (x : Front) → back (front_said x) ≡ x
-    known (front.Field tag n) = refl
-    known front.Incomplete = refl
-    known front.Impossible = refl
+    known : (x : Result (Option Front) Refusal) → back (front_said x) ≡ x
+    known (Ok (Some f)) = refl
+    known (Ok None) = refl
+    known (Err e) = ap Err (of_number e)
 
 -- ---- the row of a field, by its tag
 

@@ -1,9 +1,7 @@
 -- The figures that the report prints, read off a reading and its ledger.
 -- Assumes nothing.
-use Rattle.std.specs.Prelude.{true, List, ◌≡◌, ℕ, ℤ, pos, ◌+ℤ◌, replicate}
-use Rattle.rules.specs.Words.{settled}
-use Rattle.rules.specs.declared.ClosingAnswer.TheVariants.{Refused}
-use Rattle.rules.specs.declared.End.TheVariants.{None as none}
+use Rattle.std.specs.Prelude.{true, List, ◌≡◌, ℕ, ℤ, pos, ◌+ℤ◌}
+use Rattle.laws.specs.Answers.{Said, gives, or_refused}
 use Rattle.rules.specs.declared.Figures.{Figures}
 use Rattle.rules.specs.Closing.{least_finished}
 use Rattle.values.specs.Limits.{are_amounts}
@@ -13,7 +11,6 @@ use Rattle.state.specs.Refusals.{beside_by, cycles_by}
 use Rattle.consumption.specs.Figures.{closing_on}
 use Rattle.reading.specs.declared.Reading.{Reading}
 use Rattle.reading.specs.Answers.{read_ground}
-use Rattle.figures.specs.declared.Found.{Found}
 
 -- what "In a started run 1 and 2 come before all others" leaves of them
 pub record Figurable (r : Reading) (l : List ℤ) : Type 0 where
@@ -34,21 +31,6 @@ figures_of r l = record {
   closing = closing_on l (beside_by r.run) (least_finished r.run.track.method) (cycles_by r.run) r.amounts;
 }
 
--- where a run is refused n: seventeen times the character 0, and no figure
-abbrev pub blank : ℕ → Figures
-blank n = record {
-  vehicle = replicate 17 48;
-  end = none;
-  counted = 0;
-  cycles = 0;
-  outside = pos 0;
-  passed = 0;
-  drawn = pos 0;
-  closing = Refused n;
-}
-
 -- "In a started run 1 and 2 come before all others": vehicle, place, passed-over count and amounts are numbers of the state
-abbrev pub found_of : Reading → List ℕ → List ℤ → List ℕ → Found
-found_of r b l m =
-    let refusal = read_ground r b l m in
-    record { refusal = refusal; figures = settled refusal (figures_of r l) (blank refusal) }
+abbrev pub found_of : Reading → List ℕ → List ℤ → List ℕ → Said Figures
+found_of r b l m = or_refused (read_ground r b l m) (gives (figures_of r l))

@@ -11,7 +11,9 @@ use denote.Enum.Declared.{tag_of}
 use lib.Dec.{leb}
 use lib.IntN.{ℤ}
 use lib.ListN.{length}
+use Rattle.std.specs.Prelude.{Ok, Err}
 use Rattle.rules.specs.Words.{unless}
+use Rattle.edges.specs.declared.Fault.TheVariants.{Input}
 use Rattle.sheet.specs.Overlaid.{overlaid, most_sheet}
 use Rattle.desk.specs.declared.Desk.{Desk}
 use Rattle.desk.specs.Feeding.{wanted, Laid, laid_of, empty_desk}
@@ -43,7 +45,8 @@ module _ (x₀ : Laid) (most : ℕ) (out : List ℕ) (t : Turn) (b room : List �
         outcome = turned_said t.turned;
         came = s.came;
         all = s.all;
-        printed = ap (λ (text : List ℕ). cond (is_failed t.turned) 0 (unless 0 (leb most_sheet (length out)) (length text))) same_text;
+        failed = is_failed t.turned;
+        printed = ap (λ (text : List ℕ). cond (is_failed t.turned) (Err Input) (Ok (unless 0 (leb most_sheet (length out)) (length text)))) same_text;
         lines = q ∙ ap (λ (text : List ℕ). cond (is_failed t.turned) out (unless out (leb most_sheet (length out)) (overlaid out 0 text))) same_text;
       })
 
@@ -52,18 +55,19 @@ module _ (n : ℕ) (t : Turn) (text out : List ℕ) where
   abbrev Answers : Intake → List ℕ → Type 0
   Answers r after = (r ≡ answered n t text out) × (after ≡ lines_after n t text out)
 
-  by_failed : {b : Bool} → is_failed t.turned ≡ b
-      → Answers (record { printed = cond b 0 (unless 0 (leb n (length out)) (length text)); left = t.left; failed = b }) (cond b out (unless out (leb n (length out)) (overlaid out 0 text)))
+  by_failed : {b : Bool} → is_failed t.turned ≡ b → Answers
+      (record { printed = cond b (Err Input) (Ok (unless 0 (leb n (length out)) (length text))); left = t.left })
+      (cond b out (unless out (leb n (length out)) (overlaid out 0 text)))
   by_failed e = (
-    (λ i. record { printed = cond (sym e i) 0 (unless 0 (leb n (length out)) (length text)); left = t.left; failed = sym e i }),
+    (λ i. record { printed = cond (sym e i) (Err Input) (Ok (unless 0 (leb n (length out)) (length text))); left = t.left }),
     λ i. cond (sym e i) out (unless out (leb n (length out)) (overlaid out 0 text)),
   )
 
-  pub not_printed : is_failed t.turned ≡ true → Answers (record { printed = 0; left = t.left; failed = true }) out
+  pub not_printed : is_failed t.turned ≡ true → Answers (record { printed = Err Input; left = t.left }) out
   not_printed e = by_failed e
 
-  pub printed_of : is_failed t.turned ≡ false → {r : ℕ} {after : List ℕ} → PrintsIn n text out r after → Answers (record { printed = r; left = t.left; failed = false }) after
-  printed_of e p = let y = by_failed e in ((λ i. record { printed = p.0 i; left = t.left; failed = false }) ∙ y.0, p.1 ∙ y.1)
+  pub printed_of : is_failed t.turned ≡ false → {r : ℕ} {after : List ℕ} → PrintsIn n text out r after → Answers (record { printed = Ok r; left = t.left }) after
+  printed_of e p = let y = by_failed e in ((λ i. record { printed = Ok (p.0 i); left = t.left }) ∙ y.0, p.1 ∙ y.1)
 
 -- no field was refused
 pub not_refused : (z : Turned) → OneOf (0 ∷ 1 ∷ 2 ∷ []) (tag_of turned z) → turned_said z ≡ wanted
@@ -75,7 +79,7 @@ not_refused (Refused k) h = absurd (⊎_elim (λ e. omega arith) (⊎_elim (λ e
 -- nothing was read
 pub not_read : (most : ℕ) (out : List ℕ) (desk : Desk) (room : List ℕ) (l : List ℤ) (m : List ℕ) → desk ≡ empty_desk → {n : ℕ} {after : List ℕ}
     → Prints (refuse_text (laid_of desk room l m) 1) out n after
-    → Unread (laid_of empty_desk room l m) most out (record { printed = n; left = most; failed = false }) room l m after
+    → Unread (laid_of empty_desk room l m) most out (record { printed = Ok n; left = most }) room l m after
 not_read most out desk room l m e p =
     let q = as_text out (ap (λ (d : Desk). refuse_text (laid_of d room l m) 1) e) p in
-    record { memory = refl; left = refl; failed = refl; printed = q.0; lines = q.1 }
+    record { memory = refl; left = refl; printed = ap (λ (k : ℕ). Ok k) q.0; lines = q.1 }

@@ -1,14 +1,11 @@
 -- The bytes of a record as they come: what a turn leaves stands as the bytes that came say.
 -- Assumes nothing.
 use mathlib.Core.Bool.{Bool, true, false, cond, false≢true}
-use mathlib.Core.List.{List, [], ◌∷◌, ◌++◌, append_assoc, append-nil}
+use mathlib.Core.List.{List, [], ◌++◌, append_assoc, append-nil}
 use mathlib.Core.Path.{◌≡◌, refl, sym, ap, subst, subst⁻¹, ◌∙◌}
-use mathlib.Core.Logic.{⊎_elim}
-use Prim.Native.Nat.{ℕ, ◌+◌, ◌-◌, ◌≤◌, ◌<◌, zero-le}
+use Prim.Native.Nat.{ℕ, zero, suc, ◌+◌, ◌-◌, ◌≤◌, ◌<◌, zero-le}
 use native.Mathlib.Nat.{zero-add}
 use native.Mathlib.Omega.{arith}
-use types.Run.{OneOf}
-use denote.Enum.Declared.{tag_of}
 use lib.Dec.{eqb}
 use lib.IntN.{ℤ}
 use lib.ListN.{length, take, drop, length-append, length-drop}
@@ -19,16 +16,15 @@ use Rattle.laws.proofs.Cuts.{used_most}
 use Rattle.laws.proofs.Prefixes.{no_bytes, accepted_alone}
 use Rattle.records.specs.Stage.{Stage, take_on, run_on}
 use Rattle.laws.specs.Answers.{Said, gives, refuses}
-use Rattle.edges.specs.declared.Got.{Got}
-use Rattle.edges.specs.declared.Got.TheVariants as got
+use Rattle.std.specs.declared.io.Error.{Error}
+use Rattle.std.specs.Prelude.{Result, Ok, Err}
 use Rattle.edges.specs.Answers.{Within}
-use Rattle.edges.specs.contracts.Got.{the_type as got-type}
 use Rattle.desk.specs.declared.Desk.{Desk}
 use Rattle.desk.specs.Feeding.{wanted, Laid, Consumed, laid_of, empty_desk, stage_on, fed_by, stops, desk_ground, feed_of, longest}
 use Rattle.intake.specs.declared.Turn.{Turn}
 use Rattle.intake.specs.declared.Turned.{Turned}
 use Rattle.intake.specs.declared.Turned.TheVariants.{On, Ended, Failed, Refused}
-use Rattle.intake.specs.Turns.{turned_by, is_on, Goes, Came, none, part, turned_said, Round, round_of, round_after, stopped_at, round_by, going_on, Stood, WholeFields, Led}
+use Rattle.intake.specs.Turns.{turned_by, is_on, Goes, Came, none, part, turned_said, Round, round_of, round_after, round_fed, round_by, going_on, Stood, WholeFields, Led}
 use Rattle.desk.proofs.LeftOver.{feed_used, feed_short}
 
 -- what the desk takes is whole fields; no bytes are
@@ -67,23 +63,19 @@ to_the_front u k b h g =
     ∙ ap (λ (j : ℕ). take j (paste b 0 (drop u b) (k - u))) (zero-add (k - u))
 
 -- what is within m bytes is within more
-pub within_more : (m n : ℕ) (g : Got) → m ≤ n → Within m g → Within n g
-within_more m n (got.Bytes k) h w = (w.0, omega (arith, w.1))
-within_more m n got.End h w = tt
-within_more m n got.Again h w = tt
-within_more m n got.Failed h w = tt
+pub within_more : (m n : ℕ) (g : Result ℕ Error) → m ≤ n → Within m g → Within n g
+within_more m n (Ok k) h w = omega arith
+within_more m n (Err e) h w = tt
 
--- a reading that gave no bytes stops the turn
-pub stops_by : (g : Got) → OneOf (1 ∷ 2 ∷ 3 ∷ []) (tag_of got-type g) → (x : Laid) (held left : ℕ) (b : List ℕ) → stopped_at g x held left b ≡ round_by g x held left b
-stops_by (got.Bytes k) h x held left b = absurd (⊎_elim (λ e. omega arith) (⊎_elim (λ e. omega arith) (λ e. omega arith)) h)
-stops_by got.End h x held left b = refl
-stops_by got.Again h x held left b = refl
-stops_by got.Failed h x held left b = refl
+-- a reading that gave bytes
+pub some_came : (n : ℕ) → 1 ≤ n → (x : Laid) (held left : ℕ) (b : List ℕ) → round_fed x (held + n) (left - n) b ≡ round_by (Ok n) x held left b
+some_came zero h x held left b = absurd (omega arith)
+some_came (suc n) h x held left b = refl
 
 -- what is taken and held after a turn stands in the buffer, and a turn that goes on leaves fewer bytes to read
-pub goes_by : (g : Got) (x : Laid) (held left : ℕ) (b : List ℕ) → held < longest → held ≤ length b → Within (length b - held) g → Within left g
+pub goes_by : (g : Result ℕ Error) (x : Laid) (held left : ℕ) (b : List ℕ) → held < longest → held ≤ length b → Within (length b - held) g → Within left g
     → Goes held left (length b) (round_by g x held left b).turn
-goes_by (got.Bytes n) x held left b short h space rest =
+goes_by (Ok (suc k)) x held left b short h space rest =
     let i = take (held + n) b in
     let size = length-take-le (held + n) b (omega (arith, space)) in
     record {
@@ -93,12 +85,14 @@ goes_by (got.Bytes n) x held left b short h space rest =
       falls = λ _. omega (arith, rest);
     }
   where
+    n : ℕ
+    n = suc k
+
     held_by : (o : Said (Unit {0})) → (o ≡ wanted → held + n < (feed_of x (take (held + n) b)).used + longest) → is_on (turned_by o) ≡ true → held + n - (feed_of x (take (held + n) b)).used < longest
     held_by (gives _) e f = let g = e refl in omega arith
     held_by (refuses k) e f = absurd (false≢true f)
-goes_by got.End x held left b short h space rest = record { within = omega arith; none_lost = omega arith; short = λ e. absurd (false≢true e); falls = λ e. absurd (false≢true e) }
-goes_by got.Again x held left b short h space rest = record { within = omega arith; none_lost = omega arith; short = λ e. absurd (false≢true e); falls = λ e. absurd (false≢true e) }
-goes_by got.Failed x held left b short h space rest = record { within = omega arith; none_lost = omega arith; short = λ e. absurd (false≢true e); falls = λ e. absurd (false≢true e) }
+goes_by (Ok zero) x held left b short h space rest = record { within = omega arith; none_lost = omega arith; short = λ e. absurd (false≢true e); falls = λ e. absurd (false≢true e) }
+goes_by (Err e) x held left b short h space rest = record { within = omega arith; none_lost = omega arith; short = λ e. absurd (false≢true e); falls = λ e. absurd (false≢true e) }
 
 -- before the first turn nothing came
 pub nothing_yet : (most : ℕ) (desk : Desk) (b room : List ℕ) (l : List ℤ) (m : List ℕ) → desk ≡ empty_desk
@@ -234,21 +228,20 @@ module _ (x₀ : Laid) (most : ℕ) (desk : Desk) (held left : ℕ) (b₀ room :
     }
 
   -- so whatever a reading gave, the record stands where it leads
-  pub stood_by : (g : Got) → held ≤ length b → Within (length b - held) g → Within left g → Led s (round_by g (laid_of desk room l m) held left b)
-  stood_by (got.Bytes n) h space rest = digested n (omega (arith, space)) rest.1
-  stood_by got.End h space rest = nothing_came Ended refl
-  stood_by got.Again h space rest = nothing_came Failed refl
-  stood_by got.Failed h space rest = nothing_came Failed refl
+  pub stood_by : (g : Result ℕ Error) → held ≤ length b → Within (length b - held) g → Within left g → Led s (round_by g (laid_of desk room l m) held left b)
+  stood_by (Ok zero) h space rest = nothing_came Ended refl
+  stood_by (Ok (suc k)) h space rest = digested (suc k) (omega (arith, space)) rest
+  stood_by (Err e) h space rest = nothing_came Failed refl
 
 -- no more is to be read of the record
-pub all_came : (x₀ : Laid) (most : ℕ) (desk : Desk) (used held left : ℕ) (b room : List ℕ) (l : List ℤ) (m : List ℕ) → left ≡ 0
-    → Stood x₀ most (round_of (going_on desk used held left) b room l m) → Stood x₀ most (round_of (record { turned = Ended; desk = desk; used = used; held = held; left = 0 }) b room l m)
-all_came x₀ most desk used held left b room l m e s = record {
+pub all_came : (x₀ : Laid) (most : ℕ) (desk : Desk) (used held left : ℕ) (b room : List ℕ) (l : List ℤ) (m : List ℕ)
+    → Stood x₀ most (round_of (going_on desk used held left) b room l m) → Stood x₀ most (round_of (record { turned = Ended; desk = desk; used = used; held = held; left = left }) b room l m)
+all_came x₀ most desk used held left b room l m s = record {
   bytes = s.bytes;
   done = s.done;
   rest = s.rest;
   came = s.came;
   whole = s.whole;
   held = s.held;
-  all = ap (λ (n : ℕ). length s.bytes + n) (sym e) ∙ s.all;
+  all = s.all;
 }

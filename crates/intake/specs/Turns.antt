@@ -1,7 +1,7 @@
 -- What a turn of reading leaves: counts within the buffer and within the record, and what of the bytes that came stands on the desk and in the buffer.
 -- Which bytes a file gives, nothing here can say.
 -- Assumes nothing.
-use Rattle.std.specs.Prelude.{Bool, true, false, cond, ◌≡◌, List, [], ◌++◌, ℕ, ◌+◌, ◌-◌, ◌≤◌, ◌<◌, leb, ℤ, length, take, drop}
+use Rattle.std.specs.Prelude.{Bool, true, false, cond, ◌≡◌, List, [], ◌++◌, Result, Ok, Err, ℕ, zero, suc, ◌+◌, ◌-◌, ◌≤◌, ◌<◌, leb, ℤ, length, take, drop}
 use Rattle.rules.specs.Words.{unless}
 use Rattle.rules.specs.Table.{tags}
 use Rattle.rules.specs.Machine.{run}
@@ -10,8 +10,8 @@ use Rattle.state.specs.State.{Memory, lent}
 use Rattle.records.specs.Stage.{Stage, take_on}
 use Rattle.sheet.specs.Overlaid.{overlaid, most_sheet}
 use Rattle.prints.specs.Printed.{refuse_text, close_text}
-use Rattle.edges.specs.declared.Got.{Got}
-use Rattle.edges.specs.declared.Got.TheVariants as got
+use Rattle.std.specs.declared.io.Error.{Error}
+use Rattle.edges.specs.declared.Fault.TheVariants.{Input}
 use Rattle.desk.specs.declared.Desk.{Desk}
 use Rattle.desk.specs.Feeding.{wanted, Laid, Consumed, laid_of, feed_of, longest}
 use Rattle.intake.specs.declared.Intake.{Intake}
@@ -34,11 +34,9 @@ is_failed Failed = true
 is_failed (Refused k) = false
 
 -- a reading that gave no bytes: only the end of the input ends a record, all else is a fault
-abbrev pub stopped_by : Got → Turned
-stopped_by (got.Bytes k) = Failed
-stopped_by got.End = Ended
-stopped_by got.Again = Failed
-stopped_by got.Failed = Failed
+abbrev pub stopped_by : Result ℕ Error → Turned
+stopped_by (Ok k) = Ended
+stopped_by (Err e) = Failed
 
 -- with so many bytes held and n left to read before, in a buffer of so many: what is taken and held stands in the buffer, and no byte is lost; and where
 -- the turn goes on, what is held is not as long as the longest field, and fewer bytes are left to read
@@ -96,16 +94,15 @@ abbrev pub round_fed : Laid → ℕ → ℕ → List ℕ → Round
 round_fed x upto left buffer = round_after (feed_of x (take upto buffer)) upto left buffer
 
 -- nothing came
-abbrev pub stopped_at : Got → Laid → ℕ → ℕ → List ℕ → Round
+abbrev pub stopped_at : Result ℕ Error → Laid → ℕ → ℕ → List ℕ → Round
 stopped_at g x held left buffer =
     record { turn = record { turned = stopped_by g; desk = x.desk; used = 0; held = held; left = left }; buffer = buffer; room = x.room; memory = x.memory }
 
 -- what a reading makes of a turn, with so many bytes held and left: the bytes that came go to the desk with those held; without bytes the turn stops
-abbrev pub round_by : Got → Laid → ℕ → ℕ → List ℕ → Round
-round_by (got.Bytes n) x held left buffer = round_fed x (held + n) (left - n) buffer
-round_by got.End x held left buffer = stopped_at got.End x held left buffer
-round_by got.Again x held left buffer = stopped_at got.Again x held left buffer
-round_by got.Failed x held left buffer = stopped_at got.Failed x held left buffer
+abbrev pub round_by : Result ℕ Error → Laid → ℕ → ℕ → List ℕ → Round
+round_by (Ok zero) x held left buffer = stopped_at (Ok zero) x held left buffer
+round_by (Ok (suc n)) x held left buffer = round_fed x (held + suc n) (left - suc n) buffer
+round_by (Err e) x held left buffer = stopped_at (Err e) x held left buffer
 
 -- before a turn
 abbrev pub going_on : Desk → ℕ → ℕ → ℕ → Turn
@@ -146,9 +143,8 @@ text_of (refuses k) x left = refuse_text x k
 -- reading failed
 abbrev pub answered : ℕ → Turn → List ℕ → List ℕ → Intake
 answered n t text out = record {
-  printed = cond (is_failed t.turned) 0 (unless 0 (leb n (length out)) (length text));
+  printed = cond (is_failed t.turned) (Err Input) (Ok (unless 0 (leb n (length out)) (length text)));
   left = t.left;
-  failed = is_failed t.turned;
 }
 
 abbrev pub lines_after : ℕ → Turn → List ℕ → List ℕ → List ℕ
@@ -173,14 +169,15 @@ pub record Recorded (x₀ : Laid) (most : ℕ) (out : List ℕ) (r : Intake) (ro
   pub came : Came x₀ bytes (laid_of desk room ledger map) rest outcome
   pub all : length bytes + r.left ≡ most
   -- where reading failed, nothing is printed
-  pub printed : r.printed ≡ cond r.failed 0 (unless 0 (leb most_sheet (length out)) (length (text_of outcome (laid_of desk room ledger map) (length rest))))
+  pub failed : Bool
+  pub printed : r.printed
+      ≡ cond failed (Err Input) (Ok (unless 0 (leb most_sheet (length out)) (length (text_of outcome (laid_of desk room ledger map) (length rest)))))
   pub lines : after
-      ≡ cond r.failed out (unless out (leb most_sheet (length out)) (overlaid out 0 (text_of outcome (laid_of desk room ledger map) (length rest))))
+      ≡ cond failed out (unless out (leb most_sheet (length out)) (overlaid out 0 (text_of outcome (laid_of desk room ledger map) (length rest))))
 
 -- nothing was read, since the buffer is too short for a field: memory stays, and the lines say `refused 1 field 1`
 pub record Unread (x₀ : Laid) (most : ℕ) (out : List ℕ) (r : Intake) (room : List ℕ) (ledger : List ℤ) (map after : List ℕ) : Type 0 where
   pub memory : laid_of x₀.desk room ledger map ≡ x₀
   pub left : r.left ≡ most
-  pub failed : r.failed ≡ false
-  pub printed : r.printed ≡ unless 0 (leb most_sheet (length out)) (length (refuse_text x₀ 1))
+  pub printed : r.printed ≡ Ok (unless 0 (leb most_sheet (length out)) (length (refuse_text x₀ 1)))
   pub lines : after ≡ unless out (leb most_sheet (length out)) (overlaid out 0 (refuse_text x₀ 1))

@@ -2,6 +2,7 @@
 #![tactic(auto)]
 
 mod parts;
+pub mod programs;
 pub mod turns;
 
 ghost use Rattle.std.specs.Prelude.{◌≡◌, ◌≤◌, ◌<◌, length};
@@ -10,7 +11,7 @@ ghost use Rattle.prints.specs.Printed.{Prints};
 ghost use Rattle.intake.specs.Turns.{turn_text, intake_of, lines_of, Recorded, Unread};
 
 use desk::{Desk, empty};
-use edges::{Got, fill};
+use edges::{Fault, fill};
 use parts::{at_most, read_through};
 use prints::{close, refuse};
 use rules::limits::MOST_BYTES;
@@ -20,11 +21,13 @@ use turns::has_failed;
 pub const LONGEST: usize = 3 + MOST_BYTES;
 
 // What became of a turn: bytes were taken, the input ended, reading failed, or a field was refused.
-#[derive(Clone, Copy)]
+// Stays: four things can become of a turn, and two of them are no fault, so that a Result of an Option would hide which is which.
+#[derive(Clone, Copy, Debug, PartialEq, Eq)]
 pub enum Turned {
     On,
     Ended,
     Failed,
+    // Stays: the number: `turned_by` (intake/specs/Turns.antt) makes it of what the desk says.
     Refused(u32),
 }
 
@@ -38,24 +41,21 @@ pub struct Turn {
     pub left: u64,
 }
 
-// How many bytes of the lines to print, how many of the record were not read, and whether reading failed.
-#[derive(Clone, Copy)]
+// How many bytes of the lines to print, none where reading failed, and how many of the record were not read.
+#[derive(Clone, Copy, Debug, PartialEq, Eq)]
 pub struct Intake {
-    pub printed: usize,
+    pub printed: Result<usize, Fault>,
     pub left: u64,
-    pub failed: bool,
 }
 
 // What is printed of a record that was read, to its end or to a refused field.
 fn print_record(t: Turn, room: &[u8], ledger: &[i64], map: &[u64], lines: &mut [u8]) -> usize
     ensures { Prints (turn_text t (laid_of t.desk room.now ledger.now map.now)) lines.old result lines.new }
 {
-    let desk = t.desk;
-    let turned = t.turned;
-    if let Turned::Refused(number) = turned {
-        return refuse(desk, number, &mut *lines);
+    match t.turned {
+        Turned::Refused(number) => refuse(t.desk, number, lines),
+        _ => close(t.desk, t.held, room, ledger, map, lines),
     }
-    close(desk, t.held, room, ledger, map, &mut *lines)
 }
 
 // What is answered of the last turn: where reading failed, nothing is printed.
@@ -64,18 +64,14 @@ fn answer_to(t: Turn, room: &[u8], ledger: &[i64], map: &[u64], lines: &mut [u8]
     ensures lines_after { lines.new
         ≡ lines_of t (laid_of t.desk room.now ledger.now map.now) lines.old }
 {
-    let turned = t.turned;
-    if has_failed(turned) {
-        return Intake {
-            printed: 0,
-            left: t.left,
-            failed: true,
-        };
-    }
+    let printed = if has_failed(t.turned) {
+        Err(Fault::Input)
+    } else {
+        Ok(print_record(t, room, ledger, map, lines))
+    };
     Intake {
-        printed: print_record(t, room, ledger, map, &mut *lines),
+        printed,
         left: t.left,
-        failed: false,
     }
 }
 
@@ -93,11 +89,12 @@ fn read_record(
     ensures { Recorded (laid_of empty_desk room.old ledger.old map.old) most lines.old
         result room.new ledger.new map.new lines.new }
 {
-    let t = read_through(rt, most, &mut *buffer, &mut *room, &mut *ledger, &mut *map);
-    answer_to(t, &room[..], &ledger[..], &map[..], &mut *lines)
+    let t = read_through(rt, most, buffer, room, ledger, map);
+    answer_to(t, room, ledger, map, lines)
 }
 
 // The same, of any buffer: one that is too short for a field is refused 1 before all else.
+// Stays: the five slices one by one: `desk::feed_on` takes them so, and `ProgramPrints` (demands/specs/Programs.antt) speaks of each by itself.
 pub fn take_record(
     rt: HostRuntime,
     most: u64,
@@ -117,34 +114,25 @@ pub fn take_record(
 {
     if buffer.len() < LONGEST {
         return Intake {
-            printed: refuse(empty(), 1, &mut *lines),
+            printed: Ok(refuse(empty(), 1, lines)),
             left: most,
-            failed: false,
         };
     }
-    read_record(
-        rt,
-        most,
-        &mut *buffer,
-        &mut *room,
-        &mut *ledger,
-        &mut *map,
-        &mut *lines,
-    )
+    read_record(rt, most, buffer, room, ledger, map, lines)
 }
 
 // The bytes of a record that are not looked at.
 pub fn skip(rt: HostRuntime, most: u64, buffer: &mut [u8]) {
-    if buffer.len() == 0 {
+    if buffer.is_empty() {
         return;
     }
     let mut left = most;
+    // Stays: no index is counted; how far a turn leads the system says.
     while left > 0 {
         let end = at_most(buffer.len(), left);
-        let got = fill(rt, &mut buffer[..end]);
-        let Got::Bytes(n) = got else {
-            return;
-        };
-        left -= n as u64;
+        match fill(rt, &mut buffer[..end]) {
+            Ok(n) if n > 0 => left -= n as u64,
+            _ => return,
+        }
     }
 }

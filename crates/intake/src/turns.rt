@@ -5,62 +5,39 @@ ghost use Rattle.intake.specs.Turns.{is_on, is_failed, round_of, Goes, going_on,
 
 use crate::parts::{read_behind, to_front};
 use crate::{Turn, Turned};
-use desk::Desk;
 
-// One turn: the bytes held behind those taken move to the front, and what is read comes behind them.
+// One turn behind another: the bytes held behind those taken move to the front, and what is read comes behind them.
 pub fn read_once(
     rt: HostRuntime,
-    desk: Desk,
-    used: usize,
-    held: usize,
-    left: u64,
+    turn: Turn,
     buffer: &mut [u8],
     room: &mut [u8],
     ledger: &mut [i64],
     map: &mut [u64],
 ) -> Turn
-    requires { (held < longest)
-        × (used + held ≤ length buffer.old)
+    requires { (turn.held < longest)
+        × (turn.used + turn.held ≤ length buffer.old)
         × (longest ≤ length buffer.old)
-        × (1 ≤ left)
-        × Steady (laid_of desk room.old ledger.old map.old) }
-    ensures goes { Goes held left (length buffer.old) result }
-    ensures leads { Leads (round_of (going_on desk used held left) buffer.old room.old ledger.old map.old)
+        × (1 ≤ turn.left)
+        × Steady (laid_of turn.desk room.old ledger.old map.old) }
+    ensures goes { Goes turn.held turn.left (length buffer.old) result }
+    ensures leads { Leads (round_of (going_on turn.desk turn.used turn.held turn.left) buffer.old room.old ledger.old map.old)
         (round_of result buffer.new room.new ledger.new map.new) }
 {
-    let kept = to_front(&mut *buffer, used, used + held);
-    read_behind(
-        rt,
-        desk,
-        kept,
-        left,
-        &mut *buffer,
-        &mut *room,
-        &mut *ledger,
-        &mut *map,
-    )
+    let kept = to_front(buffer, turn.used, turn.used + turn.held);
+    read_behind(rt, turn.desk, kept, turn.left, buffer, room, ledger, map)
 }
 
 // Whether another turn follows.
 pub fn goes_on(turned: Turned) -> bool
     ensures { result ≡ is_on turned }
 {
-    match turned {
-        Turned::On => true,
-        Turned::Ended => false,
-        Turned::Failed => false,
-        Turned::Refused(_) => false,
-    }
+    matches!(turned, Turned::On)
 }
 
 // Whether reading failed.
 pub fn has_failed(turned: Turned) -> bool
     ensures { result ≡ is_failed turned }
 {
-    match turned {
-        Turned::On => false,
-        Turned::Ended => false,
-        Turned::Failed => true,
-        Turned::Refused(_) => false,
-    }
+    matches!(turned, Turned::Failed)
 }

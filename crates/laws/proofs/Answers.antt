@@ -5,14 +5,16 @@ use mathlib.Core.Path.{◌≡◌, refl, sym, ap, ◌∙◌}
 use Prim.Native.Nat.{ℕ}
 use lib.Dec.{eqb}
 use borrow.Author.Tests.{eqb-true, eqb-false}
+use native.Mathlib.Omega.{arith}
 use Rattle.rules.specs.Words.{settled}
-use Rattle.rules.specs.declared.Figure.{Figure}
-use Rattle.rules.specs.declared.Figure.TheVariants as figure
+use Rattle.rules.specs.Closing.{Figure, ClosingAnswer}
 use Rattle.rules.specs.declared.Closing.{Closing}
-use Rattle.rules.specs.declared.ClosingAnswer.{ClosingAnswer}
-use Rattle.rules.specs.declared.ClosingAnswer.TheVariants.{Closed, Refused}
 use Rattle.rules.specs.Machine.{End, waiting, broken, stopped}
-use Rattle.laws.specs.Answers.{Said, gives, refuses, number_of, or_refused, Measure, is, absent, figure_said, Figured, figured_said, closing_said, end_said}
+use Rattle.std.specs.Prelude.{Some, None, Result, Ok, Err, [], ◌∷◌, get_or}
+use Rattle.rules.specs.Numbered.{number}
+use Rattle.rules.specs.declared.Refusal.{Refusal}
+use Rattle.rules.specs.declared.Refusal.TheVariants as why
+use Rattle.laws.specs.Answers.{Said, gives, refuses, number_of, or_refused, answer_said, refused_by, Measure, is, absent, figure_said, Figured, figured_said, closing_said, end_said}
 
 -- what is said, by the number of a refusal
 module _ {A : Type 0} (n : ℕ) (x : Said A) where
@@ -53,17 +55,17 @@ only_waiting x broken q = absurd (given_refused (sym q))
 only_waiting x (stopped n) q = absurd (given_refused (sym q))
 
 -- a figure and a closing by the number of their refusal say so
-pub figure_or : (n : ℕ) (f : Figure) → figure_said (settled n f (figure.Refused n)) ≡ or_refused n (figure_said f)
+pub figure_or : (n : ℕ) (f : Figure) → figure_said (settled n f (Err n)) ≡ or_refused n (figure_said f)
 figure_or n f = go (eqb n 0)
   where
-    go : (t : Bool) → figure_said (cond t f (figure.Refused n)) ≡ cond t (figure_said f) (refuses n)
+    go : (t : Bool) → figure_said (cond t f (Err n)) ≡ cond t (figure_said f) (refuses n)
     go true = refl
     go false = refl
 
-pub closing_or : (n : ℕ) (x : Closing) → closing_said (settled n (Closed x) (Refused n)) ≡ or_refused n (gives (figured_said x))
+pub closing_or : (n : ℕ) (x : Closing) → closing_said (settled n (Ok x) (Err n)) ≡ or_refused n (gives (figured_said x))
 closing_or n x = go (eqb n 0)
   where
-    go : (t : Bool) → closing_said (cond t (Closed x) (Refused n)) ≡ cond t (gives (figured_said x)) (refuses n)
+    go : (t : Bool) → closing_said (cond t (Ok x) (Err n)) ≡ cond t (gives (figured_said x)) (refuses n)
     go true = refl
     go false = refl
 
@@ -76,14 +78,14 @@ same_figure : (x y : Figure) → figure_said x ≡ figure_said y → x ≡ y
 same_figure = known_by figure_said back known
   where
     back : Said Measure → Figure
-    back (gives (is n)) = figure.Is n
-    back (gives absent) = figure.Absent
-    back (refuses n) = figure.Refused n
+    back (gives (is n)) = Ok (Some n)
+    back (gives absent) = Ok None
+    back (refuses n) = Err n
 
     known : (x : Figure) → back (figure_said x) ≡ x
-    known (figure.Is n) = refl
-    known figure.Absent = refl
-    known (figure.Refused n) = refl
+    known (Ok (Some n)) = refl
+    known (Ok None) = refl
+    known (Err n) = refl
 
 pub same_figured : (x y : Closing) → figured_said x ≡ figured_said y → x ≡ y
 same_figured x y e =
@@ -91,7 +93,70 @@ same_figured x y e =
     λ i. record { weighted = (e i).weighted; range = (e i).range; recharge = recharge i }
 
 pub same_closing : (x y : ClosingAnswer) → closing_said x ≡ closing_said y → x ≡ y
-same_closing (Closed x) (Closed y) e = ap Closed (same_figured x y (given_is e))
-same_closing (Closed x) (Refused n) e = absurd (given_refused e)
-same_closing (Refused n) (Closed y) e = absurd (given_refused (sym e))
-same_closing (Refused n) (Refused k) e = let same : n ≡ k = cc e in ap Refused same
+same_closing (Ok x) (Ok y) e = ap Ok (same_figured x y (given_is e))
+same_closing (Ok x) (Err n) e = absurd (given_refused e)
+same_closing (Err n) (Ok y) e = absurd (given_refused (sym e))
+same_closing (Err n) (Err k) e = let same : n ≡ k = cc e in ap Err same
+
+-- ---- refusals by their numbers
+
+-- none has the number 0, and no two have one
+pub numbered : (e : Refusal) → number e ≡ 0 → ⊥
+numbered why.Ground p = omega (arith, p)
+numbered why.Cycle p = omega (arith, p)
+numbered why.Tolerance p = omega (arith, p)
+numbered why.Vehicle p = omega (arith, p)
+numbered why.Sample p = omega (arith, p)
+numbered why.FirstNumber p = omega (arith, p)
+numbered why.Full p = omega (arith, p)
+numbered why.Field p = omega (arith, p)
+numbered why.Order p = omega (arith, p)
+numbered why.FewCycles p = omega (arith, p)
+numbered why.Energy p = omega (arith, p)
+numbered why.Rate p = omega (arith, p)
+numbered why.Range p = omega (arith, p)
+numbered why.Amount p = omega (arith, p)
+numbered why.Unfinished p = omega (arith, p)
+numbered why.Stretches p = omega (arith, p)
+
+pub refusal_of : ℕ → Refusal
+refusal_of n = get_or (why.Ground ∷ why.Ground ∷ why.Cycle ∷ why.Tolerance ∷ why.Vehicle ∷ why.Sample ∷ why.FirstNumber ∷ why.Full ∷ why.Field ∷ why.Order ∷ why.FewCycles ∷ why.Energy ∷ why.Rate ∷ why.Range ∷ why.Amount ∷ why.Unfinished ∷ why.Ground ∷ why.Ground ∷ why.Ground ∷ why.Stretches ∷ []) n why.Ground
+
+pub of_number : (e : Refusal) → refusal_of (number e) ≡ e
+unfolding refusal_of
+of_number why.Ground = refl
+of_number why.Cycle = refl
+of_number why.Tolerance = refl
+of_number why.Vehicle = refl
+of_number why.Sample = refl
+of_number why.FirstNumber = refl
+of_number why.Full = refl
+of_number why.Field = refl
+of_number why.Order = refl
+of_number why.FewCycles = refl
+of_number why.Energy = refl
+of_number why.Rate = refl
+of_number why.Range = refl
+of_number why.Amount = refl
+of_number why.Unfinished = refl
+of_number why.Stretches = refl
+
+pub same_refusal : (x y : Refusal) → number x ≡ number y → x ≡ y
+same_refusal = known_by number refusal_of of_number
+
+pub same_answer : {A : Type 0} (x y : Result A Refusal) → answer_said x ≡ answer_said y → x ≡ y
+same_answer (Ok x) (Ok y) e = ap Ok (given_is e)
+same_answer (Ok x) (Err n) e = absurd (given_refused e)
+same_answer (Err n) (Ok y) e = absurd (given_refused (sym e))
+same_answer (Err n) (Err k) e = let same : number n ≡ number k = cc e in ap Err (same_refusal n k same)
+
+-- what is answered, and what that is
+pub ok_is : {A E : Type 0} {r : Result A E} {x y : A} → r ≡ Ok x → x ≡ y → r ≡ Ok y
+ok_is p q = p ∙ ap Ok q
+
+-- tests that refuse the same are the same
+pub same_refused : (x y : Result (Unit {0}) Refusal) → refused_by x ≡ refused_by y → x ≡ y
+same_refused (Ok x) (Ok y) e = refl
+same_refused (Ok x) (Err k) e = absurd (numbered k (sym e))
+same_refused (Err n) (Ok y) e = absurd (numbered n e)
+same_refused (Err n) (Err k) e = ap Err (same_refusal n k e)

@@ -7,13 +7,12 @@ use lib.IntN.{ℤ}
 use lib.ListN.{length}
 use Rattle.rules.specs.Words.{up}
 use Rattle.rules.specs.declared.Amounts.{Amounts}
-use Rattle.rules.specs.declared.Charge.{Charge}
+use Rattle.rules.specs.Closing.{Charge, whole_energy, least_finished, closing_refusal, closing_figures, closing_by}
 use Rattle.rules.specs.declared.Closing.{Closing}
-use Rattle.rules.specs.declared.ClosingAnswer.TheVariants.{Closed}
+use Rattle.std.specs.Prelude.{Ok as Closed}
 use Rattle.rules.specs.declared.Moment.{Moment}
 use Rattle.rules.specs.Regular.{moment_in}
 use Rattle.rules.specs.Plan.{Plan, course_of}
-use Rattle.rules.specs.Closing.{whole_energy, least_finished, closing_refusal, closing_figures, closing_by}
 use Rattle.rules.specs.Figures.{energies, distances, cycles_in, closing_in}
 use Rattle.laws.specs.Answers.{figured_said, closing_said}
 use Rattle.laws.specs.Near.{NearRun}

@@ -9,9 +9,8 @@ use lib.Signed.{le_z, lt_z}
 use Rattle.rules.specs.Words.{sum, unless, settled, up}
 use Rattle.numbers.proofs.Range.{fold_same}
 use Rattle.numbers.proofs.Tests.{all_same}
-use Rattle.rules.specs.declared.Charge.{Charge}
-use Rattle.rules.specs.declared.ClosingAnswer.TheVariants.{Closed, Refused}
-use Rattle.rules.specs.Closing.{weighing, weight, is_rate, rate_of, range, weighted_figure, range_figure, closing_refusal, together, recharge_by, closing_by}
+use Rattle.rules.specs.Closing.{Charge, weighing, weight, is_rate, rate_of, range, weighted_figure, range_figure, closing_refusal, together, recharge_by, closing_by}
+use Rattle.std.specs.Prelude.{Ok as Closed, Err as Refused}
 use Rattle.rules.specs.Bench.{most_cycles}
 
 module _ (E : ℤ) (n : ℕ) (few : n ≤ most_cycles) (e d e' d' : ℕ → ℤ) (he : (c : ℕ) → c < most_cycles → e c ≡ e' c) (hd : (c : ℕ) → c < most_cycles → d c ≡ d' c) where

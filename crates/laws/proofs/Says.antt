@@ -11,7 +11,7 @@ use borrow.Author.Tests.{leb-true, eqb-true}
 use Rattle.rules.specs.Words.{unless}
 use Rattle.numbers.proofs.Tests.{both, passed as passes}
 use Rattle.numbers.proofs.Whole.{weaken, sized_add, sized_between, between_sized}
-use Rattle.rules.specs.declared.Charge.TheVariants.{Wh as wh}
+use Rattle.std.specs.Prelude.{Some as wh}
 use Rattle.rules.specs.Bench.{tolerable, are_stretches, most_offered, most_passed}
 use Rattle.rules.specs.Closing.{most_transfer_in, is_transfer_in, doubled, is_charge}
 use Rattle.laws.specs.Beside.{most_transfer, is_transfer}

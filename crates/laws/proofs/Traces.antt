@@ -9,12 +9,11 @@ use lib.Dec.{ltb, lit<}
 use Rattle.numbers.proofs.Range.{fold_same}
 use Rattle.rules.specs.Words.{up, spell}
 use Rattle.rules.specs.declared.Closing.{Closing}
-use Rattle.rules.specs.declared.ClosingAnswer.{ClosingAnswer}
-use Rattle.rules.specs.declared.ClosingAnswer.TheVariants.{Closed, Refused}
+use Rattle.rules.specs.Closing.{ClosingAnswer, weight}
+use Rattle.std.specs.Prelude.{Ok as Closed, Err as Refused}
 use Rattle.rules.specs.declared.Gathered.{Gathered}
 use Rattle.rules.specs.Bench.{most_cycles, most_phases}
 use Rattle.rules.specs.Course.{row_m, row_e}
-use Rattle.rules.specs.Closing.{weight}
 use Rattle.rules.specs.Text.{digits, spaced, ended, line, recharge_line}
 use Rattle.rules.specs.Trace.{Trace, offered_lines, phase_line, row_line, stretch_line, cycle_lines, part_lines, whole_in, sum_lines, weight_line, charge_line, figure_lines, closing_part, plan_lines, trace_text, weight_text, sum_text}
 

@@ -1,12 +1,11 @@
 -- 'Numbered answers': what an answer says, whatever enum of the code it is. Beside each enum a definition says it of its cases; the promises use it.
 -- Assumes nothing.
-use Rattle.std.specs.Prelude.{ℕ}
+use Rattle.std.specs.Prelude.{ℕ, Some, None, Result, Ok, Err}
 use Rattle.rules.specs.Words.{settled}
-use Rattle.rules.specs.declared.Figure.{Figure}
-use Rattle.rules.specs.declared.Figure.TheVariants as figure
+use Rattle.rules.specs.Numbered.{number}
+use Rattle.rules.specs.declared.Refusal.{Refusal}
+use Rattle.rules.specs.Closing.{Figure, ClosingAnswer}
 use Rattle.rules.specs.declared.Closing.{Closing}
-use Rattle.rules.specs.declared.ClosingAnswer.{ClosingAnswer}
-use Rattle.rules.specs.declared.ClosingAnswer.TheVariants.{Closed, Refused}
 use Rattle.rules.specs.Machine.{End, waiting, broken, stopped}
 
 -- what is given, or "A refusal returns its number and no figure"
@@ -23,17 +22,26 @@ number_of (refuses n) = n
 abbrev pub or_refused : {A : Type 0} → ℕ → Said A → Said A
 or_refused n x = settled n x (refuses n)
 
--- the recharge figure (`rules::Figure`), or "absent"
+-- what an answer of the code says, and the number of its refusal, 0 where it is none
+abbrev pub answer_said : {A : Type 0} → Result A Refusal → Said A
+answer_said (Ok x) = gives x
+answer_said (Err e) = refuses (number e)
+
+abbrev pub refused_by : {A : Type 0} → Result A Refusal → ℕ
+refused_by (Ok x) = 0
+refused_by (Err e) = number e
+
+-- the recharge figure (of `rules::Closing`), or "absent"
 pub data Measure : Type 0 where
   is : ℕ → Measure
   absent : Measure
 
 abbrev pub figure_said : Figure → Said Measure
-figure_said (figure.Is x) = gives (is x)
-figure_said figure.Absent = gives absent
-figure_said (figure.Refused n) = refuses n
+figure_said (Ok (Some x)) = gives (is x)
+figure_said (Ok None) = gives absent
+figure_said (Err n) = refuses n
 
--- the closing (`rules::ClosingAnswer`): weighted consumption and range with the recharge figure, or a refusal in place of all
+-- the closing (of `rules::Figures`): weighted consumption and range with the recharge figure, or a refusal in place of all
 pub record Figured : Type 0 where
   pub weighted : ℕ
   pub range : ℕ
@@ -43,8 +51,8 @@ abbrev pub figured_said : Closing → Figured
 figured_said x = record { weighted = x.weighted; range = x.range; recharge = figure_said x.recharge }
 
 abbrev pub closing_said : ClosingAnswer → Said Figured
-closing_said (Closed x) = gives (figured_said x)
-closing_said (Refused n) = refuses n
+closing_said (Ok x) = gives (figured_said x)
+closing_said (Err n) = refuses n
 
 -- where no field more is accepted: what is given where more bytes may go on; no field begins so, which is 8; or a whole field is refused
 abbrev pub end_said : {A : Type 0} → A → End → Said A

@@ -4,7 +4,6 @@ use mathlib.Core.Path.{◌≡◌, sym, ap, ◌∙◌}
 use mathlib.Core.Bool.{Bool, true, false, cond}
 use mathlib.Core.List.{List}
 use Prim.Native.Nat.{ℕ, ◌+◌, ◌-◌, ◌*◌, ◌%◌, ◌≤◌, ◌<◌}
-use native.Mathlib.Nat.{zero-add}
 use native.Mathlib.Omega.{arith}
 use borrow.Author.Tests.{leb-true, le-leb, lt-ltb, le-ltb}
 use lib.Dec.{leb, ltb, lit≤}
@@ -12,26 +11,18 @@ use lib.IntN.{ℤ, pos, neg_ℤ, ◌+ℤ◌}
 use lib.ListN.{length}
 use Rattle.rules.specs.Words.{sumℤ, between}
 use Rattle.numbers.specs.Whole.{Sized}
-use Rattle.numbers.proofs.Range.{fold_same, fold_split, sum_ℤ}
+use Rattle.numbers.proofs.Range.{fold_split, sum_ℤ}
 use Rattle.numbers.proofs.Sums.{sized_sum}
 use Rattle.numbers.proofs.Tests.{both, all_at, all_by_lem}
 use Rattle.numbers.proofs.Whole.{weaken, sized_between, sized_upto}
 use Rattle.rules.specs.Shown.{in_bounds, most_energy, most_distance, most_outside, ledger_numbers}
 use Rattle.rules.specs.Bench.{most_phases, most_cycles}
-use Rattle.ledger.specs.Row.{at, bounded, sum_by, energy_in, distance_in, energy_from, energy_all}
+use Rattle.ledger.specs.Row.{at, bounded, energy_in, distance_in, energy_from, energy_all}
 
--- by its place among the nine
-pub bounds_energy : (i : ℕ) (z : ℤ) → i % 9 < 4 → in_bounds i z ≡ between (neg_ℤ (pos most_energy)) (pos most_energy) z
-unfolding in_bounds
-bounds_energy i z h = rw (lt-ltb (i % 9) 4 h)
-
-pub bounds_distance : (i : ℕ) (z : ℤ) → 4 ≤ i % 9 → i % 9 < 8 → in_bounds i z ≡ between (pos 0) (pos most_distance) z
+-- by its place among the nine: a distance
+bounds_distance : (i : ℕ) (z : ℤ) → 4 ≤ i % 9 → i % 9 < 8 → in_bounds i z ≡ between (pos 0) (pos most_distance) z
 unfolding in_bounds
 bounds_distance i z h g = rw (le-ltb (i % 9) 4 h, lt-ltb (i % 9) 8 g)
-
-pub bounds_outside : (i : ℕ) (z : ℤ) → 8 ≤ i % 9 → in_bounds i z ≡ between (pos 0) (pos most_outside) z
-unfolding in_bounds
-bounds_outside i z h = rw (le-ltb (i % 9) 4 (omega arith), le-ltb (i % 9) 8 h)
 
 in_bounds_sized : (i : ℕ) (z : ℤ) → in_bounds i z ≡ true → Sized most_energy z
 unfolding in_bounds
@@ -80,14 +71,7 @@ module _ (l : List ℤ) (b : bounded l ≡ true) where
   pub energy_all_sized : Sized (most_cycles * (most_phases * most_energy)) (energy_all l)
   energy_all_sized = sized_sum (most_phases * most_energy) (energy_in l) most_cycles energy_sized
 
--- a sum by strides, where its places are these
-pub sum_by_is : (l : List ℤ) (a d n : ℕ) (place : ℕ → ℕ) → ((k : ℕ) → k < n → a + d * k ≡ place k) → sum_by l a d n ≡ sumℤ (λ k. at l (place k)) n
-sum_by_is l a d n place h = fold_same ◌+ℤ◌ (pos 0) _ _ n (λ k g. ap (at l) (h k g))
-
--- all cycles are those from the first on; and the first n with those from n on
-pub energy_from_first : (l : List ℤ) → energy_from l 0 ≡ energy_all l
-energy_from_first l = fold_same ◌+ℤ◌ (pos 0) _ _ most_cycles (λ k g. ap (energy_in l) (zero-add k))
-
+-- the first n cycles with those from n on
 pub energy_split : (l : List ℤ) (n : ℕ) → n ≤ most_cycles → sumℤ (energy_in l) n +ℤ energy_from l n ≡ energy_all l
 energy_split l n h =
     let all : n + (most_cycles - n) ≡ most_cycles = omega arith in

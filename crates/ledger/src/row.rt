@@ -30,7 +30,7 @@ fn distance_between(x: Moment, y: Moment) -> i64
     requires { (is_moment x ≡ true) × (is_moment y ≡ true) }
     ensures { result ≡ pos (x.speed + y.speed) }
 {
-    (x.speed + y.speed) as i64
+    (x.speed + y.speed).cast_signed()
 }
 
 // The interval from sample x to sample y, in its phase of x's cycle.
@@ -38,8 +38,8 @@ pub fn add_interval(row: &mut [i64], phase: usize, x: Moment, y: Moment)
     requires { (length row.old ≡ 9) × (phase < most_phases) × Small most_held row.old × (is_moment x ≡ true) × (is_moment y ≡ true) }
     ensures { row.new ≡ interval_added 0 row.old phase x y }
 {
-    add_at(&mut *row, phase, energy_between(x, y));
-    add_at(&mut *row, 4 + phase, distance_between(x, y));
+    add_at(row, phase, energy_between(x, y));
+    add_at(row, 4 + phase, distance_between(x, y));
 }
 
 // A judged sample of the cycle, counted where it is outside: whether it brings the outside count above the allowance.
@@ -51,6 +51,6 @@ pub fn add_outside(row: &mut [i64], outside: bool, allowance: u32) -> bool
     if !outside {
         return false;
     }
-    add_at(&mut *row, 8, 1);
-    (allowance as i64) < row[8]
+    add_at(row, 8, 1);
+    i64::from(allowance) < row[8]
 }

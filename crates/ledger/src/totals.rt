@@ -11,15 +11,14 @@ fn sum_by(ledger: &[i64], a: usize, d: usize, n: usize) -> i64
     ensures { result ≡ sum_by ledger.now a d n }
 {
     let mut sum: i64 = 0;
-    let mut k = 0;
-    while k < n {
+    for k in 0..n {
         sum += ledger[a + d * k];
-        k += 1;
     }
     sum
 }
 
 // The energy of cycle c.
+// Stays: this and the next are one line each over `sum_by`, and each has its row and its theorem in docs/PROMISES.md.
 pub fn energy_in(ledger: &[i64], c: usize) -> i64
     requires { (bounded ledger.now ≡ true) × (c < most_cycles) }
     ensures { result ≡ energy_in ledger.now c }
@@ -41,11 +40,8 @@ pub fn energy_from(ledger: &[i64], a: usize) -> i64
     ensures { result ≡ energy_from ledger.now a }
 {
     let mut sum: i64 = 0;
-    let rest = MOST_CYCLES - a;
-    let mut k = 0;
-    while k < rest {
-        sum += energy_in(ledger, a + k);
-        k += 1;
+    for c in a..MOST_CYCLES {
+        sum += energy_in(ledger, c);
     }
     sum
 }

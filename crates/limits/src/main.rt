@@ -4,7 +4,7 @@
 mod runs;
 mod stretched;
 
-use rules::{Amounts, Charge, ClosingAnswer, Figure};
+use rules::{Amounts, Closing};
 use runs::finished;
 use state::Run;
 
@@ -32,25 +32,24 @@ fn say_refused(rt: HostRuntime, n: u32) {
     say_number(rt, n as u64);
 }
 
-fn say_figure(rt: HostRuntime, figure: Figure) {
+fn say_figure(rt: HostRuntime, figure: Result<Option<u64>, u32>) {
     match figure {
-        Figure::Is(n) => say_number(rt, n),
-        Figure::Absent => say(rt, b"-"),
-        Figure::Refused(n) => say_refused(rt, n),
+        Ok(Some(n)) => say_number(rt, n),
+        Ok(None) => say(rt, b"-"),
+        Err(n) => say_refused(rt, n),
     }
 }
 
 // The three figures of one closing, or the refusal in place of all.
-fn say_closing(rt: HostRuntime, answer: ClosingAnswer) {
+fn say_closing(rt: HostRuntime, answer: Result<Closing, u32>) {
     match answer {
-        ClosingAnswer::Refused(n) => say_refused(rt, n),
-        ClosingAnswer::Closed(x) => {
-            let recharge = x.recharge;
+        Err(n) => say_refused(rt, n),
+        Ok(x) => {
             say_number(rt, x.weighted);
             say(rt, b", ");
             say_number(rt, x.range);
             say(rt, b", ");
-            say_figure(rt, recharge);
+            say_figure(rt, x.recharge);
         }
     }
 }
@@ -68,10 +67,8 @@ fn number_at(i: usize, energy: i64, distance: i64) -> i64 {
 }
 
 fn fill(ledger: &mut [i64], energy: i64, distance: i64) {
-    let mut i = 0;
-    while i < ledger.len() {
-        ledger[i] = number_at(i, energy, distance);
-        i += 1;
+    for (i, number) in ledger.iter_mut().enumerate() {
+        *number = number_at(i, energy, distance);
     }
 }
 
@@ -91,11 +88,7 @@ fn say_all(
 }
 
 fn amounts(before: i64, after: i64, wh: u32) -> Amounts {
-    let charge = if wh == 0 {
-        Charge::Absent
-    } else {
-        Charge::Wh(wh)
-    };
+    let charge = if wh == 0 { None } else { Some(wh) };
     Amounts {
         before,
         after,

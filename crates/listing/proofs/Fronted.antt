@@ -2,12 +2,9 @@
 -- Assumes nothing.
 use mathlib.Core.Bool.{Bool, true, false, cond, ◌&&◌}
 use mathlib.Core.List.{List, [], ◌∷◌, ◌++◌}
-use mathlib.Core.Logic.{⊎_elim}
 use mathlib.Core.Path.{◌≡◌, refl, sym, ap, ◌∙◌}
 use Prim.Native.Nat.{ℕ, ◌≤◌}
 use native.Mathlib.Omega.{arith}
-use types.Run.{OneOf}
-use denote.Enum.Declared.{tag_of}
 use borrow.Author.Tests.{eq-eqb, ne_eqb}
 use lib.Dec.{eqb}
 use Rattle.rules.specs.declared.Spot.{Spot}
@@ -16,9 +13,9 @@ use Rattle.rules.specs.Front.{Field, Front as Stands, incomplete, impossible, fi
 use Rattle.rules.specs.Text.{digits, spaced, refused_word, refused_line}
 use Rattle.rules.specs.Listing.{bad_sample, is_block_at, value_at, refused_text}
 use Rattle.fields.specs.declared.Front.{Front}
-use Rattle.fields.specs.declared.Front.TheVariants as front
+use Rattle.std.specs.Prelude.{Option, Some, None, Result, Ok, Err}
+use Rattle.rules.specs.declared.Refusal.{Refusal}
 use Rattle.fields.specs.Fields.{front_said, stands_said}
-use Rattle.fields.specs.contracts.Front.{the_type as front-type}
 use Rattle.fields.proofs.Fronts.{said_incomplete, said_impossible}
 use Rattle.listing.specs.Lines.{Counts, front_used, front_spot, front_text}
 
@@ -30,17 +27,17 @@ pub record NoField (i : List ℕ) (p : Spot) : Type 0 where
   pub text : [] ≡ front_text p (front_of tags i)
   pub block : is_block_at (front_of tags i) ≡ false
 
-at_incomplete : (i : List ℕ) (p : Spot) → front_of tags i ≡ incomplete → NoField i p
+pub at_incomplete : (i : List ℕ) (p : Spot) → front_of tags i ≡ incomplete → NoField i p
 at_incomplete i p e = record { used = ap front_used (sym e); spot = ap (front_spot p) (sym e); text = ap (front_text p) (sym e); block = ap is_block_at e }
 
-at_impossible : (i : List ℕ) (p : Spot) → front_of tags i ≡ impossible → NoField i p
+pub at_impossible : (i : List ℕ) (p : Spot) → front_of tags i ≡ impossible → NoField i p
 at_impossible i p e = record { used = ap front_used (sym e); spot = ap (front_spot p) (sym e); text = ap (front_text p) (sym e); block = ap is_block_at e }
 
 -- r is the answer to the bytes, and no field
-pub no_field_lem : (i : List ℕ) (p : Spot) (r : Front) → front_said r ≡ stands_said (front_of tags i) → OneOf (0 ∷ 1 ∷ []) (tag_of front-type r) → NoField i p
-no_field_lem i p front.Incomplete e h = at_incomplete i p (said_incomplete i e refl)
-no_field_lem i p front.Impossible e h = at_impossible i p (said_impossible i e refl)
-no_field_lem i p (front.Field tag n) e h = absurd (⊎_elim (λ q. omega arith) (λ q. omega arith) h)
+pub no_field_lem : (i : List ℕ) (p : Spot) (r : Result (Option Front) Refusal) → front_said r ≡ stands_said (front_of tags i) → ((f : Front) → r ≡ Ok (Some f) → ⊥) → NoField i p
+no_field_lem i p (Ok None) e h = at_incomplete i p (said_incomplete i e refl)
+no_field_lem i p (Err k) e h = at_impossible i p (said_impossible i k e refl).0
+no_field_lem i p (Ok (Some f)) e h = absurd (h f refl)
 
 -- n can be added, where more can
 pub counts_less : {p : Spot} {m n : ℕ} → Counts p m → n ≤ m → Counts p n

@@ -6,7 +6,7 @@ use mathlib.Core.Path.{◌≡◌, refl, sym, ap, subst, ◌∙◌}
 use Prim.Native.Nat.{ℕ, ◌+◌, ◌-◌, ◌*◌, ◌≤◌, zero-le}
 use native.Mathlib.Omega.{arith}
 use lib.ListN.{length, take, drop, length-drop}
-use lib.Seq.{drop-drop, drop-length}
+use lib.Seq.{drop-drop}
 use Rattle.numbers.proofs.Lists.{part_rest}
 use Rattle.rules.specs.Words.{bit}
 use Rattle.rules.specs.declared.Spot.{Spot}
@@ -16,10 +16,9 @@ use Rattle.rules.specs.Machine.{Ran, waiting, broken, on, move_of, move_at, repl
 use Rattle.rules.specs.Listing.{Listed, listed, list_field, list_from, spot_after, field_line, is_own}
 use Rattle.laws.proofs.Cuts.{first_then, first_ends}
 use Rattle.laws.proofs.Fronts.{front_whole}
-use Rattle.laws.proofs.Prefixes.{no_bytes}
 use Rattle.sheet.specs.Overlaid.{Wrote}
 use Rattle.sheet.proofs.Overlaid.{nothing, wrote_then, wrote_most}
-use Rattle.listing.specs.Lines.{per_byte, most_line, Counts, front_used, front_spot, front_text}
+use Rattle.listing.specs.Lines.{per_byte, most_line, Counts, front_used, front_text, Takes}
 use Rattle.listing.proofs.Fronted.{counts_less}
 
 -- the list, from there on
@@ -48,12 +47,6 @@ counts_after p f m h c = record {
   blocks = omega (arith, c.blocks, bit_most (is_own p.vehicle f));
 }
 
--- a field has its tag and its length
-front_least : (z : Front) → (front_used z ≡ 0 → ⊥) → 3 ≤ front_used z
-front_least incomplete g = absurd (g refl)
-front_least impossible g = absurd (g refl)
-front_least (field f) g = omega arith
-
 module _ (p₀ : Spot) (input : List ℕ) where
   -- the fields of the first `used` bytes are listed: what is left to list of the rest is what is left of all
   pub record Behind (p : Spot) (text : List ℕ) (used : ℕ) : Type 0 where
@@ -74,51 +67,39 @@ module _ (p₀ : Spot) (input : List ℕ) where
     pub lent_length : length lent ≡ length input - used
     lent_length = ap length (part_rest used input) ∙ length-drop used input
 
-    -- what is promised of the field that is then at the front, as it is lent
-    module _ {n : ℕ} {q : Spot} (u : n ≡ front_used (front_of tags lent)) (s : q ≡ front_spot p (front_of tags lent)) where
-      here : front_of tags lent ≡ front_of tags i
-      here = ap (front_of tags) (part_rest used input)
+    -- what is at the front, as it is lent
+    here : front_of tags lent ≡ front_of tags i
+    here = ap (front_of tags) (part_rest used input)
 
-      -- there is none: this is all
-      none_left : (z : Front) → front_of tags i ≡ z → front_used z ≡ 0 → list_from p₀ input ≡ listed p text
-      none_left incomplete e d = h.rest ∙ ap (λ (x : Ran Listed). x.state) (first_ends tags list_field (listed p text) i waiting (by_front (listed p text) i e))
-      none_left impossible e d = h.rest ∙ ap (λ (x : Ran Listed). x.state) (first_ends tags list_field (listed p text) i broken (by_front (listed p text) i e))
-      none_left (field f) e d = absurd (omega arith)
+    -- there is no field: this is all
+    none_left : (z : Front) → front_of tags i ≡ z → front_used z ≡ 0 → list_from p₀ input ≡ listed p text
+    none_left incomplete e d = h.rest ∙ ap (λ (x : Ran Listed). x.state) (first_ends tags list_field (listed p text) i waiting (by_front (listed p text) i e))
+    none_left impossible e d = h.rest ∙ ap (λ (x : Ran Listed). x.state) (first_ends tags list_field (listed p text) i broken (by_front (listed p text) i e))
+    none_left (field f) e d = absurd (omega arith)
 
-      pub behind_end : n ≡ 0 → list_from p₀ input ≡ listed p text
-      behind_end z = none_left (front_of tags i) refl (sym (ap front_used here) ∙ sym u ∙ z)
+    pub behind_end : front_used (front_of tags lent) ≡ 0 → list_from p₀ input ≡ listed p text
+    behind_end z = none_left (front_of tags i) refl (sym (ap front_used here) ∙ z)
 
-      one_more_lem : (z : Front) → front_of tags i ≡ z → n ≡ front_used z → q ≡ front_spot p z → (n ≡ 0 → ⊥) → Behind q (text ++ front_text p z) (used + n)
-      one_more_lem incomplete e d k g = absurd (g d)
-      one_more_lem impossible e d k g = absurd (g d)
-      one_more_lem (field f) e d k g =
-          let whole = front_whole tags i f e in
-          let size : bytes_of f ≤ length input - used = omega (arith, whole.length_is, whole.long, length-drop used input) in
-          let less : length input - used - bytes_of f ≡ length input - (used + n) = omega (arith, d) in
-          record {
-            within = omega (arith, d, h.within);
-            counts = subst (λ (x : Spot). Counts x (length input - (used + n))) (sym k) (subst (Counts (spot_after p f)) less (counts_after p f (length input - used) size h.counts));
-            rest =
-                h.rest
-                ∙ ap (λ (x : Ran Listed). x.state) (first_then tags list_field (listed p text) i _ (bytes_of f) (field_moves (listed p text) i f e))
-                ∙ (λ j. (all (listed (sym k j) (text ++ field_line p f)) ((ap (λ (m : ℕ). drop m i) (sym d) ∙ drop-drop n used input) j)).state);
-          }
+    -- there is one, of n bytes
+    one_more_lem : {n : ℕ} {q : Spot} (z : Front) → front_of tags i ≡ z → Takes p z q n → Behind q (text ++ front_text p z) (used + n)
+    one_more_lem incomplete e t = absurd (omega (arith, t.used, t.least))
+    one_more_lem impossible e t = absurd (omega (arith, t.used, t.least))
+    one_more_lem {n} {q} (field f) e t =
+        let whole = front_whole tags i f e in
+        let size : bytes_of f ≤ length input - used = omega (arith, whole.length_is, whole.long, length-drop used input) in
+        let less : length input - used - bytes_of f ≡ length input - (used + n) = omega (arith, t.used) in
+        record {
+          within = omega (arith, t.used, h.within);
+          counts = subst (λ (x : Spot). Counts x (length input - (used + n))) (sym t.spot) (subst (Counts (spot_after p f)) less (counts_after p f (length input - used) size h.counts));
+          rest =
+              h.rest
+              ∙ ap (λ (x : Ran Listed). x.state) (first_then tags list_field (listed p text) i _ (bytes_of f) (field_moves (listed p text) i f e))
+              ∙ (λ j. (all (listed (sym t.spot j) (text ++ field_line p f)) ((ap (λ (m : ℕ). drop m i) (sym t.used) ∙ drop-drop n used input) j)).state);
+        }
 
-      pub behind_more : (n ≡ 0 → ⊥) → Behind q (text ++ front_text p (front_of tags lent)) (used + n)
-      behind_more g =
-          subst (λ (z : Front). Behind q (text ++ front_text p z) (used + n)) (sym here) (one_more_lem (front_of tags i) refl (u ∙ ap front_used here) (s ∙ ap (front_spot p) here) g)
-
-      pub least : (n ≡ 0 → ⊥) → 3 ≤ n
-      least g = omega (arith, front_least (front_of tags lent) (λ z. g (u ∙ z)), u)
-
-    -- no bytes are left
-    pub behind_all : length input ≤ used → list_from p₀ input ≡ listed p text
-    behind_all g =
-        let e : used ≡ length input = omega (arith, h.within) in
-        h.rest
-        ∙ ap (λ (k : ℕ). (all (listed p text) (drop k input)).state) e
-        ∙ ap (λ (j : List ℕ). (all (listed p text) j).state) (drop-length input)
-        ∙ ap (λ (x : Ran Listed). x.state) (no_bytes tags list_field (listed p text))
+    pub behind_more : {n : ℕ} {q : Spot} → Takes p (front_of tags lent) q n → Behind q (text ++ front_text p (front_of tags lent)) (used + n)
+    behind_more {n} {q} t =
+        subst (λ (z : Front). Behind q (text ++ front_text p z) (used + n)) (sym here) (one_more_lem (front_of tags i) refl (subst (λ (z : Front). Takes p z q n) here t))
 
   -- with some text of their lines
   pub record Passed (p : Spot) (used : ℕ) : Type 0 where
@@ -137,22 +118,11 @@ module _ (p₀ : Spot) (input out₀ : List ℕ) where
   pub gone_none : Counts p₀ (length input) → Gone out₀ p₀ 0 0
   gone_none c = record { same_length = refl; text = []; behind = behind_none p₀ input c; wrote = nothing out₀ 0 }
 
-  module _ {out : List ℕ} {p : Spot} {next used : ℕ} (h : Gone out p next used) {n r : ℕ} {q : Spot} {o : List ℕ} (u : n ≡ front_used (front_of tags (take (length input - used) (drop used input))))
-      (s : q ≡ front_spot p (front_of tags (take (length input - used) (drop used input)))) (w : Wrote most_line out next (front_text p (front_of tags (take (length input - used) (drop used input)))) o r)
-      (l : length o ≡ length out) where
-    -- where there is no field, nothing was written
-    none_written : (z : Front) → front_used z ≡ 0 → Wrote most_line out next (front_text p z) o r → o ≡ out
-    none_written incomplete d v = v.bytes ∙ sym (nothing out next).bytes
-    none_written impossible d v = v.bytes ∙ sym (nothing out next).bytes
-    none_written (field f) d v = absurd (omega arith)
-
-    pub gone_same : n ≡ 0 → o ≡ out
-    gone_same z = none_written (front_of tags (take (length input - used) (drop used input))) (sym u ∙ z) w
-
-    pub gone_more : (n ≡ 0 → ⊥) → Gone o q r (used + n)
-    gone_more g = record {
-      same_length = l ∙ h.same_length;
-      text = h.text ++ front_text p (front_of tags (take (length input - used) (drop used input)));
-      behind = behind_more p₀ input h.behind u s g;
-      wrote = wrote_most (wrote_then h.wrote w (omega arith)) (omega (arith, least p₀ input h.behind u s g));
-    }
+  pub gone_more : {out o : List ℕ} {p q : Spot} {next used n r : ℕ} → Gone out p next used → Takes p (front_of tags (take (length input - used) (drop used input))) q n
+      → Wrote most_line out next (front_text p (front_of tags (take (length input - used) (drop used input)))) o r → length o ≡ length out → Gone o q r (used + n)
+  gone_more {p = p} {used = used} h t w l = record {
+    same_length = l ∙ h.same_length;
+    text = h.text ++ front_text p (front_of tags (take (length input - used) (drop used input)));
+    behind = behind_more p₀ input h.behind t;
+    wrote = wrote_most (wrote_then h.wrote w (omega arith)) (omega (arith, t.least));
+  }

@@ -1,6 +1,6 @@
 -- How long the lines of the field list can be, and what of it one field at the front of bytes brings.
 -- Assumes nothing.
-use Rattle.std.specs.Prelude.{List, [], ℕ, ◌+◌, ◌≤◌}
+use Rattle.std.specs.Prelude.{List, [], ◌≡◌, ℕ, ◌+◌, ◌≤◌}
 use Rattle.rules.specs.declared.Spot.{Spot}
 use Rattle.rules.specs.Front.{Front, incomplete, impossible, field, bytes_of}
 use Rattle.rules.specs.Listing.{spot_after, field_line}
@@ -36,3 +36,9 @@ abbrev pub front_text : Spot → Front → List ℕ
 front_text p incomplete = []
 front_text p impossible = []
 front_text p (field f) = field_line p f
+
+-- there is one, of n bytes, and the list stands there behind it
+pub record Takes (p : Spot) (z : Front) (behind : Spot) (n : ℕ) : Type 0 where
+  pub used : n ≡ front_used z
+  pub spot : behind ≡ front_spot p z
+  pub least : 3 ≤ n

@@ -4,7 +4,6 @@ ghost use Rattle.rules.specs.Listing.{in_turn, phases_in, end_of_phase, cycle_li
 ghost use Rattle.sheet.specs.Overlaid.{Wrote};
 
 use cycle::end_of;
-use numbers::wide;
 use rules::Tolerances;
 use rules::limits::MOST_PHASES;
 use sheet::text::{put_number, put_text};
@@ -14,21 +13,7 @@ fn phases_in(cycle: &[u8]) -> usize
     requires { 9 ≤ length cycle.now }
     ensures { (result ≡ phases_in cycle.now) × (result ≤ 4) }
 {
-    let n = wide(cycle[0]);
-    if MOST_PHASES < n {
-        return MOST_PHASES;
-    }
-    n
-}
-
-// The last of n phases.
-fn last_of(n: usize) -> usize
-    ensures { result ≡ n - 1 }
-{
-    if n == 0 {
-        return 0;
-    }
-    n - 1
+    usize::from(cycle[0]).min(MOST_PHASES)
 }
 
 // The byte behind the end of phase k of n: a newline behind the last.
@@ -48,11 +33,9 @@ fn put_ends(out: &mut [u8], at: usize, cycle: &[u8], n: usize) -> usize
     ensures { Wrote 84 out.old at (in_turn (end_of_phase cycle.now) n) out.new result }
 {
     let mut next = at;
-    let mut k = 0;
-    while k < n {
+    for k in 0..n {
         let end = end_of(cycle, k) as u64;
-        next = put_number(&mut *out, next, end, byte_behind(k, n));
-        k += 1;
+        next = put_number(out, next, end, byte_behind(k, n));
     }
     next
 }
@@ -63,11 +46,11 @@ pub fn cycle_line(out: &mut [u8], at: usize, cycle: &[u8]) -> usize
     ensures { Wrote 118 out.old at (cycle_line cycle.now) out.new result }
 {
     let n = phases_in(cycle);
-    let seconds = end_of(cycle, last_of(n)) as u64;
-    let word = put_text(&mut *out, at, b"cycle", 32);
-    let next = put_number(&mut *out, word, seconds, 32);
-    let ends = put_text(&mut *out, next, b"phases", 32);
-    put_ends(&mut *out, ends, cycle, n)
+    let seconds = end_of(cycle, n.saturating_sub(1)) as u64;
+    let word = put_text(out, at, b"cycle", 32);
+    let next = put_number(out, word, seconds, 32);
+    let ends = put_text(out, next, b"phases", 32);
+    put_ends(out, ends, cycle, n)
 }
 
 // "tolerances S W A".
@@ -75,8 +58,8 @@ pub fn tolerances_line(out: &mut [u8], at: usize, t: Tolerances) -> usize
     requires { at + 74 ≤ length out.old }
     ensures { Wrote 74 out.old at (tolerances_line t) out.new result }
 {
-    let word = put_text(&mut *out, at, b"tolerances", 32);
-    let speed = put_number(&mut *out, word, t.speed as u64, 32);
-    let time = put_number(&mut *out, speed, t.time as u64, 32);
-    put_number(&mut *out, time, t.allowance as u64, 10)
+    let word = put_text(out, at, b"tolerances", 32);
+    let speed = put_number(out, word, t.speed as u64, 32);
+    let time = put_number(out, speed, t.time as u64, 32);
+    put_number(out, time, t.allowance as u64, 10)
 }

@@ -38,12 +38,11 @@ pub fn spot_after(p: Spot, tag: u8, v: &[u8]) -> Spot
     requires { (length_allowed tags tag (length v.now) ≡ true) × Counts p (3 + length v.now) }
     ensures { result ≡ spot_after p (record { tag = tag; value = v.now }) }
 {
-    let me = p.vehicle;
-    let own = own_of(&me[..], tag, v);
+    let own = own_of(&p.vehicle[..], tag, v);
     Spot {
         fields: p.fields + 1,
         offset: p.offset + (3 + v.len()) as u64,
-        vehicle: vehicle_after(me, tag, v),
+        vehicle: vehicle_after(p.vehicle, tag, v),
         blocks: p.blocks + own,
     }
 }

@@ -6,20 +6,12 @@ use native.Mathlib.Decide.{dec_lt}
 use native.Mathlib.Nat.{add-zero, one-mul, mod-lt, mod-eq_of_lt, mod-one, max-eq_right, le_of_suc-le-suc, div_self, div-eq_of_lt, pow-suc, mul-mod_left}
 use native.Mathlib.Omega.{arith}
 use lib.Arith.{digits_div, digits_mod}
-use lib.Bits.{bit_or, bit_and, or_block, or_step, or_shr, or_zero_r, and_mask}
+use lib.Bits.{bit_or, or_block, or_step, or_shr, or_zero_r}
 use lib.Count.{ones, ones_cat, ones_step}
 use lib.Dec.{lit<}
 use lib.Pow.{pow_pos, pow-add, pow-lt, shl-shr, split, mod-pow-add}
 use Rattle.rules.specs.Words.{fold, sum}
 use Rattle.map.specs.Map.{bit_of}
-
--- `(w >> k) & 1`
-pub bit_test : (w k : ℕ) → bit_and (w / 2 ^ k) 1 ≡ bit_of w k
-bit_test w k = and_mask (w / 2 ^ k) 1
-
--- `1 << k` at a width of n bits
-pub one_shl : (n k : ℕ) → k < n → 1 * 2 ^ k % 2 ^ n ≡ 2 ^ k
-one_shl n k h = ap (λ (x : ℕ). x % 2 ^ n) (one-mul (2 ^ k)) ∙ mod-eq_of_lt (pow-lt h)
 
 or_one : (n : ℕ) → bit_or n 1 ≡ n / 2 * 2 + 1
 or_one n =

@@ -14,20 +14,17 @@ pub fn is_set(map: &[u64], p: usize) -> bool
     ensures { result ≡ is_set map.now p }
 {
     let word = p / 64;
-    if word < map.len() {
-        return (map[word] >> (p % 64)) & 1 == 1;
-    }
-    false
+    word < map.len() && (map[word] >> (p % 64)) & 1 == 1
 }
 
 // Position p is set where its sample is outside.
+#[tactic(auto, unfolding(crate::specs::Map::marked_if))]
 pub fn mark_if(map: &mut [u64], p: usize, outside: bool)
     requires { (p < most_positions) × (map_words ≤ length map.old) }
     ensures { map.new ≡ marked_if map.old p outside }
 {
     if outside {
-        let word = p / 64;
-        map[word] = map[word] | (1 << (p % 64));
+        map[p / 64] |= 1 << (p % 64);
     }
 }
 
@@ -36,20 +33,17 @@ pub fn clear_map(map: &mut [u64])
     requires { map_words ≤ length map.old }
     ensures { map.new ≡ cleared 0 map_words map.old }
 {
-    let mut k: usize = 0;
-    while k < MAP_WORDS {
-        map[k] = 0;
-        k += 1;
-    }
+    map[..MAP_WORDS].fill(0);
 }
 
 // The map before the sample at position p is marked: the first sample of a cycle clears it.
+#[tactic(auto, unfolding(crate::specs::Map::opened))]
 pub fn open_map(map: &mut [u64], p: usize)
     requires { map_words ≤ length map.old }
     ensures { map.new ≡ opened map.old p }
 {
     if p == 0 {
-        clear_map(&mut *map);
+        clear_map(map);
     }
 }
 
@@ -58,11 +52,8 @@ pub fn count_marks(map: &[u64]) -> u64
     requires { map_words ≤ length map.now }
     ensures { (result ≡ ones_of map.now) × (result ≤ most_positions) }
 {
-    let mut n: u64 = 0;
-    let mut k: usize = 0;
-    while k < MAP_WORDS {
-        n += u64::count_ones(map[k]) as u64;
-        k += 1;
-    }
-    n
+    map[..MAP_WORDS]
+        .iter()
+        .map(|word| u64::from(word.count_ones()))
+        .sum()
 }

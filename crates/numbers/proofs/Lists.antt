@@ -1,10 +1,9 @@
 -- Lists of any kind: what a store leaves, a list that is cleared from the front, and a part that was lent from the middle. Assumes nothing.
-use mathlib.Core.Path.{◌≡◌, refl, sym, ap, ◌∙◌}
+use mathlib.Core.Path.{◌≡◌, sym, ap, ◌∙◌}
 use mathlib.Core.List.{List, [], ◌∷◌, ◌++◌}
 use Prim.Native.Nat.{ℕ, zero, suc, ◌+◌, ◌-◌, ◌≤◌, ◌<◌}
-use native.Mathlib.Nat.{zero-add, suc-add, not-suc-le-zero, le_of_suc-le-suc}
+use native.Mathlib.Nat.{zero-add, suc-add}
 use native.Mathlib.Omega.{arith}
-use native.Mathlib.Numerals.{add-one}
 use lib.ListN.{length, get_or, set, take, drop, replicate, length-replicate, length-append, length-drop, get_or-replicate, get_or-append}
 use lib.Seq.{set-append_left, get_or-append-add, length-take-le, take_all, drop_at}
 use borrow.Rule.Slice.PartMut.{put_mid, post_of}
@@ -40,19 +39,6 @@ module _ {A : Type 0} where
         ∙ get_or-append ys (post_of a k xs) d j g
 
   -- ---- cleared from the front
-  pub clear_none : (z : A) (l : List A) → l ≡ cleared z 0 l
-  unfolding cleared
-  clear_none z l = refl
-
-  clear_suc : (z : A) (n : ℕ) (l : List A) → n < length l → set (cleared z n l) n z ≡ cleared z (suc n) l
-  unfolding cleared
-  clear_suc z n [] h = absurd (not-suc-le-zero h)
-  clear_suc z zero (x ∷ l) h = refl
-  clear_suc z (suc n) (x ∷ l) h = ap {B = List A} (λ t. z ∷ t) (clear_suc z n l (le_of_suc-le-suc h))
-
-  clear_more : (z : A) (n : ℕ) (l : List A) → n < length l → set (cleared z n l) n z ≡ cleared z (n + 1) l
-  clear_more z n l h = rw (add-one n) (clear_suc z n l h)
-
   pub length_cleared : (z : A) (n : ℕ) (l : List A) → n ≤ length l → length (cleared z n l) ≡ length l
   unfolding cleared
   length_cleared z n l h = simp (length-append, length-replicate, length-drop) (omega arith)
@@ -65,20 +51,10 @@ module _ {A : Type 0} where
   unfolding cleared
   drop_cleared z n l = drop_at (replicate n z) (drop n l) n (length-replicate n z)
 
-  -- a loop clears the first n elements of l: i of them are, and l' is what it has
-  pub record Clearing (z : A) (n : ℕ) (l l' : List A) (i : ℕ) : Type 0 where
-    pub most : i ≤ n
-    pub is : l' ≡ cleared z i l
-
-  module _ {z : A} {n : ℕ} {l l' : List A} {i : ℕ} (p : Clearing z n l l' i) where
-    pub clearing_length : n ≤ length l → length l' ≡ length l
-    clearing_length h = ap length p.is ∙ length_cleared z i l (omega (arith, p.most))
-
-    pub clearing_more : n ≤ length l → i < n → Clearing z n l (set l' i z) (i + 1)
-    clearing_more h g = record { most = omega arith; is = ap (λ (t : List A). set t i z) p.is ∙ clear_more z i l (omega arith) }
-
-    pub clearing_all : n ≤ i → l' ≡ cleared z n l
-    clearing_all h = let e : i ≡ n = omega (arith, p.most) in p.is ∙ ap (λ (k : ℕ). cleared z k l) e
+  -- as the first n elements are lent, filled and put back
+  pub filled : (z : A) (n : ℕ) (l m : List A) → n ≤ length l → m ≡ replicate (length (take n l)) z → m ++ drop n l ≡ cleared z n l
+  unfolding cleared
+  filled z n l m h e = ap (λ (t : List A). t ++ drop n l) (e ∙ ap (λ (k : ℕ). replicate k z) (length-take-le n l h))
 
   -- ---- the part from place n on, as a loan writes it
   pub part_rest : (n : ℕ) (l : List A) → take (length l - n) (drop n l) ≡ drop n l

@@ -9,7 +9,6 @@ use borrow.Author.Tests.{eq-eqb, ne_eqb}
 use lib.Dec.{T, leb, ltb, eqb, leb→le, ltb→lt, lt→ltb}
 use lib.IntN.{ℤ, pos, negsuc, neg_ℤ, ◌+ℤ◌, ◌-ℤ◌, +ℤ_idl}
 use lib.Pow.{pow_mono}
-use lib.Signed.{le_z}
 use mir.Syntax.{Width}
 use mir.Val.{SFits, bits, hbits, to_z, of_z}
 use mir.ValLaws.{to_z-of_z, to_z_pos, to_z-neg, pow-bits}
@@ -33,9 +32,6 @@ widen {w} w' t h = record { sfits = lt_of_lt_of_le h.sfits (pow_mono (leb→le (
 -- what the machine reads back of a number, and of one that was cast to a wider type
 pub read : {w : Width} {z : ℤ} → SFits w z → to_z w (of_z w z) ≡ z
 read {w} {z} h = to_z-of_z w z h
-
-pub read_le : {w : Width} {a b : ℤ} → SFits w a → SFits w b → le_z (to_z w (of_z w a)) (to_z w (of_z w b)) ≡ le_z a b
-read_le h k = ap₂ le_z (read h) (read k)
 
 pub read_wide : {w : Width} {z : ℤ} (w' : Width) → T (leb (hbits w) (hbits w')) → SFits w z → to_z w' (of_z w' (to_z w (of_z w z))) ≡ z
 read_wide w' t h = ap (λ (y : ℤ). to_z w' (of_z w' y)) (read h) ∙ read (widen w' t h)

@@ -1,6 +1,7 @@
 -- Sums over the numbers below n: one term grows, no term counts, bounds of a sum from bounds of its terms, a sum that a loop forms, and how many of n tests pass.
 -- Assumes nothing.
 use mathlib.Core.Bool.{Bool, true, false, ◌&&◌, and-true, and-false}
+use mathlib.Core.List.{List}
 use mathlib.Core.Logic.{⊎_elim}
 use mathlib.Core.Path.{◌≡◌, refl, sym, ap, ap₂, ◌∙◌}
 use Prim.Native.Nat.{ℕ, zero, suc, ◌+◌, ◌*◌, ◌^◌, ◌≤◌, ◌<◌, zero-le}
@@ -10,8 +11,11 @@ use native.Mathlib.Omega.{arith}
 use borrow.Author.Tests.{ne_eqb}
 use lib.Dec.{T, ltb, eqb, eqb-suc-suc}
 use lib.IntN.{ℤ, pos, ◌+ℤ◌}
+use lib.ListN.{length, get_or, take}
 use mir.Syntax.{Width}
 use mir.Val.{SFits, hbits, to_z, of_z}
+use Rattle.std.specs.List.{sum_by}
+use Rattle.std.proofs.lemmas.List.Sums.{sum_by_more}
 use Rattle.rules.specs.Words.{fold, sum, sumℤ, bit, all_below}
 use Rattle.numbers.specs.Whole.{Sized}
 use Rattle.numbers.proofs.Range.{fold_same, fold_more, fold_none, sum_ℕ}
@@ -56,28 +60,26 @@ unfolding fold
 sized_sum b f zero h = of_nat (omega arith)
 sized_sum b f (suc n) h = weaken (omega (arith, suc-mul n b)) (sized_add (sized_sum b f n (λ k l. h k (le_step l))) (h n (le_refl (suc n))))
 
--- ---- a loop that forms the sum of n terms f 0, f 1, .. in the bits of a signed number of width w
+-- as an iterator sums the first n numbers of a list
+pub sum_taken : (f : ℕ → ℕ) (l : List ℕ) (n : ℕ) → n ≤ length l → sum_by f (take n l) ≡ sum (λ k. f (get_or l k 0)) n
+unfolding fold
+sum_taken f l zero h = refl
+sum_taken f l (suc n) h = rw add-one at (sum_by_more f l n 0 h) ∙ ap (λ (x : ℕ). x + f (get_or l n 0)) (sum_taken f l n (omega arith))
 
--- k terms are added, and their sum stands in the bits s
-pub record Summed (w : Width) (n : ℕ) (f : ℕ → ℤ) (s k : ℕ) : Type 0 where
-  pub most : k ≤ n
-  pub is : to_z w s ≡ sumℤ f k
+-- ---- a loop that forms the sum of n terms f 0, f 1, .. in the bits s of a signed number of width w
 
 -- the term x is added: that fits, and the sum is of one term more
-pub record Added (w : Width) (n : ℕ) (f : ℕ → ℤ) (s k : ℕ) (x : ℤ) : Type 0 where
+pub record Added (w : Width) (f : ℕ → ℤ) (s k : ℕ) (x : ℤ) : Type 0 where
   pub fits : SFits w (to_z w s +ℤ x)
-  pub summed : Summed w n f (of_z w (to_z w s +ℤ x)) (k + 1)
-
-pub summed_all : {w : Width} {n : ℕ} {f : ℕ → ℤ} {s k : ℕ} → Summed w n f s k → n ≤ k → to_z w s ≡ sumℤ f n
-summed_all {n = n} {f} {k = k} p h = let e : k ≡ n = omega arith in p.is ∙ ap (sumℤ f) e
+  pub is : to_z w (of_z w (to_z w s +ℤ x)) ≡ sumℤ f (k + 1)
 
 -- of at most m terms, within b either way
 pub added : {w : Width} {m b n : ℕ} {f : ℕ → ℤ} {s k : ℕ} {x : ℤ} → n ≤ m → T (ltb (m * b) (2 ^ hbits w)) → ((k : ℕ) → k < n → Sized b (f k))
-    → Summed w n f s k → k < n → x ≡ f k → Added w n f s k x
-added {w} {m} {b} {n} {f} {s} {k} {x} few small h p l term = record { fits = fits; summed = record { most = omega arith; is = read fits ∙ more } }
+    → to_z w s ≡ sumℤ f k → k < n → x ≡ f k → Added w f s k x
+added {w} {m} {b} {n} {f} {s} {k} {x} few small h p l term = record { fits = fits; is = read fits ∙ more }
   where
     more : to_z w s +ℤ x ≡ sumℤ f (k + 1)
-    more = ap₂ ◌+ℤ◌ p.is term ∙ sym (fold_more ◌+ℤ◌ (pos 0) f k)
+    more = ap₂ ◌+ℤ◌ p term ∙ sym (fold_more ◌+ℤ◌ (pos 0) f k)
 
     sized : Sized (m * b) (sumℤ f (k + 1))
     sized = weaken (mul-le-mul_right b (let g : k + 1 ≤ m = omega arith in g)) (sized_sum b f (k + 1) (λ j m. h j (omega arith)))

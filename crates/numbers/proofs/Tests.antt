@@ -1,16 +1,17 @@
 -- Laws of tests: joined, at every number below n as a loop builds it, at every element, and along a chain of refusals.
 -- Assumes nothing.
-use mathlib.Core.Bool.{Bool, true, false, not, ◌&&◌, false≢true, and-false}
+use mathlib.Core.Bool.{Bool, true, false, not, ◌&&◌, false≢true, and-true, and-false, and_assoc}
 use mathlib.Core.List.{List, [], ◌∷◌, ◌++◌}
 use mathlib.Core.Logic.{◌⊎◌, inl, inr, ⊎_elim}
 use mathlib.Core.Path.{◌≡◌, refl, sym, ap, ap₂, subst, ◌∙◌}
 use Prim.Native.Nat.{ℕ, zero, suc, ◌+◌, ◌≤◌, ◌<◌, zero-le, suc-le-suc}
-use native.Mathlib.Nat.{le_refl, le_step, le_of_suc-le-suc, not-suc-le-zero, eq-or-lt_of_le}
+use native.Mathlib.Nat.{le_refl, le_step, le_of_suc-le-suc, not-suc-le-zero, eq-or-lt_of_le, add-zero, zero-add}
 use native.Mathlib.Numerals.{add-one}
 use native.Mathlib.Omega.{arith}
 use lib.Dec.{T, T_not, leb, leb→le, le→leb}
 use lib.ListN.{length, get_or}
 use borrow.Author.Tests.{lt-ltb, le-ltb, le-leb, lt-leb, eq-eqb, ne_eqb}
+use Rattle.std.specs.List.{list_all, range_with_len}
 use Rattle.rules.specs.Words.{table, bit, all_below, every, unless, settled}
 
 -- ---- two tests
@@ -93,6 +94,25 @@ pub all_same : (n : ℕ) (f g : ℕ → Bool) → ((k : ℕ) → k < n → f k �
 unfolding all_below
 all_same zero f g h = refl
 all_same (suc n) f g h = ap₂ ◌&&◌ (all_same n f g (λ k l. h k (le_step l))) (h n (le_refl (suc n)))
+
+-- the first number apart
+all_front : (n : ℕ) (f : ℕ → Bool) → all_below (suc n) f ≡ (f 0 && all_below n (λ k. f (suc k)))
+unfolding all_below
+all_front zero f = sym (and-true (f 0))
+all_front (suc n) f = ap (λ (x : Bool). x && f (suc n)) (all_front n f) ∙ and_assoc (f 0) (all_below n (λ k. f (suc k))) (f (suc n))
+
+-- as an iterator's `all` tests the numbers of a range
+all_range_from : (a n : ℕ) (f : ℕ → Bool) → list_all f (range_with_len a n) ≡ all_below n (λ k. f (a + k))
+unfolding all_below
+all_range_from a zero f = refl
+all_range_from a (suc n) f =
+    ap (λ (x : Bool). f a && x)
+    (all_range_from (a + 1) n f ∙ all_same n (λ k. f (a + 1 + k)) (λ k. f (a + suc k)) (λ k l. ap f (omega arith)))
+    ∙ ap (λ (j : ℕ). f j && all_below n (λ k. f (a + suc k))) (sym (add-zero a))
+    ∙ sym (all_front n (λ k. f (a + k)))
+
+pub all_range : (n : ℕ) (f : ℕ → Bool) → list_all f (range_with_len 0 n) ≡ all_below n f
+all_range n f = all_range_from 0 n f ∙ all_same n (λ k. f (0 + k)) f (λ k l. ap f (zero-add k))
 
 -- a loop tests the numbers below n, and all below k have passed
 pub record Passing (n : ℕ) (test : ℕ → Bool) (k : ℕ) : Type 0 where

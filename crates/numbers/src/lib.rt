@@ -6,77 +6,90 @@ ghost use Rattle.std.specs.Int.{w16, w64};
 ghost use Rattle.std.proofs.Common.{to_z};
 ghost use Rattle.rules.specs.Words.{be};
 
+// Stays: std has it as a method, but the theorem `smaller_one_answer`, which docs/PROMISES.md names, is about it.
 pub fn smaller(a: u32, b: u32) -> u32
     ensures { result ≡ min a b }
 {
-    if a < b { a } else { b }
+    a.min(b)
 }
 
+// Stays: std has it as a method, but the theorem `larger_one_answer`, which docs/PROMISES.md names, is about it.
 pub fn larger(a: u32, b: u32) -> u32
     ensures { result ≡ max a b }
 {
-    if a < b { b } else { a }
+    a.max(b)
 }
 
 // a - b, or 0 where that is below 0.
+// Stays: std has it as a method, but the theorem `less_one_answer`, which docs/PROMISES.md names, is about it.
 pub fn less(a: u32, b: u32) -> u32
     ensures { result ≡ a - b }
 {
-    if b < a { a - b } else { 0 }
+    a.saturating_sub(b)
 }
 
+// Stays: std has it as a method, but the theorem `wide_one_answer`, which docs/PROMISES.md names, is about it.
 pub fn wide(x: u8) -> usize
     ensures { result ≡ x }
 {
-    x as usize
+    usize::from(x)
 }
 
+// Stays: std has it as a method, but the theorem `pair_one_answer`, which docs/PROMISES.md names, is about it.
 pub fn pair(high: u8, low: u8) -> u16
     ensures { result ≡ 256 * high + low }
 {
-    256 * (high as u16) + (low as u16)
+    u16::from_be_bytes([high, low])
 }
 
 // The two-byte number at place i.
+// Stays: a function for each size, since `from_be_bytes` is a method of each type, which no const parameter chooses.
+#[tactic(auto, unfolding(rules::specs::Words::be))]
 pub fn read16(b: &[u8], i: usize) -> u16
     requires { i + 1 < length b.now }
     ensures { result ≡ be 2 b.now i }
 {
-    pair(b[i], b[i + 1])
+    u16::from_be_bytes([b[i], b[i + 1]])
 }
 
 // The four-byte number at place i.
+#[tactic(auto, unfolding(rules::specs::Words::be))]
 pub fn read32(b: &[u8], i: usize) -> u32
     requires { i + 3 < length b.now }
     ensures { result ≡ be 4 b.now i }
 {
-    65536 * (read16(b, i) as u32) + (read16(b, i + 2) as u32)
+    u32::from_be_bytes([b[i], b[i + 1], b[i + 2], b[i + 3]])
 }
 
 // The eight-byte number at place i.
+#[tactic(auto, unfolding(rules::specs::Words::be))]
 pub fn read64(b: &[u8], i: usize) -> u64
     requires { i + 7 < length b.now }
     ensures { result ≡ be 8 b.now i }
 {
-    4_294_967_296 * (read32(b, i) as u64) + (read32(b, i + 4) as u64)
+    u64::from_be_bytes([
+        b[i],
+        b[i + 1],
+        b[i + 2],
+        b[i + 3],
+        b[i + 4],
+        b[i + 5],
+        b[i + 6],
+        b[i + 7],
+    ])
 }
 
 // Two bytes as a number of either sign, two's complement.
+// Stays: a function for each size, as above.
 pub fn signed16(x: u16) -> i16
     ensures { result ≡ to_z w16 x }
 {
-    if x < 32768 {
-        return x as i16;
-    }
-    -((65535 - x) as i16) - 1
+    u16::cast_signed(x)
 }
 
 // Eight bytes as a number of either sign, two's complement.
 pub fn signed64(x: u64) -> i64
     ensures { result ≡ to_z w64 x }
 {
-    if x < 9_223_372_036_854_775_808 {
-        return x as i64;
-    }
-    -((18_446_744_073_709_551_615 - x) as i64) - 1
+    u64::cast_signed(x)
 }

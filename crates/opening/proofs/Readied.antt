@@ -15,32 +15,34 @@ use Rattle.rules.specs.Table.{number, cycle, begins, by_row, length_allowed, amo
 use Rattle.laws.specs.Beside.{may_stand}
 use Rattle.rules.specs.Values.{is_number}
 use Rattle.laws.specs.Answers.{Said, gives, refuses}
-use Rattle.laws.proofs.Answers.{known_by}
+use Rattle.laws.proofs.Answers.{known_by, refusal_of, of_number}
 use Rattle.laws.proofs.Places.{every_among}
 use Rattle.laws.proofs.Tags.{by_tag, no_length}
 use Rattle.state.specs.State.{lent}
 use Rattle.opening.specs.declared.Opening.{Opening}
 use Rattle.opening.specs.declared.OpenAnswer.{OpenAnswer}
 use Rattle.opening.specs.declared.OpenStep.{OpenStep}
-use Rattle.opening.specs.declared.OpenStep.TheVariants.{Taken, Started, Incomplete, Refused}
+use Rattle.opening.specs.declared.OpenStep.TheVariants.{Taken, Started, Incomplete}
+use Rattle.std.specs.Prelude.{Result, Ok, Err}
+use Rattle.rules.specs.declared.Refusal.{Refusal}
 use Rattle.opening.specs.Answers.{Opened, opens, starts, unfinished, open_step_said, OpenSaid, open_said, is_opening, open_ground}
 
 -- ---- answers that say the same are the same
 
-same_step : (x y : OpenStep) → open_step_said x ≡ open_step_said y → x ≡ y
+same_step : (x y : Result OpenStep Refusal) → open_step_said x ≡ open_step_said y → x ≡ y
 same_step = known_by open_step_said back known
   where
-    back : Said Opened → OpenStep
-    back (gives (opens n)) = Taken n
-    back (gives (starts n r)) = Started n r
-    back (gives unfinished) = Incomplete
-    back (refuses n) = Refused n
+    back : Said Opened → Result OpenStep Refusal
+    back (gives (opens n)) = Ok (Taken n)
+    back (gives (starts n r)) = Ok (Started n r)
+    back (gives unfinished) = Ok Incomplete
+    back (refuses n) = Err (refusal_of n)
 
-    known : (x : OpenStep) → back (open_step_said x) ≡ x
-    known (Taken n) = refl
-    known (Started n r) = refl
-    known Incomplete = refl
-    known (Refused n) = refl
+    known : (x : Result OpenStep Refusal) → back (open_step_said x) ≡ x
+    known (Ok (Taken n)) = refl
+    known (Ok (Started n r)) = refl
+    known (Ok Incomplete) = refl
+    known (Err e) = ap Err (of_number e)
 
 pub same_opened : (x y : OpenAnswer) → open_said x ≡ open_said y → x ≡ y
 same_opened x y e =

@@ -29,15 +29,16 @@ use Rattle.state.specs.declared.Run.{Run}
 use Rattle.state.specs.State.{Memory, lent, Left}
 use Rattle.state.specs.Refusals.{start_refusal, started}
 use Rattle.step.specs.Step.{start_of}
-use Rattle.judge.specs.declared.Answer.{Answer}
-use Rattle.judge.specs.declared.Answer.TheVariants as answer
-use Rattle.judge.specs.Answers.{answer_said, start_left}
+use Rattle.judge.specs.Answers.{start_left}
 use Rattle.judge.proofs.Promises.{StartPromise, promised}
 use Rattle.records.specs.Stage.{Stage, written, content_on, bring_on, pass_on, take_on}
 use Rattle.fields.specs.Fields.{has_row}
 use Rattle.fields.proofs.Fronts.{row_of_mark}
 use Rattle.opening.specs.declared.Opening.{Opening}
-use Rattle.opening.specs.declared.OpenStep.TheVariants.{Taken, Refused}
+use Rattle.std.specs.Prelude.{Result, Ok, Err}
+use Rattle.rules.specs.Numbered.{number}
+use Rattle.rules.specs.declared.Refusal.{Refusal}
+use Rattle.laws.specs.Answers.{answer_said}
 use Rattle.opening.specs.Answers.{opens, starts, OpenSaid, stage_of, open_ground, OpenLeft, not_opened, opened_by, field_opened, front_opened}
 use Rattle.opening.specs.Begin.{refused_at, number_answer, cycle_answer, start_number, start_opened}
 use Rattle.opening.proofs.Readied.{out_of_turn}
@@ -70,19 +71,19 @@ module _ (o : Opening) (room : List ℕ) (l : List ℤ) (m : List ℕ) where
     abbrev run : Run
     run = started (take o.cycle room) (tolerances_in v) by_cycles
 
-    module _ (n : ℕ) {t : Tolerances} (e : t ≡ tolerances_in v) (a : Answer) {c : Memory} (h : record { answer = answer_said a; memory = c } ≡ start_left (take o.cycle room) t by_cycles l m) where
+    module _ (n : ℕ) {t : Tolerances} (e : t ≡ tolerances_in v) (a : Result Run Refusal) {c : Memory} (h : record { answer = answer_said a; memory = c } ≡ start_left (take o.cycle room) t by_cycles l m) where
       promise : StartPromise (take o.cycle room) (tolerances_in v) by_cycles l m a c
       promise = promised (h ∙ ap (λ (z : Tolerances). start_left (take o.cycle room) z by_cycles l m) e)
 
       answers : {r : OpenSaid} → r ≡ (start_opened o room l m v n).answer → record { answer = r; memory = c } ≡ start_opened o room l m v n
       answers p = λ i. record { answer = p i; memory = promise.in_memory i }
 
-      pub start_refused : {k : ℕ} {r : OpenSaid} → a ≡ answer.Refused k → r ≡ refused_at o k → record { answer = r; memory = c } ≡ start_opened o room l m v n
+      pub start_refused : {k : Refusal} {r : OpenSaid} → a ≡ Err k → r ≡ refused_at o (number k) → record { answer = r; memory = c } ≡ start_opened o room l m v n
       start_refused {k} p q =
-          let (same, some) = was_refused number_is (gives run) k (sym promise.answer ∙ ap answer_said p) given_refused in
+          let (same, some) = was_refused number_is (gives run) (number k) (sym promise.answer ∙ ap answer_said p) given_refused in
           answers (q ∙ ap (refused_at o) (sym same) ∙ sym (settled_refused _ some))
 
-      pub start_taken : {r : Run} {k : Opening} → a ≡ answer.Taken r → k ≡ one_more
+      pub start_taken : {r : Run} {k : Opening} → a ≡ Ok r → k ≡ one_more
           → record { answer = record { says = gives (starts n r); opening = k }; memory = c } ≡ start_opened o room l m v n
       start_taken {r} p q =
           let (none, same) = was_given number_is (gives run) r (sym promise.answer ∙ ap answer_said p) in

@@ -1,6 +1,8 @@
 -- A call of `open`: what is tested before all else, and what is left of the state and every lent buffer, by the machine over the record's state.
 -- Assumes nothing.
-use Rattle.std.specs.Prelude.{Bool, cond, ◌&&◌, List, ℕ, leb, eqb, ℤ, length, take, replicate}
+use Rattle.std.specs.Prelude.{Bool, cond, ◌&&◌, List, ℕ, leb, eqb, ℤ, length, take, replicate, Result, Ok, Err}
+use Rattle.rules.specs.Numbered.{number}
+use Rattle.rules.specs.declared.Refusal.{Refusal}
 use Rattle.rules.specs.Words.{unless, settled}
 use Rattle.rules.specs.declared.Tolerances.{Tolerances}
 use Rattle.rules.specs.Cycle.{most_bytes}
@@ -16,7 +18,7 @@ use Rattle.rules.specs.declared.Method.TheVariants.{Regular as by_cycles}
 use Rattle.state.specs.Refusals.{not_begun, not_stretched, started}
 use Rattle.records.specs.Stage.{Stage, take_on, reply_on, room_after}
 use Rattle.opening.specs.declared.OpenStep.{OpenStep}
-use Rattle.opening.specs.declared.OpenStep.TheVariants.{Taken, Started, Incomplete, Refused}
+use Rattle.opening.specs.declared.OpenStep.TheVariants.{Taken, Started, Incomplete}
 use Rattle.opening.specs.declared.OpenAnswer.{OpenAnswer}
 use Rattle.opening.specs.declared.Opening.{Opening}
 
@@ -54,11 +56,11 @@ pub data Opened : Type 0 where
   unfinished : Opened
 
 -- what the cases say
-abbrev pub open_step_said : OpenStep → Said Opened
-open_step_said (Taken n) = gives (opens n)
-open_step_said (Started n r) = gives (starts n r)
-open_step_said Incomplete = gives unfinished
-open_step_said (Refused n) = refuses n
+abbrev pub open_step_said : Result OpenStep Refusal → Said Opened
+open_step_said (Ok (Taken n)) = gives (opens n)
+open_step_said (Ok (Started n r)) = gives (starts n r)
+open_step_said (Ok Incomplete) = gives unfinished
+open_step_said (Err e) = refuses (number e)
 
 -- with the opening that is left
 pub record OpenSaid : Type 0 where

@@ -4,6 +4,8 @@
 ghost use Rattle.std.specs.Prelude.{◌≡◌, true, ◌+◌, ◌≤◌, length};
 ghost use Rattle.rules.specs.Words.{unless};
 ghost use Rattle.rules.specs.Cycle.{valid};
+ghost use Rattle.rules.specs.Numbered.{number};
+ghost use Rattle.laws.specs.Answers.{refused_by};
 ghost use Rattle.state.specs.State.{left};
 ghost use Rattle.rules.specs.Table.{length_allowed, tags};
 ghost use Rattle.rules.specs.Values.{tolerances_in};
@@ -13,10 +15,10 @@ ghost use Rattle.opening.specs.Begin.{refused_at, number_answer, cycle_answer, s
 
 use cycle::is_cycle;
 use fields::{is_number, is_value};
-use judge::{Answer, start};
+use judge::start;
 use numbers::read16;
 use rules::limits::MOST_BYTES;
-use rules::{Method, Tolerances};
+use rules::{Method, Refusal, Tolerances};
 use state::Run;
 
 // Until the start: how many of the first four fields are accepted, the vehicle, and how many bytes the cycle in the room has.
@@ -27,18 +29,18 @@ pub struct Opening {
     pub cycle: usize,
 }
 
-// What became of a field until the start: taken with so many bytes, taken and the run started, not finished, or the number of a refusal.
+// What became of a field until the start: taken with so many bytes, taken and the run started, or not finished.
 #[derive(Clone, Copy)]
 pub enum OpenStep {
     Taken(usize),
     Started(usize, Run),
     Incomplete,
-    Refused(u32),
 }
 
+// A refused field leaves the opening as it was.
 #[derive(Clone, Copy)]
 pub struct OpenAnswer {
-    pub step: OpenStep,
+    pub step: Result<OpenStep, Refusal>,
     pub opening: Opening,
 }
 
@@ -47,11 +49,7 @@ fn keep(room: &mut [u8], v: &[u8])
     requires { length v.now ≤ length room.old }
     ensures { room.new ≡ written room.old v.now }
 {
-    let mut k = 0;
-    while k < v.len() {
-        room[k] = v[k];
-        k += 1;
-    }
+    room[..v.len()].copy_from_slice(v);
 }
 
 // The 17 characters of a vehicle number.
@@ -76,38 +74,32 @@ fn tolerances_of(v: &[u8]) -> Tolerances
 }
 
 // Whether no number of the opening is beyond its limits.
+#[tactic(auto, unfolding(crate::specs::Answers::is_opening))]
 fn is_opening(o: Opening) -> bool
     ensures { result ≡ is_opening o }
 {
-    if 3 < o.fields {
-        return false;
-    }
-    if MOST_BYTES < o.cycle {
-        return false;
-    }
-    let vehicle = o.vehicle;
-    is_number(&vehicle[..])
+    o.fields <= 3 && o.cycle <= MOST_BYTES && is_number(&o.vehicle)
 }
 
-// 1, or 0 where a field may be looked at.
-pub fn open_refusal(o: Opening, room: &[u8]) -> u32
-    ensures { result ≡ open_ground o room.now }
+// 1, unless a field may be looked at.
+pub fn open_refusal(o: Opening, room: &[u8]) -> Result<(), Refusal>
+    ensures { refused_by result ≡ open_ground o room.now }
 {
     if room.len() < MOST_BYTES {
-        return 1;
+        return Err(Refusal::Ground);
     }
     if !is_opening(o) {
-        return 1;
+        return Err(Refusal::Ground);
     }
-    0
+    Ok(())
 }
 
 // A refused field leaves the opening as it was.
-pub fn refused_at(o: Opening, number: u32) -> OpenAnswer
-    ensures { open_said result ≡ refused_at o number }
+fn refused_at(o: Opening, refusal: Refusal) -> OpenAnswer
+    ensures { open_said result ≡ refused_at o (number refusal) }
 {
     OpenAnswer {
-        step: OpenStep::Refused(number),
+        step: Err(refusal),
         opening: o,
     }
 }
@@ -117,11 +109,9 @@ fn with_field(o: Opening) -> Opening
     requires { o.fields ≤ 3 }
     ensures { result ≡ record { fields = o.fields + 1; vehicle = o.vehicle; cycle = o.cycle } }
 {
-    let vehicle = o.vehicle;
     Opening {
         fields: o.fields + 1,
-        vehicle,
-        cycle: o.cycle,
+        ..o
     }
 }
 
@@ -131,14 +121,14 @@ fn open_number(o: Opening, v: &[u8], n: usize) -> OpenAnswer
     ensures { open_said result ≡ number_answer o v.now n }
 {
     if !is_number(v) {
-        return refused_at(o, 4);
+        return refused_at(o, Refusal::Vehicle);
     }
     OpenAnswer {
-        step: OpenStep::Taken(n),
+        step: Ok(OpenStep::Taken(n)),
         opening: Opening {
             fields: o.fields + 1,
             vehicle: characters_of(v),
-            cycle: o.cycle,
+            ..o
         },
     }
 }
@@ -150,16 +140,15 @@ fn open_cycle(o: Opening, room: &mut [u8], v: &[u8], n: usize) -> OpenAnswer
     ensures room_after { room.new ≡ unless room.old (valid v.now) (written room.old v.now) }
 {
     if !is_cycle(v) {
-        return refused_at(o, 2);
+        return refused_at(o, Refusal::Cycle);
     }
-    keep(&mut *room, v);
-    let vehicle = o.vehicle;
+    keep(room, v);
     OpenAnswer {
-        step: OpenStep::Taken(n),
+        step: Ok(OpenStep::Taken(n)),
         opening: Opening {
             fields: o.fields + 1,
-            vehicle,
             cycle: v.len(),
+            ..o
         },
     }
 }
@@ -182,13 +171,13 @@ fn open_start(
         &room[..size],
         tolerances_of(v),
         Method::Regular,
-        &mut *ledger,
-        &mut *map,
+        ledger,
+        map,
     );
     match answer {
-        Answer::Refused(number) => refused_at(o, number),
-        Answer::Taken(run) => OpenAnswer {
-            step: OpenStep::Started(n, run),
+        Err(refusal) => refused_at(o, refusal),
+        Ok(run) => OpenAnswer {
+            step: Ok(OpenStep::Started(n, run)),
             opening: with_field(o),
         },
     }
@@ -208,18 +197,18 @@ pub fn open_whole(
         ≡ field_opened o room.old ledger.old map.old (record { tag = tag; value = v.now }) }
 {
     if !is_value(tag, v) {
-        return refused_at(o, 8);
+        return refused_at(o, Refusal::Field);
     }
     let n = 3 + v.len();
     if tag as u32 != o.fields + 1 {
-        return refused_at(o, 9);
+        return refused_at(o, Refusal::Order);
     }
     match tag {
         2 => open_number(o, v, n),
-        3 => open_cycle(o, &mut *room, v, n),
-        4 => open_start(o, &room[..], &mut *ledger, &mut *map, v, n),
+        3 => open_cycle(o, room, v, n),
+        4 => open_start(o, room, ledger, map, v, n),
         _ => OpenAnswer {
-            step: OpenStep::Taken(n),
+            step: Ok(OpenStep::Taken(n)),
             opening: with_field(o),
         },
     }

@@ -8,7 +8,7 @@ ghost use Rattle.sheet.specs.Overlaid.{most_sheet};
 ghost use Rattle.prints.specs.Printed.{Prints};
 ghost use Rattle.paperwhelk.specs.Exported.{sheet_answer, sheet_left};
 
-use desk::{Outcome, empty, feed};
+use desk::{empty, feed};
 use prints::{close, refuse};
 use rules::limits::{LEDGER_NUMBERS, MAP_WORDS, MOST_BYTES};
 use sheet::MOST_SHEET;
@@ -24,14 +24,12 @@ fn print_whole(
     requires { (most_bytes ≤ length room.old) × (ledger_numbers ≤ length ledger.old) × (map_words ≤ length map.old) }
     ensures { Prints (printed (sheet_of «record».now)) lines.old result lines.new }
 {
-    let x = feed(empty(), record, &mut *room, &mut *ledger, &mut *map);
-    let desk = x.desk;
-    let outcome = x.outcome;
-    if let Outcome::Refused(number) = outcome {
-        return refuse(desk, number, &mut *lines);
+    let x = feed(empty(), record, room, ledger, map);
+    if let Err(refusal) = x.outcome {
+        return refuse(x.desk, refusal.number(), lines);
     }
     let left = record.len() - x.used;
-    close(desk, left, &room[..], &ledger[..], &map[..], &mut *lines)
+    close(x.desk, left, room, ledger, map, lines)
 }
 
 // The first n bytes of the lines, a sheet, go to the front of out where they fit.
@@ -57,12 +55,6 @@ pub fn paperwhelk_sheet(record: &[u8], out: &mut [u8]) -> i32
     let mut ledger = [0i64; LEDGER_NUMBERS];
     let mut map = [0u64; MAP_WORDS];
     let mut lines = [0u8; MOST_SHEET];
-    let n = print_whole(
-        record,
-        &mut room[..],
-        &mut ledger[..],
-        &mut map[..],
-        &mut lines[..],
-    );
-    hand_over(&lines[..], n, &mut *out)
+    let n = print_whole(record, &mut room, &mut ledger, &mut map, &mut lines);
+    hand_over(&lines, n, out)
 }

@@ -35,5 +35,5 @@ pub fn paperwhelk_verdict(
     if MOST_SPEED < speed {
         return -5;
     }
-    window::verdict_at(cycle, t, position, speed) as i32
+    i32::from(window::verdict_at(cycle, t, position, speed))
 }

@@ -30,5 +30,5 @@ pub extern "C" fn paperwhelk_sheet(record: &[u8], out: &mut [u8]) -> i32
     ensures out_after { out.new ≡ sheet_left (printed (sheet_of «record».now)) out.old }
     ensures record_len_bound { length (printed (sheet_of «record».now)) ≤ most_sheet }
 {
-    paperwhelk::sheets::paperwhelk_sheet(record, &mut *out)
+    paperwhelk::sheets::paperwhelk_sheet(record, out)
 }

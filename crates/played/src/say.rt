@@ -1,6 +1,6 @@
 // What is printed of the judge's answers.
-use judge::{ShownAnswer, TotalsAnswer};
-use rules::End;
+use judge::{Counts, Sums};
+use rules::{End, Refusal};
 use state::{Stretch, Stretched};
 
 fn lost(rt: HostRuntime) {
@@ -38,28 +38,27 @@ fn end_number(end: End) -> u64 {
     }
 }
 
-pub fn totals(rt: HostRuntime, answer: TotalsAnswer) {
+pub fn totals(rt: HostRuntime, answer: Result<Sums, Refusal>) {
     match answer {
-        TotalsAnswer::Summed(s) => {
-            let end = s.end;
-            named(rt, b": end ", end_number(end));
+        Ok(s) => {
+            named(rt, b": end ", end_number(s.end));
             named(rt, b", counted ", s.counted as u64);
             named(rt, b", cycles ", s.cycles as u64);
             signed(rt, b", outside ", s.outside);
             signed(rt, b", drawn ", s.drawn);
         }
-        TotalsAnswer::Refused(n) => named(rt, b": refused ", n as u64),
+        Err(refusal) => named(rt, b": refused ", u64::from(refusal.number())),
     }
 }
 
-pub fn shown(rt: HostRuntime, answer: ShownAnswer) {
+pub fn shown(rt: HostRuntime, answer: Result<Counts, Refusal>) {
     match answer {
-        ShownAnswer::Counted(c) => {
+        Ok(c) => {
             named(rt, b", ones ", c.ones);
             signed(rt, b", outside ", c.outside);
             named(rt, b", agree ", c.agree as u64);
         }
-        ShownAnswer::Refused(n) => named(rt, b", refused ", n as u64),
+        Err(refusal) => named(rt, b", refused ", u64::from(refusal.number())),
     }
 }
 

@@ -11,7 +11,7 @@ ghost use Rattle.prints.specs.Printed.{next_field, sheet_on, close_text};
 
 use desk::{Desk, desk_refusal};
 use figures::figures_on;
-use reader::{Ending, ended};
+use reader::ended;
 use sheet::{refusal_line, sheet_lines};
 
 // "K is the number of accepted fields .. plus one".
@@ -25,13 +25,14 @@ fn next_field(fields: u64) -> u64
 }
 
 // A refused field.
+// Stays: the number and no `Refusal`, here and in the lines below it: the line of every number is promised (`refuse_text`).
 pub fn refuse(desk: Desk, number: u32, out: &mut [u8]) -> usize
     ensures value { result ≡ unless 0 (leb most_sheet (length out.old)) (length (refusal_text number (next_field desk.fields))) }
     ensures out_after { out.new
         ≡ unless out.old (leb most_sheet (length out.old))
         (overlaid out.old 0 (refusal_text number (next_field desk.fields))) }
 {
-    refusal_line(number, next_field(desk.fields), &mut *out)
+    refusal_line(number, next_field(desk.fields), out)
 }
 
 // A record that was read to its end, on a desk without 1 or 2.
@@ -42,12 +43,11 @@ fn print_run(desk: Desk, ledger: &[i64], out: &mut [u8]) -> usize
         ≡ unless out.old (leb most_sheet (length out.old))
         (overlaid out.old 0 (sheet_on desk.reading ledger.now)) }
 {
-    let reading = desk.reading;
-    let figures = figures_on(reading, ledger);
-    sheet_lines(figures, &mut *out)
+    sheet_lines(figures_on(desk.reading, ledger), out)
 }
 
 // The input ends, with so many bytes of an unfinished field left over.
+// Stays: beside `tracing::trace_close`: two tests and two ways out, each with a promise about another text and other room.
 pub fn close(
     desk: Desk,
     left: usize,
@@ -62,14 +62,11 @@ pub fn close(
         ≡ unless out.old (leb most_sheet (length out.old))
         (overlaid out.old 0 (close_text (laid_of desk room.now ledger.now map.now) left)) }
 {
-    let refusal = desk_refusal(desk, room, ledger, map);
-    if refusal != 0 {
-        return refuse(desk, refusal, &mut *out);
+    if let Err(refusal) = desk_refusal(desk, room, ledger, map) {
+        return refuse(desk, refusal.number(), out);
     }
-    let started = desk.started;
-    let ending = ended(started, left);
-    match ending {
-        Ending::Refused(number) => refuse(desk, number, &mut *out),
-        Ending::Whole => print_run(desk, ledger, &mut *out),
+    match ended(desk.started, left) {
+        Err(unfinished) => refuse(desk, unfinished.number(), out),
+        Ok(()) => print_run(desk, ledger, out),
     }
 }

@@ -7,15 +7,12 @@ use borrow.Author.Tests.{eqb-true}
 use lib.Dec.{eqb}
 use Rattle.rules.specs.Words.{unless}
 use Rattle.laws.specs.Answers.{Said, gives, refuses}
-use Rattle.laws.proofs.Answers.{known_by}
 use Rattle.reading.specs.declared.Reading.{Reading}
 use Rattle.reading.specs.Answers.{ReadSaid, AllSaid}
 use Rattle.reading.proofs.Answered.{same_step}
 use Rattle.reader.specs.declared.AllAnswer.{AllAnswer}
-use Rattle.reader.specs.declared.Ending.{Ending}
-use Rattle.reader.specs.declared.Ending.TheVariants.{Whole, Refused}
 use Rattle.reader.specs.declared.ReadAnswer.{ReadAnswer}
-use Rattle.reader.specs.Answers.{read_said, all_said, may_end, ending_said, ending_of}
+use Rattle.reader.specs.Answers.{read_said, all_said, may_end, ending_of}
 
 -- only after the start, and where no byte is left over
 pub only_whole : (s : Bool) (n : ℕ) → ending_of s n ≡ may_end → (s ≡ true) × (n ≡ 0)
@@ -38,14 +35,3 @@ pub same_all : (x y : AllAnswer) → all_said x ≡ all_said y → x ≡ y
 same_all x y e =
     let last_is = same_step x.last y.last (ap (λ (z : AllSaid Reading). z.last) e) in
     λ i. record { reading = (e i).state; fields = (e i).fields; used = (e i).used; last = last_is i }
-
-pub same_ending : (x y : Ending) → ending_said x ≡ ending_said y → x ≡ y
-same_ending = known_by ending_said back known
-  where
-    back : Said (Unit {0}) → Ending
-    back (gives _) = Whole
-    back (refuses n) = Refused n
-
-    known : (x : Ending) → back (ending_said x) ≡ x
-    known Whole = refl
-    known (Refused n) = refl

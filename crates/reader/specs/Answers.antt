@@ -9,8 +9,6 @@ use Rattle.records.specs.Stage.{Stage, reply_on, run_on, stage_after}
 use Rattle.reading.specs.declared.Reading.{Reading}
 use Rattle.reading.specs.Answers.{unfinished, step_said, reply_said, ReadSaid, AllSaid, stage_at, reading_of, read_ground}
 use Rattle.reader.specs.declared.AllAnswer.{AllAnswer}
-use Rattle.reader.specs.declared.Ending.{Ending}
-use Rattle.reader.specs.declared.Ending.TheVariants as ending
 use Rattle.reader.specs.declared.ReadAnswer.{ReadAnswer}
 
 -- ---- what the answers say
@@ -24,10 +22,6 @@ all_said a = record { state = a.reading; fields = a.fields; used = a.used; last 
 -- the input may end
 abbrev pub may_end : Said (Unit {0})
 may_end = gives tt
-
-abbrev pub ending_said : Ending → Said (Unit {0})
-ending_said ending.Whole = may_end
-ending_said (ending.Refused n) = refuses n
 
 -- ---- the answers
 

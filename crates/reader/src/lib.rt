@@ -2,27 +2,21 @@
 #![tactic(auto)]
 
 ghost use Rattle.std.specs.Prelude.{◌≡◌};
+ghost use Rattle.laws.specs.Answers.{answer_said};
 ghost use Rattle.state.specs.State.{left};
 ghost use Rattle.opening.specs.Answers.{unopened, open_left, front_opened};
 ghost use Rattle.reading.specs.Answers.{started_reading, read_ground};
-ghost use Rattle.reader.specs.Answers.{read_said, all_said, ending_said, read_left, all_left, ending_of};
+ghost use Rattle.reader.specs.Answers.{read_said, all_said, read_left, all_left, ending_of};
 
-use fields::{Front, front_of};
+use fields::front_of;
 use opening::{OpenAnswer, OpenStep, Opening};
 use reading::{Reading, Step};
-use rules::{Amounts, Charge};
+use rules::{Amounts, Refusal};
 use state::Run;
-
-// Whether the input may end here.
-#[derive(Clone, Copy)]
-pub enum Ending {
-    Whole,
-    Refused(u32),
-}
 
 #[derive(Clone, Copy)]
 pub struct ReadAnswer {
-    pub step: Step,
+    pub step: Result<Step, Refusal>,
     pub reading: Reading,
 }
 
@@ -32,7 +26,7 @@ pub struct AllAnswer {
     pub reading: Reading,
     pub fields: usize,
     pub used: usize,
-    pub last: Step,
+    pub last: Result<Step, Refusal>,
 }
 
 // Before the first field: until field 2 the vehicle is seventeen times the character 0.
@@ -57,24 +51,28 @@ pub fn open(
     ensures { open_left result room.new ledger.new map.new
         ≡ front_opened opening room.old ledger.old map.old input.now }
 {
-    let a = opening::open_refusal(opening, &room[..]);
-    if a != 0 {
-        return opening::refused_at(opening, a);
+    if let Err(refusal) = opening::open_refusal(opening, room) {
+        return OpenAnswer {
+            step: Err(refusal),
+            opening,
+        };
     }
-    let front = front_of(input);
-    match front {
-        Front::Incomplete => OpenAnswer {
-            step: OpenStep::Incomplete,
+    match front_of(input) {
+        Ok(None) => OpenAnswer {
+            step: Ok(OpenStep::Incomplete),
             opening,
         },
-        Front::Impossible => opening::refused_at(opening, 8),
-        Front::Field(tag, n) => opening::open_whole(
+        Err(impossible) => OpenAnswer {
+            step: Err(impossible),
             opening,
-            &mut *room,
-            &mut *ledger,
-            &mut *map,
-            tag,
-            &input[3..3 + n],
+        },
+        Ok(Some(front)) => opening::open_whole(
+            opening,
+            room,
+            ledger,
+            map,
+            front.tag,
+            &input[3..3 + front.size],
         ),
     }
 }
@@ -91,7 +89,7 @@ pub fn reading_of(opening: Opening, run: Run) -> Reading
         amounts: Amounts {
             before: 0,
             after: 0,
-            charge: Charge::Absent,
+            charge: None,
         },
         run,
     }
@@ -108,23 +106,19 @@ pub fn read(
     ensures { left (read_said result) ledger.new map.new
         ≡ read_left reading cycle.now ledger.old map.old input.now }
 {
-    let a = reading::read_refusal(reading, cycle, &ledger[..], &map[..]);
-    if a != 0 {
+    if let Err(ground) = reading::read_refusal(reading, cycle, ledger, map) {
         return ReadAnswer {
-            step: Step::Refused(a),
+            step: Err(ground),
             reading,
         };
     }
     let me = reading.vehicle;
-    let run = reading.run;
-    let t = run.track.tolerances;
+    let t = reading.run.track.tolerances;
     let k = reading::along_at(reading, cycle);
-    let x = reading::one_field(&me[..], cycle, t, k, &mut *ledger, &mut *map, input);
-    let on = x.along;
-    let step = x.step;
+    let x = reading::one_field(&me, cycle, t, k, ledger, map, input);
     ReadAnswer {
-        step,
-        reading: reading::with_along(reading, on),
+        step: x.step,
+        reading: reading::with_along(reading, x.along),
     }
 }
 
@@ -141,17 +135,14 @@ pub fn read_fields(
         ≡ all_left reading cycle.now ledger.old map.old input.now }
 {
     let me = reading.vehicle;
-    let run = reading.run;
-    let t = run.track.tolerances;
+    let t = reading.run.track.tolerances;
     let k = reading::along_at(reading, cycle);
-    let x = reading::all_fields(&me[..], cycle, t, k, &mut *ledger, &mut *map, input);
-    let on = x.along;
-    let last = x.last;
+    let x = reading::all_fields(&me, cycle, t, k, ledger, map, input);
     AllAnswer {
-        reading: reading::with_along(reading, on),
+        reading: reading::with_along(reading, x.along),
         fields: x.fields,
         used: x.used,
-        last,
+        last: x.last,
     }
 }
 
@@ -166,27 +157,26 @@ pub fn read_all(
     ensures { left (all_said result) ledger.new map.new
         ≡ all_left reading cycle.now ledger.old map.old input.now }
 {
-    let a = reading::read_refusal(reading, cycle, &ledger[..], &map[..]);
-    if a != 0 {
+    if let Err(ground) = reading::read_refusal(reading, cycle, ledger, map) {
         return AllAnswer {
             reading,
             fields: 0,
             used: 0,
-            last: Step::Refused(a),
+            last: Err(ground),
         };
     }
-    read_fields(reading, input, cycle, &mut *ledger, &mut *map)
+    read_fields(reading, input, cycle, ledger, map)
 }
 
 // Whether the input may end where the run has started or not, with so many bytes of an unfinished field left.
-pub fn ended(started: bool, left: usize) -> Ending
-    ensures { ending_said result ≡ ending_of started left }
+pub fn ended(started: bool, left: usize) -> Result<(), Refusal>
+    ensures { answer_said result ≡ ending_of started left }
 {
     if !started {
-        return Ending::Refused(15);
+        return Err(Refusal::Unfinished);
     }
     if left != 0 {
-        return Ending::Refused(15);
+        return Err(Refusal::Unfinished);
     }
-    Ending::Whole
+    Ok(())
 }

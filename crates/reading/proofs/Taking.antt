@@ -12,7 +12,7 @@ use mir.Val.{SFits, to_z, of_z}
 use Rattle.rules.specs.Words.{unless}
 use Rattle.numbers.proofs.Signed.{read}
 use Rattle.rules.specs.declared.Amounts.{Amounts}
-use Rattle.rules.specs.declared.Charge.{Charge}
+use Rattle.rules.specs.Closing.{Charge}
 use Rattle.rules.specs.declared.Tolerances.{Tolerances}
 use Rattle.rules.specs.declared.Stretches.{Stretches}
 use Rattle.rules.specs.declared.Method.TheVariants.{Shortened}
@@ -36,8 +36,8 @@ use Rattle.step.proofs.Fresh.{fresh_standing}
 use Rattle.blocks.specs.Blocks.{block_taken}
 use Rattle.records.specs.Stage.{Stage, content_on, bring_on, pass_on, take_on}
 use Rattle.records.proofs.Later.{taken_list}
-use Rattle.contents.specs.declared.Content.{Content}
-use Rattle.contents.specs.declared.Content.TheVariants.{Brought, Foreign, Refused}
+use Rattle.std.specs.Prelude.{Option, Some, None, Result, Ok, Err}
+use Rattle.rules.specs.declared.Refusal.{Refusal}
 use Rattle.contents.specs.declared.Bring.{Bring}
 use Rattle.contents.specs.declared.Bring.TheVariants.{Stretch, Samples, Before, After, Recharge}
 use Rattle.contents.specs.Content.{bring_said, content_said, later_content}
@@ -104,16 +104,16 @@ module _ (b : List ℕ) (t : Tolerances) (k : Along) (l : List ℤ) (m : List �
   -- ---- the content of a field, of n bytes
 
   module _ (v : List ℕ) (n : ℕ) where
-    pub by_content : {c d : Content} {y : Left (ReadSaid Along)} → c ≡ d → y ≡ content_taken b t k l m v d n → y ≡ content_taken b t k l m v c n
-    by_content e h = h ∙ ap (λ (x : Content). content_taken b t k l m v x n) (sym e)
+    pub by_content : {c d : Result (Option Bring) Refusal} {y : Left (ReadSaid Along)} → c ≡ d → y ≡ content_taken b t k l m v d n → y ≡ content_taken b t k l m v c n
+    by_content e h = h ∙ ap (λ (x : Result (Option Bring) Refusal). content_taken b t k l m v x n) (sym e)
 
     abbrev after_bring : Left Along → Left (ReadSaid Along)
     after_bring y = record { answer = record { says = gives (reads n); state = y.answer }; memory = y.memory }
 
-    pub brought_taken : (g : Bring) {y : Left Along} → y ≡ bring_taken b t k l m v g → after_bring y ≡ content_taken b t k l m v (Brought g) n
+    pub brought_taken : (g : Bring) {y : Left Along} → y ≡ bring_taken b t k l m v g → after_bring y ≡ content_taken b t k l m v (Ok (Some g)) n
     brought_taken g e = ap after_bring e
 
-    pub passed_taken : Kept p (left k.taken l m) → {r : Along} → r ≡ with_passed k → left {A = ReadSaid Along} (record { says = gives (passes n); state = r }) l m ≡ content_taken b t k l m v Foreign n
+    pub passed_taken : Kept p (left k.taken l m) → {r : Along} → r ≡ with_passed k → left {A = ReadSaid Along} (record { says = gives (passes n); state = r }) l m ≡ content_taken b t k l m v (Ok None) n
     passed_taken h e =
         (λ i. left {A = ReadSaid Along} (record { says = gives (passes n); state = e i }) l m)
         ∙ (λ i. left {A = ReadSaid Along} (record { says = gives (passes n); state = record { place = from_start k.place i; passed = k.passed + 1; amounts = k.amounts; method = k.method; taken = taking (h.stands i) k.taken.stretched } }) l m)
@@ -149,13 +149,13 @@ module _ (b : List ℕ) (t : Tolerances) (k : Along) (l : List ℤ) (m : List �
 
     -- ---- a whole field f of an allowed length, whose content is c
 
-    module _ (f : Field) (c : Content) (a : length_allowed tags f.tag (length f.value) ≡ true)
+    module _ (f : Field) (c : Result (Option Bring) Refusal) (a : length_allowed tags f.tag (length f.value) ≡ true)
         (e : content_said f.value c ≡ later_content me k.place k.passed k.taken.going.progress.offered f) where
       abbrev row : (d : Comes-in) → Type 0
       row = ByRow tags (behind_tolerances + k.place) (content_of k.passed me [] k.taken.going.progress.offered) f
 
       -- what it says that something is brought
-      says_it : (g : Bring) → c ≡ Brought g
+      says_it : (g : Bring) → c ≡ Ok (Some g)
           → Says k.passed me [] k.taken.going.progress.offered f.tag f.value (behind_tolerances + k.place) (bring_said f.value g)
           × (place_after tags (behind_tolerances + k.place) f.tag f.value ≡ moves_to (bring_said f.value g))
       says_it g d =
@@ -188,15 +188,15 @@ module _ (b : List ℕ) (t : Tolerances) (k : Along) (l : List ℤ) (m : List �
             (says_foreign k.passed me [] k.taken.going.progress.offered f.tag f.value (behind_tolerances + k.place) w.row w.one w.stands w.brings).0;
       }
         where
-          says_as : (g : Bring) → c ≡ Brought g → (z : Bring) → g ≡ z
+          says_as : (g : Bring) → c ≡ Ok (Some g) → (z : Bring) → g ≡ z
               → Says k.passed me [] k.taken.going.progress.offered f.tag f.value (behind_tolerances + k.place) (bring_said f.value z)
           says_as g d z s = subst (λ (y : Bring). Says k.passed me [] k.taken.going.progress.offered f.tag f.value (behind_tolerances + k.place) (bring_said f.value y)) s (says_it g d).0
 
-          own : (g : Bring) → c ≡ Brought g → g ≡ Samples
+          own : (g : Bring) → c ≡ Ok (Some g) → g ≡ Samples
               → Says k.passed me [] k.taken.going.progress.offered f.tag f.value (behind_tolerances + k.place) (own_samples (moments_in (samples_of f.value)))
           own g d s = says_as g d Samples s
 
-          short : (g : Bring) → c ≡ Brought g → (y : Stretches) → g ≡ Stretch y
+          short : (g : Bring) → c ≡ Ok (Some g) → (y : Stretches) → g ≡ Stretch y
               → Says k.passed me [] k.taken.going.progress.offered f.tag f.value (behind_tolerances + k.place) (the_stretches y)
           short g d y s = says_as g d (Stretch y) s
 
@@ -208,14 +208,14 @@ module _ (b : List ℕ) (t : Tolerances) (k : Along) (l : List ℤ) (m : List �
       same_brought q (After z) = refl
       same_brought q (Recharge z) = refl
 
-      same_answer : (d : Content) → c ≡ d
+      same_answer : (d : Result (Option Bring) Refusal) → c ≡ d
           → content_taken b t k l m f.value d (bytes_of f)
           ≡ stepped_left x (to_field (answer_by (bring_on x (place_after tags x.place f.tag f.value)) (pass_on x) (content_said f.value d)) (bytes_of f))
-      same_answer (Brought g) d =
+      same_answer (Ok (Some g)) d =
           (λ i. let y = same_brought (behind_tolerances + place_of g) g i in record { answer = record { says = gives (reads (bytes_of f)); state = y.answer }; memory = y.memory })
           ∙ ap (λ (q : ℕ). stepped_left x (to_field (taken (bring_on x q (bring_said f.value g))) (bytes_of f))) (sym ((says_it g d).1 ∙ moves_to_lem g))
-      same_answer Foreign d = refl
-      same_answer (Refused n) d = refl
+      same_answer (Ok None) d = refl
+      same_answer (Err e) d = refl
 
       pub content_whole : content_taken b t k l m f.value c (bytes_of f) ≡ whole_taken b t k l m me f
       content_whole =

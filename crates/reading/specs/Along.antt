@@ -1,6 +1,6 @@
 -- A reading while fields are taken: its own numbers and where its run stands, beside the lent memory.
 -- Assumes nothing.
-use Rattle.std.specs.Prelude.{true, List, [], ◌≡◌, ℕ, ◌+◌, ◌-◌, ◌≤◌, ℤ, length}
+use Rattle.std.specs.Prelude.{true, List, [], ◌≡◌, ℕ, ◌+◌, ◌-◌, ◌≤◌, ℤ, length, Option, Some, None, Result, Ok, Err}
 use Rattle.rules.specs.declared.Amounts.{Amounts}
 use Rattle.rules.specs.declared.Tolerances.{Tolerances}
 use Rattle.rules.specs.declared.Stretches.{Stretches}
@@ -18,8 +18,7 @@ use Rattle.state.specs.Refusals.{with_method}
 use Rattle.step.specs.Step.{run_to}
 use Rattle.step.specs.Where.{Kept, with_memory, standing, taking, taken_at}
 use Rattle.records.specs.Stage.{Stage, plan_on, bring_on, pass_on, take_on, reply_on, run_on, stage_after}
-use Rattle.contents.specs.declared.Content.{Content}
-use Rattle.contents.specs.declared.Content.TheVariants.{Brought, Foreign, Refused}
+use Rattle.rules.specs.declared.Refusal.{Refusal}
 use Rattle.contents.specs.declared.Bring.{Bring}
 use Rattle.contents.specs.declared.Bring.TheVariants.{Stretch, Samples, Before, After, Recharge}
 use Rattle.contents.specs.Content.{bring_said, content_said}
@@ -110,10 +109,10 @@ place_of (Before e) = 2
 place_of (After e) = 4
 place_of (Recharge w) = 5
 
-abbrev pub place_by : Content → ℕ
-place_by (Brought b) = place_of b
-place_by Foreign = 0
-place_by (Refused n) = 0
+abbrev pub place_by : Result (Option Bring) Refusal → ℕ
+place_by (Ok (Some b)) = place_of b
+place_by (Ok None) = 0
+place_by (Err e) = 0
 
 module _ (b : List ℕ) (t : Tolerances) (k : Along) (l : List ℤ) (m : List ℕ) where
   -- the vehicle has no part in what is brought
@@ -124,7 +123,7 @@ module _ (b : List ℕ) (t : Tolerances) (k : Along) (l : List ℤ) (m : List �
   bring_taken v c = along_left (bring_on stage_here (behind_tolerances + place_of c) (bring_said v c))
 
   -- the content c of the value v, in a field of n bytes
-  abbrev pub content_taken : List ℕ → Content → ℕ → Left (ReadSaid Along)
+  abbrev pub content_taken : List ℕ → Result (Option Bring) Refusal → ℕ → Left (ReadSaid Along)
   content_taken v c n = stepped_left stage_here (to_field (answer_by (bring_on stage_here (behind_tolerances + place_by c)) (pass_on stage_here) (content_said v c)) n)
 
   module _ (me : List ℕ) where
@@ -148,10 +147,10 @@ pub record Brings (p : Plan) (y : Left Along) (v : List ℕ) (b : Bring) : Type 
   pub samples : b ≡ Samples → are_samples (samples_of v) (count_in (samples_of v)) ≡ true
 
 -- and the content of a field with it
-pub record Takes (p : Plan) (y : Left Along) (v : List ℕ) (c : Content) : Type 0 where
+pub record Takes (p : Plan) (y : Left Along) (v : List ℕ) (c : Result (Option Bring) Refusal) : Type 0 where
   pub kept : Kept p (left y.answer.taken y.memory.ledger y.memory.map)
-  pub brings : (b : Bring) → c ≡ Brought b → Brings p y v b
-  pub count : c ≡ Foreign → y.answer.passed + 1 ≤ most_passed
+  pub brings : (b : Bring) → c ≡ Ok (Some b) → Brings p y v b
+  pub count : c ≡ Ok None → y.answer.passed + 1 ≤ most_passed
 
 -- what holds of a reading while fields are taken
 pub record Ready (me : List ℕ) (p : Plan) (y : Left Along) : Type 0 where

@@ -1,6 +1,8 @@
 -- A reading on its lent memory: what is tested before all else, and its answers by the machine over the record's state.
 -- Assumes nothing.
-use Rattle.std.specs.Prelude.{Bool, true, cond, ◌&&◌, List, ℕ, ◌+◌, ◌-◌, leb, eqb, ℤ}
+use Rattle.std.specs.Prelude.{Bool, true, cond, ◌&&◌, List, ℕ, ◌+◌, ◌-◌, leb, eqb, ℤ, Result, Ok, Err}
+use Rattle.rules.specs.Numbered.{number}
+use Rattle.rules.specs.declared.Refusal.{Refusal}
 use Rattle.rules.specs.Words.{unless}
 use Rattle.rules.specs.Bench.{most_passed}
 use Rattle.values.specs.Limits.{are_amounts}
@@ -15,7 +17,7 @@ use Rattle.state.specs.Refusals.{with_method}
 use Rattle.step.specs.Step.{state_of, run_to}
 use Rattle.records.specs.Stage.{Stage}
 pub use Rattle.reading.specs.declared.Step.{Step}
-use Rattle.reading.specs.declared.Step.TheVariants.{Taken, Passed, Incomplete, Refused}
+use Rattle.reading.specs.declared.Step.TheVariants.{Taken, Passed, Incomplete}
 use Rattle.reading.specs.declared.Reading.{Reading}
 
 -- the reading that starts, for this vehicle and run
@@ -55,11 +57,11 @@ pub data FieldRead : Type 0 where
   unfinished : FieldRead
 
 -- what the cases say
-abbrev pub step_said : Step → Said FieldRead
-step_said (Taken n) = gives (reads n)
-step_said (Passed n) = gives (passes n)
-step_said Incomplete = gives unfinished
-step_said (Refused n) = refuses n
+abbrev pub step_said : Result Step Refusal → Said FieldRead
+step_said (Ok (Taken n)) = gives (reads n)
+step_said (Ok (Passed n)) = gives (passes n)
+step_said (Ok Incomplete) = gives unfinished
+step_said (Err e) = refuses (number e)
 
 -- what the machine says of the field at the front
 abbrev pub reply_said : Reply Stage → Said FieldRead

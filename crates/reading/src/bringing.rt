@@ -7,42 +7,32 @@ ghost use Rattle.reading.specs.Along.{stepped_said, with_passed, with_amounts, w
 
 use crate::{Along, Step, Stepped};
 use blocks::take_block;
-use contents::{Bring, Content};
-use rules::{Amounts, Charge, Method, Stretches, Tolerances};
+use contents::Bring;
+use rules::{Amounts, Method, Refusal, Stretches, Tolerances};
 
 // "only the passed-over count rises".
 fn with_passed(k: Along) -> Along
     requires { k.passed + 1 ≤ most_passed }
     ensures { result ≡ with_passed k }
 {
-    let amounts = k.amounts;
-    let method = k.method;
-    let taken = k.taken;
     Along {
-        place: k.place,
         passed: k.passed + 1,
-        amounts,
-        method,
-        taken,
+        ..k
     }
 }
 
 // An amount is brought, and moves the place in the order.
-fn with_amounts(k: Along, place: u32, before: i64, after: i64, charge: Charge) -> Along
+fn with_amounts(k: Along, place: u32, before: i64, after: i64, charge: Option<u32>) -> Along
     ensures { result ≡ with_amounts k place (record { before = before; after = after; charge = charge }) }
 {
-    let method = k.method;
-    let taken = k.taken;
     Along {
         place,
-        passed: k.passed,
         amounts: Amounts {
             before,
             after,
             charge,
         },
-        method,
-        taken,
+        ..k
     }
 }
 
@@ -50,14 +40,10 @@ fn with_amounts(k: Along, place: u32, before: i64, after: i64, charge: Charge) -
 fn with_stretches(k: Along, x: Stretches) -> Along
     ensures { result ≡ with_stretches k x }
 {
-    let amounts = k.amounts;
-    let taken = k.taken;
     Along {
         place: 1,
-        passed: k.passed,
-        amounts,
         method: Method::Shortened(x),
-        taken,
+        ..k
     }
 }
 
@@ -86,11 +72,11 @@ fn bring(
             passed: k.passed,
             amounts,
             method,
-            taken: take_block(cycle, t, method, taken, &mut *ledger, &mut *map, &v[21..]),
+            taken: take_block(cycle, t, method, taken, ledger, map, &v[21..]),
         },
         Bring::Before(energy) => with_amounts(k, 2, energy, amounts.after, charge),
         Bring::After(energy) => with_amounts(k, 4, amounts.before, energy, charge),
-        Bring::Recharge(wh) => { with_amounts(k, 5, amounts.before, amounts.after, Charge::Wh(wh)) }
+        Bring::Recharge(wh) => { with_amounts(k, 5, amounts.before, amounts.after, Some(wh)) }
     }
 }
 
@@ -102,7 +88,7 @@ pub fn take_content(
     ledger: &mut [i64],
     map: &mut [u64],
     v: &[u8],
-    c: Content,
+    c: Result<Option<Bring>, Refusal>,
     n: usize,
 ) -> Stepped
     requires { Takes (plan cycle.now t k.method) (left k ledger.old map.old) v.now c }
@@ -110,16 +96,16 @@ pub fn take_content(
         ≡ content_taken cycle.now t k ledger.old map.old v.now c n }
 {
     match c {
-        Content::Brought(b) => Stepped {
-            step: Step::Taken(n),
-            along: bring(cycle, t, k, &mut *ledger, &mut *map, v, b),
+        Ok(Some(b)) => Stepped {
+            step: Ok(Step::Taken(n)),
+            along: bring(cycle, t, k, ledger, map, v, b),
         },
-        Content::Foreign => Stepped {
-            step: Step::Passed(n),
+        Ok(None) => Stepped {
+            step: Ok(Step::Passed(n)),
             along: with_passed(k),
         },
-        Content::Refused(x) => Stepped {
-            step: Step::Refused(x),
+        Err(refusal) => Stepped {
+            step: Err(refusal),
             along: k,
         },
     }

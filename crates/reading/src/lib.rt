@@ -11,18 +11,20 @@ ghost use Rattle.rules.specs.Table.{length_allowed, tags};
 ghost use Rattle.reading.specs.Answers.{step_said, bytes_of, read_ground};
 ghost use Rattle.rules.specs.Plan.{plan};
 ghost use Rattle.values.specs.Limits.{is_method};
+ghost use Rattle.laws.specs.Answers.{refused_by};
 ghost use Rattle.state.specs.State.{left};
 ghost use Rattle.reading.specs.Along.{along_at, stepped_said, passage_said, with_along, whole_taken, front_taken, all_taken, Ready};
 
 use bringing::take_content;
 use contents::content_of;
-use fields::{Front, front_of};
+use fields::front_of;
 use own::is_reading;
-use rules::{Amounts, Method, Tolerances};
+use rules::{Amounts, Method, Refusal, Tolerances};
 use state::{Run, ground_refusal, with_method};
 use step::{Taken, going_at, with_taken};
 
 // After the start. Place in the order: 0 after the tolerances, 1 after a field 8, 2 after a 6 before, 3 after an own block, 4 after a 6 after, 5 after a 7.
+// Stays: the place is a number, since one past the last is a state that `is_reading` refuses 1 (crates/refusals tries 6).
 #[derive(Clone, Copy)]
 pub struct Reading {
     pub vehicle: [u8; 17],
@@ -32,13 +34,12 @@ pub struct Reading {
     pub run: Run,
 }
 
-// What became of a field after the start: taken with so many bytes, passed over, not finished, or the number of a refusal.
+// What became of a field after the start: taken with so many bytes, passed over, or not finished.
 #[derive(Clone, Copy)]
 pub enum Step {
     Taken(usize),
     Passed(usize),
     Incomplete,
-    Refused(u32),
 }
 
 // A reading while fields are taken: what changes in it, and where its run stands.
@@ -54,7 +55,7 @@ pub struct Along {
 // The answer to a field, and the reading with it.
 #[derive(Clone, Copy)]
 pub struct Stepped {
-    pub step: Step,
+    pub step: Result<Step, Refusal>,
     pub along: Along,
 }
 
@@ -64,18 +65,17 @@ pub struct Passage {
     pub along: Along,
     pub fields: usize,
     pub used: usize,
-    pub last: Step,
+    pub last: Result<Step, Refusal>,
 }
 
-// 1 or 2, or 0 where a field may be looked at.
-pub fn read_refusal(r: Reading, cycle: &[u8], ledger: &[i64], map: &[u64]) -> u32
-    ensures { result ≡ read_ground r cycle.now ledger.now map.now }
+// 1 or 2, unless a field may be looked at.
+pub fn read_refusal(r: Reading, cycle: &[u8], ledger: &[i64], map: &[u64]) -> Result<(), Refusal>
+    ensures { refused_by result ≡ read_ground r cycle.now ledger.now map.now }
 {
     if !is_reading(r) {
-        return 1;
+        return Err(Refusal::Ground);
     }
-    let run = r.run;
-    ground_refusal(run, cycle, ledger, map)
+    ground_refusal(r.run, cycle, ledger, map)
 }
 
 // Where the reading stands.
@@ -86,17 +86,15 @@ pub fn along_at(r: Reading, cycle: &[u8]) -> Along
     ensures { result ≡ along_at r cycle.now }
 {
     let run = r.run;
-    let track = run.track;
-    let method = track.method;
-    let amounts = r.amounts;
-    let stretched = run.stretched;
-    let going = going_at(cycle, run);
     Along {
         place: r.place,
         passed: r.passed,
-        amounts,
-        method,
-        taken: Taken { going, stretched },
+        amounts: r.amounts,
+        method: run.track.method,
+        taken: Taken {
+            going: going_at(cycle, run),
+            stretched: run.stretched,
+        },
     }
 }
 
@@ -104,17 +102,12 @@ pub fn along_at(r: Reading, cycle: &[u8]) -> Along
 pub fn with_along(r: Reading, k: Along) -> Reading
     ensures { result ≡ with_along r k }
 {
-    let vehicle = r.vehicle;
-    let run = r.run;
-    let amounts = k.amounts;
-    let method = k.method;
-    let taken = k.taken;
     Reading {
-        vehicle,
         place: k.place,
         passed: k.passed,
-        amounts,
-        run: with_taken(with_method(run, method), taken),
+        amounts: k.amounts,
+        run: with_taken(with_method(r.run, k.method), k.taken),
+        ..r
     }
 }
 
@@ -133,9 +126,9 @@ fn whole_field(
     ensures { left (stepped_said result) ledger.new map.new
         ≡ whole_taken cycle.now t k ledger.old map.old me.now (record { tag = tag; value = v.now }) }
 {
-    let going = k.taken.going;
-    let c = content_of(me, k.place, k.passed, going.progress.offered, tag, v);
-    take_content(cycle, t, k, &mut *ledger, &mut *map, v, c, 3 + v.len())
+    let offered = k.taken.going.progress.offered;
+    let c = content_of(me, k.place, k.passed, offered, tag, v);
+    take_content(cycle, t, k, ledger, map, v, c, 3 + v.len())
 }
 
 // The field at the front of the input.
@@ -152,40 +145,40 @@ pub fn one_field(
     ensures { left (stepped_said result) ledger.new map.new
         ≡ front_taken cycle.now t k ledger.old map.old me.now input.now }
 {
-    let front = front_of(input);
-    match front {
-        Front::Incomplete => Stepped {
-            step: Step::Incomplete,
+    match front_of(input) {
+        Ok(None) => Stepped {
+            step: Ok(Step::Incomplete),
             along: k,
         },
-        Front::Impossible => Stepped {
-            step: Step::Refused(8),
+        Err(refusal) => Stepped {
+            step: Err(refusal),
             along: k,
         },
-        Front::Field(tag, n) => {
+        Ok(Some(front)) => {
             whole_field(
                 me,
                 cycle,
                 t,
                 k,
-                &mut *ledger,
-                &mut *map,
-                tag,
-                &input[3..3 + n],
+                ledger,
+                map,
+                front.tag,
+                &input[3..3 + front.size],
             )
         }
     }
 }
 
 // How many bytes an accepted field has; 0 where the answer accepts none.
-fn bytes_of(step: Step) -> usize
+// Stays: 0 and no Option, as `bytes_of` of the specs says it and the laws of the loop take it.
+fn bytes_of(step: Result<Step, Refusal>) -> usize
     ensures { result ≡ bytes_of (step_said step) }
 {
     match step {
-        Step::Taken(n) => n,
-        Step::Passed(n) => n,
-        Step::Incomplete => 0,
-        Step::Refused(_) => 0,
+        Ok(Step::Taken(n)) => n,
+        Ok(Step::Passed(n)) => n,
+        Ok(Step::Incomplete) => 0,
+        Err(_) => 0,
     }
 }
 
@@ -207,17 +200,17 @@ pub fn all_fields(
     let mut along = k;
     let mut fields = 0;
     let mut used = 0;
+    // Stays: no index is counted; each field's own size leads on, and the answer that ends the loop is handed out.
     while used < size {
-        let x = one_field(me, cycle, t, along, &mut *ledger, &mut *map, &input[used..]);
+        let x = one_field(me, cycle, t, along, ledger, map, &input[used..]);
         along = x.along;
-        let last = x.step;
-        let n = bytes_of(last);
+        let n = bytes_of(x.step);
         if n == 0 {
             return Passage {
                 along,
                 fields,
                 used,
-                last,
+                last: x.step,
             };
         }
         fields += 1;
@@ -227,6 +220,6 @@ pub fn all_fields(
         along,
         fields,
         used,
-        last: Step::Incomplete,
+        last: Ok(Step::Incomplete),
     }
 }

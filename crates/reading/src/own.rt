@@ -11,29 +11,17 @@ use values::are_amounts;
 fn is_fresh(place: u32, offered: u32) -> bool
     ensures { result ≡ is_fresh place offered }
 {
-    if place <= 2 {
-        return offered == 0;
-    }
-    true
+    2 < place || offered == 0
 }
 
 // Whether no number of the reader's own is beyond its limits.
+#[tactic(auto, unfolding(crate::specs::Answers::is_reading))]
 pub fn is_reading(r: Reading) -> bool
     ensures { result ≡ is_reading r }
 {
-    if 5 < r.place {
-        return false;
-    }
-    if !is_fresh(r.place, r.run.progress.offered) {
-        return false;
-    }
-    if MOST_PASSED < r.passed {
-        return false;
-    }
-    let amounts = r.amounts;
-    if !are_amounts(amounts) {
-        return false;
-    }
-    let vehicle = r.vehicle;
-    is_number(&vehicle[..])
+    r.place <= 5
+        && is_fresh(r.place, r.run.progress.offered)
+        && r.passed <= MOST_PASSED
+        && are_amounts(r.amounts)
+        && is_number(&r.vehicle)
 }

@@ -6,7 +6,7 @@ use mathlib.Core.Path.{◌≡◌, refl, ap, subst, ◌∙◌}
 use Prim.Native.Nat.{ℕ, ◌≤◌}
 use native.Mathlib.Omega.{arith}
 use lib.ListN.{length}
-use Rattle.rules.specs.declared.Charge.TheVariants.{Wh as wh}
+use Rattle.std.specs.Prelude.{Some as wh}
 use Rattle.rules.specs.Bench.{most_passed}
 use Rattle.rules.specs.Closing.{is_charge}
 use Rattle.laws.specs.Beside.{is_transfer}

@@ -14,6 +14,7 @@ use of_state::ended_run;
 use opening::{OpenStep, Opening};
 use reader::{blank, open, read, reading_of};
 use reading::{Reading, Step};
+use rules::Refusal;
 use state::Run;
 
 // T = 2 and T = 3, one phase, points of 100.
@@ -40,24 +41,24 @@ fn reading_with(offered: u32, passed: u32) -> Reading {
 }
 
 // The number of a refusal; 0 where a field is taken, 100 where it is passed over, 200 where it is not finished.
-fn number_of(step: Step) -> u32 {
+fn number_of(step: Result<Step, Refusal>) -> u32 {
     match step {
-        Step::Taken(_) => 0,
-        Step::Passed(_) => 100,
-        Step::Incomplete => 200,
-        Step::Refused(n) => n,
+        Ok(Step::Taken(_)) => 0,
+        Ok(Step::Passed(_)) => 100,
+        Ok(Step::Incomplete) => 200,
+        Err(refusal) => refusal.number(),
     }
 }
 
-fn open_number_of(step: OpenStep) -> u32 {
+fn open_number_of(step: Result<OpenStep, Refusal>) -> u32 {
     match step {
-        OpenStep::Taken(_) => 0,
-        OpenStep::Started(_, _) => 0,
-        OpenStep::Incomplete => 200,
-        OpenStep::Refused(n) => n,
+        Ok(OpenStep::Incomplete) => 200,
+        Ok(_) => 0,
+        Err(refusal) => refusal.number(),
     }
 }
 
+// Stays: limits and played have such functions too: two lines, with the program's own name.
 fn lost(rt: HostRuntime) {
     edges::tell(rt, b"refusals: the output was lost\n");
 }
@@ -96,8 +97,7 @@ fn try_read(
         return;
     }
     let x = read(r, input, cycle, &mut ledger[..numbers], &mut map[..words]);
-    let step = x.step;
-    say(rt, what, number_of(step));
+    say(rt, what, number_of(x.step));
 }
 
 // On a room of so many bytes too.
@@ -116,10 +116,9 @@ fn try_open(rt: HostRuntime, what: &[u8], o: Opening, input: &[u8], bytes: usize
         input,
         &mut room[..bytes],
         &mut ledger[..numbers],
-        &mut map[..],
+        &mut map,
     );
-    let step = x.step;
-    say(rt, what, open_number_of(step));
+    say(rt, what, open_number_of(x.step));
 }
 
 // An opening at the tolerances, with so many bytes of a cycle in the room.
@@ -131,8 +130,8 @@ fn at_tolerances(fields: u32, cycle: usize) -> Opening {
 }
 
 fn openings(rt: HostRuntime) {
-    let unknown = &UNKNOWN[..];
-    let wide = &WIDE[..];
+    let unknown = &UNKNOWN;
+    let wide = &WIDE;
     let full = at_tolerances(4, 9);
     let last = at_tolerances(3, 9);
     try_open(
@@ -158,12 +157,12 @@ fn openings(rt: HostRuntime) {
 
 // An unknown tag, with the cycle of another run.
 fn try_other(rt: HostRuntime, what: &[u8], r: Reading, numbers: usize, words: usize) {
-    try_read(rt, what, r, &UNKNOWN[..], &OTHER_CYCLE[..], numbers, words);
+    try_read(rt, what, r, &UNKNOWN, &OTHER_CYCLE, numbers, words);
 }
 
 // With the run's own cycle and memory.
 fn try_field(rt: HostRuntime, what: &[u8], r: Reading, input: &[u8]) {
-    try_read(rt, what, r, input, &CYCLE[..], 576, 750);
+    try_read(rt, what, r, input, &CYCLE, 576, 750);
 }
 
 fn grounds(rt: HostRuntime) {
@@ -179,15 +178,15 @@ fn grounds(rt: HostRuntime) {
         750,
     );
     try_other(rt, b"read, other cycle, unknown tag", r, 576, 750);
-    try_field(rt, b"read, unknown tag", r, &UNKNOWN[..]);
+    try_field(rt, b"read, unknown tag", r, &UNKNOWN);
 }
 
 // What `figures_of` tests before it forms the figures.
 fn try_figures(rt: HostRuntime, what: &[u8], r: Reading, cycle: &[u8]) {
     let ledger = [0i64; 576];
     let map = [0u64; 750];
-    let x = figures::figures_of(r, cycle, &ledger[..], &map[..]);
-    say(rt, what, x.refusal);
+    let answer = figures::figures_of(r, cycle, &ledger, &map);
+    say(rt, what, of_judge::number_of(answer));
 }
 
 fn figures(rt: HostRuntime) {
@@ -197,10 +196,10 @@ fn figures(rt: HostRuntime) {
         rt,
         b"figures, state out of bounds, other cycle",
         beyond,
-        &OTHER_CYCLE[..],
+        &OTHER_CYCLE,
     );
-    try_figures(rt, b"figures, other cycle", r, &OTHER_CYCLE[..]);
-    try_figures(rt, b"figures, own cycle", r, &CYCLE[..]);
+    try_figures(rt, b"figures, other cycle", r, &OTHER_CYCLE);
+    try_figures(rt, b"figures, own cycle", r, &CYCLE);
 }
 
 // Blocks of one sample: one that begins at sample 4,000,000, one at 0, one with a speed of 1501, another vehicle's.

@@ -4,7 +4,7 @@ use crate::of_judge::number_of;
 use crate::of_state::ended_run;
 use crate::{CYCLE, UNKNOWN, reading_with, say, try_field, try_figures};
 use reading::Reading;
-use rules::{Amounts, Charge, Sample};
+use rules::{Amounts, Sample};
 
 // One sample more after the limit, on memory of zeros but for this number of the ledger.
 fn try_number(rt: HostRuntime, what: &[u8], at: usize, number: i64) {
@@ -20,7 +20,7 @@ fn try_number(rt: HostRuntime, what: &[u8], at: usize, number: i64) {
         current: -120,
     };
     let run = ended_run(2561);
-    let answer = judge::sample(run, &CYCLE[..], &mut ledger[..], &mut map[..], x);
+    let answer = judge::sample(run, &CYCLE, &mut ledger, &mut map, x);
     say(rt, what, number_of(answer));
 }
 
@@ -52,7 +52,7 @@ fn reading_holding(before: i64, after: i64) -> Reading {
         amounts: Amounts {
             before,
             after,
-            charge: Charge::Absent,
+            charge: None,
         },
         run,
     }
@@ -62,8 +62,8 @@ fn reading_holding(before: i64, after: i64) -> Reading {
 pub fn amounts(rt: HostRuntime) {
     let most = 20_000_000_000_000;
     let beyond = 20_000_000_000_001;
-    let unknown = &UNKNOWN[..];
-    let cycle = &CYCLE[..];
+    let unknown = &UNKNOWN;
+    let cycle = &CYCLE;
     let full = reading_holding(most, -most);
     let turned = reading_holding(-most, most);
     let before = reading_holding(beyond, 0);

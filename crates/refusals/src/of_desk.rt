@@ -1,6 +1,6 @@
 // What feeding a desk and closing it refuses.
 use crate::{UNKNOWN, at_tolerances, put, reading_with};
-use desk::{Desk, Outcome, empty};
+use desk::{Desk, empty};
 
 // No field was taken but so many.
 fn with_fields(fields: u64) -> Desk {
@@ -33,14 +33,12 @@ fn try_feed(rt: HostRuntime, what: &[u8], desk: Desk) {
     let mut ledger = [0i64; 576];
     let mut map = [0u64; 750];
     let mut lines = [0u8; 512];
-    let x = desk::feed(desk, &UNKNOWN[..], &mut room, &mut ledger, &mut map);
-    let on = x.desk;
-    let outcome = x.outcome;
-    match outcome {
-        Outcome::More => say_line(rt, what, &lines[..], 0),
-        Outcome::Refused(n) => {
-            let printed = prints::refuse(on, n, &mut lines);
-            say_line(rt, what, &lines[..], printed);
+    let x = desk::feed(desk, &UNKNOWN, &mut room, &mut ledger, &mut map);
+    match x.outcome {
+        Ok(()) => say_line(rt, what, &lines, 0),
+        Err(refusal) => {
+            let printed = prints::refuse(x.desk, refusal.number(), &mut lines);
+            say_line(rt, what, &lines, printed);
         }
     }
 }

@@ -17,7 +17,7 @@ fn try_take(rt: HostRuntime, what: &[u8], buffer: &mut [u8]) {
         &mut map,
         &mut lines,
     );
-    say_line(rt, what, &lines[..], x.printed);
+    say_line(rt, what, &lines, x.printed.unwrap_or(0));
 }
 
 pub fn buffers(rt: HostRuntime) {

@@ -1,8 +1,7 @@
 // What the judge's operations refuse.
 use crate::of_state::no_stretches;
 use crate::{CYCLE, OTHER_CYCLE, say};
-use judge::{Answer, ShownAnswer, TotalsAnswer};
-use rules::{End, Method, Moment, Sample, Tolerances};
+use rules::{End, Method, Moment, Refusal, Sample, Tolerances};
 use state::{Ends, Progress, Run, Track};
 
 // T = 2, whose second phase ends where the first does.
@@ -48,10 +47,11 @@ fn stopped(offered: u32) -> Run {
     }
 }
 
-pub fn number_of(answer: Answer) -> u32 {
+// The number of a refusal, 0 where there is an answer.
+pub fn number_of<T: Drop>(answer: Result<T, Refusal>) -> u32 {
     match answer {
-        Answer::Taken(_) => 0,
-        Answer::Refused(n) => n,
+        Ok(_) => 0,
+        Err(refusal) => refusal.number(),
     }
 }
 
@@ -64,13 +64,13 @@ fn try_start(
     map: &mut [u64],
 ) {
     let t = tolerances(speed);
-    let answer = judge::start(cycle, t, Method::Regular, &mut *ledger, &mut *map);
+    let answer = judge::start(cycle, t, Method::Regular, ledger, map);
     say(rt, what, number_of(answer));
 }
 
 // 1, 2 and 3.
 pub fn starts(rt: HostRuntime) {
-    let broken = &BROKEN[..];
+    let broken = &BROKEN;
     let mut ledger = [0i64; 576];
     let mut map = [0u64; 750];
     let mut few = [0i64; 575];
@@ -102,7 +102,7 @@ pub fn starts(rt: HostRuntime) {
     try_start(
         rt,
         b"start, a tolerance of 101",
-        &CYCLE[..],
+        &CYCLE,
         101,
         &mut ledger,
         &mut map,
@@ -119,7 +119,7 @@ fn try_sample(rt: HostRuntime, what: &[u8], run: Run, cycle: &[u8], speed: u16, 
         voltage: 6000,
         current: -120,
     };
-    let answer = judge::sample(run, cycle, &mut ledger[..], &mut map[..], x);
+    let answer = judge::sample(run, cycle, &mut ledger, &mut map, x);
     say(rt, what, number_of(answer));
 }
 
@@ -127,8 +127,8 @@ fn try_sample(rt: HostRuntime, what: &[u8], run: Run, cycle: &[u8], speed: u16, 
 pub fn samples(rt: HostRuntime) {
     let run = stopped(4);
     let full = stopped(4_000_000);
-    let cycle = &CYCLE[..];
-    let other = &OTHER_CYCLE[..];
+    let cycle = &CYCLE;
+    let other = &OTHER_CYCLE;
     try_sample(
         rt,
         b"sample, a ledger number out of bounds, another cycle",
@@ -160,7 +160,7 @@ pub fn samples(rt: HostRuntime) {
 fn try_block(rt: HostRuntime, what: &[u8], run: Run, cycle: &[u8], first: u32, samples: &[u8]) {
     let mut ledger = [0i64; 576];
     let mut map = [0u64; 750];
-    let answer = judge::block(run, cycle, &mut ledger[..], &mut map[..], first, samples);
+    let answer = judge::block(run, cycle, &mut ledger, &mut map, first, samples);
     say(rt, what, number_of(answer));
 }
 
@@ -169,11 +169,11 @@ pub fn blocks(rt: HostRuntime) {
     let run = stopped(4);
     let full = stopped(4_000_000);
     let beyond = stopped(4_000_001);
-    let cycle = &CYCLE[..];
-    let other = &OTHER_CYCLE[..];
+    let cycle = &CYCLE;
+    let other = &OTHER_CYCLE;
     let none = &GOOD[..0];
     let good = &GOOD[..6];
-    let fast = &FAST[..];
+    let fast = &FAST;
     let long = [0u8; 1206];
     try_block(
         rt,
@@ -217,17 +217,13 @@ pub fn blocks(rt: HostRuntime) {
 }
 
 fn try_shown(rt: HostRuntime, what: &[u8], run: Run, ledger: &[i64], map: &[u64]) {
-    match judge::shown(run, &OTHER_CYCLE[..], ledger, map) {
-        ShownAnswer::Counted(_) => say(rt, what, 0),
-        ShownAnswer::Refused(n) => say(rt, what, n),
-    }
+    let answer = judge::shown(run, &OTHER_CYCLE, ledger, map);
+    say(rt, what, number_of(answer));
 }
 
 fn try_totals(rt: HostRuntime, what: &[u8], run: Run, ledger: &[i64], map: &[u64]) {
-    match judge::totals(run, &OTHER_CYCLE[..], ledger, map) {
-        TotalsAnswer::Summed(_) => say(rt, what, 0),
-        TotalsAnswer::Refused(n) => say(rt, what, n),
-    }
+    let answer = judge::totals(run, &OTHER_CYCLE, ledger, map);
+    say(rt, what, number_of(answer));
 }
 
 // 1 and 2.

@@ -76,7 +76,7 @@ pub fn try_run(rt: HostRuntime, what: &[u8], run: Run) {
         voltage: 6000,
         current: -120,
     };
-    let answer = judge::sample(run, &CYCLE[..], &mut ledger[..], &mut map[..], x);
+    let answer = judge::sample(run, &CYCLE, &mut ledger, &mut map, x);
     say(rt, what, number_of(answer));
 }
 

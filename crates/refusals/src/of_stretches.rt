@@ -14,24 +14,24 @@ fn try_start(rt: HostRuntime, what: &[u8], cycle: &[u8], speed: u32, method: Met
     let mut ledger = [0i64; 576];
     let mut map = [0u64; 750];
     let t = tolerances(speed);
-    let answer = judge::start(cycle, t, method, &mut ledger[..], &mut map[..]);
+    let answer = judge::start(cycle, t, method, &mut ledger, &mut map);
     say(rt, what, number_of(answer));
 }
 
 // With all else in order.
 fn try_method(rt: HostRuntime, what: &[u8], method: Method) {
-    try_start(rt, what, &CYCLE[..], 30, method);
+    try_start(rt, what, &CYCLE, 30, method);
 }
 
 // 2, 3 and 19: "M's length in samples, 1..4,000,000", "E's set speed, 1..1500".
 pub fn starts(rt: HostRuntime) {
     let none = shortened(0, 140);
-    let broken = &BROKEN[..];
+    let broken = &BROKEN;
     try_start(rt, b"start, a broken end, M of 0 samples", broken, 30, none);
     try_start(
         rt,
         b"start, a tolerance of 101, M of 0 samples",
-        &CYCLE[..],
+        &CYCLE,
         101,
         none,
     );

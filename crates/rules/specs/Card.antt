@@ -2,11 +2,7 @@
 -- Assumes nothing.
 use Rattle.std.specs.Prelude.{true, false, List, [], ◌∷◌, ℕ, ℤ, pos, neg_ℤ}
 use Rattle.rules.specs.Bench.{none, stop, limit}
-use Rattle.rules.specs.declared.Charge.TheVariants.{Absent as absent, Wh as wh}
-use Rattle.rules.specs.declared.Figure.TheVariants.{Is, Absent}
-use Rattle.rules.specs.declared.Figure.TheVariants as figure
-use Rattle.rules.specs.declared.ClosingAnswer.TheVariants.{Closed, Refused}
-use Rattle.rules.specs.Closing.{together}
+use Rattle.rules.specs.Closing.{absent, wh, Is, Absent, Closed, Refused, together}
 use Rattle.rules.specs.Rows.{points, bytes, moment, leg, Row, band, drive, draws, joins, weighs, closes, exact, shuts, gathers, short, asks}
 
 -- a cycle of one speed
@@ -73,8 +69,8 @@ card =
     ∷ closes 3 (pos 14) ones hundreds (neg_ℤ (pos 14)) (wh 1) (Refused 13)
     -- not on the card: absent before 14; 14, 12 and the figure; each beside weighted consumption and range
     ∷ closes 3 (pos 15) ones hundreds (neg_ℤ (pos 15)) absent (Closed (together 1 1 Absent))
-    ∷ closes 3 (pos 15) ones hundreds (neg_ℤ (pos 15)) (wh 1) (Closed (together 1 1 (figure.Refused 14)))
-    ∷ closes 3 (pos 15) ones hundreds (neg_ℤ (pos 14)) (wh 1) (Closed (together 1 1 (figure.Refused 12)))
+    ∷ closes 3 (pos 15) ones hundreds (neg_ℤ (pos 15)) (wh 1) (Closed (together 1 1 (Refused 14)))
+    ∷ closes 3 (pos 15) ones hundreds (neg_ℤ (pos 14)) (wh 1) (Closed (together 1 1 (Refused 12)))
     ∷ closes 3 (pos 15) ones hundreds (neg_ℤ (pos 13)) (wh 1) (Closed (together 1 1 (Is 7_500_000)))
     -- document 02, L5: the shortened method asks for four
     ∷ closes 4 (pos 15) ones hundreds (pos 0) absent (Refused 10)

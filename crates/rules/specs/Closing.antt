@@ -1,20 +1,32 @@
 -- 'Closing figures', on whole numbers of any size: n finished cycles of energies e and distances d, the whole energy E. Place 0 is cycle 1.
 -- Assumes nothing.
-use Rattle.std.specs.Prelude.{Bool, true, ◌&&◌, ℕ, ◌+◌, ◌-◌, ◌*◌, ◌/◌, leb, ℤ, pos, neg_ℤ, ◌+ℤ◌}
+use Rattle.std.specs.Prelude.{Some, None, Ok, Err, Bool, true, ◌&&◌, ℕ, ◌+◌, ◌-◌, ◌*◌, ◌/◌, leb, ℤ, pos, neg_ℤ, ◌+ℤ◌}
 use Rattle.std.specs.Int.Signed.{le_z, lt_z}
 use Rattle.rules.specs.Words.{settled, sum, all_below, unless, up, between}
 use Rattle.rules.specs.Bench.{Moment, Method, by_cycles, with_stretches}
 use Rattle.rules.specs.Course.{Course, closed}
 use Rattle.rules.specs.Parts.{energy}
-pub use Rattle.rules.specs.declared.Charge.{Charge}
-pub use Rattle.rules.specs.declared.Charge.TheVariants.{Absent as absent, Wh as wh}
 pub use Rattle.rules.specs.declared.Amounts.{Amounts}
-pub use Rattle.rules.specs.declared.Figure.{Figure}
-pub use Rattle.rules.specs.declared.Figure.TheVariants.{Is, Absent}
-use Rattle.rules.specs.declared.Figure.TheVariants as figure
 pub use Rattle.rules.specs.declared.Closing.{Closing}
-pub use Rattle.rules.specs.declared.ClosingAnswer.{ClosingAnswer}
-pub use Rattle.rules.specs.declared.ClosingAnswer.TheVariants.{Closed, Refused}
+pub use Rattle.std.specs.Prelude.{Option, None as absent, Some as wh, Result, Ok as Closed, Err as Refused}
+
+-- the energy that a recharge took from the mains, in Wh: absent, or so much
+abbrev pub Charge : Type 0
+Charge = Option ℕ
+
+-- a figure, no figure, or the number of a refusal
+abbrev pub Figure : Type 0
+Figure = Result (Option ℕ) ℕ
+
+abbrev pub Is : ℕ → Figure
+Is x = Ok (Some x)
+
+abbrev pub Absent : Figure
+Absent = Ok None
+
+-- the closing figures together, or the number of the refusal that stands in place of all
+abbrev pub ClosingAnswer : Type 0
+ClosingAnswer = Result Closing ℕ
 
 -- field 6: "within 10^13 either way", in units of 0.5 mJ
 abbrev pub most_transfer_in : ℕ
@@ -111,7 +123,7 @@ module _ (E : ℤ) (R : ℕ) (F : ℤ) where
   -- "A missing 7 gives the recharge figure "absent"."; 14 and 12, or the figure
   abbrev pub recharge_by : Charge → Figure
   recharge_by absent = Absent
-  recharge_by (wh A) = let refusal = recharge_refusal A in settled refusal (Is (recharge_figure A)) (figure.Refused refusal)
+  recharge_by (wh A) = let refusal = recharge_refusal A in settled refusal (Is (recharge_figure A)) (Err refusal)
 
 -- ---- as the sheet has them
 

@@ -16,6 +16,8 @@ pub mod Regular
 pub mod Shortened
 pub mod Plan
 pub mod Shown
+-- 'Numbered answers'
+pub mod Numbered
 -- 'Closing figures'; the range from unrounded consumptions (document 02, L11)
 pub mod Closing
 pub mod Exact

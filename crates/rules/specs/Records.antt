@@ -1,8 +1,7 @@
 -- Short records and what becomes of each, as one table with one claim.
 -- Assumes nothing.
 use Rattle.std.specs.Prelude.{Bool, true, false, ◌&&◌, List, [], ◌∷◌, ◌++◌, ℕ, ◌/◌, ◌%◌, eqb, length, take, replicate}
-use Rattle.rules.specs.declared.Charge.{Charge}
-use Rattle.rules.specs.declared.Charge.TheVariants.{Absent as absent, Wh as wh}
+use Rattle.rules.specs.Closing.{Charge, absent, wh}
 use Rattle.rules.specs.declared.Amounts.{Amounts}
 use Rattle.rules.specs.Words.{up}
 use Rattle.rules.specs.Bench.{Method, by_cycles, with_stretches}

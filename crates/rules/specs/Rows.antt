@@ -1,6 +1,6 @@
 -- What a row of the test card says, and whether it holds of the definitions.
 -- Assumes nothing.
-use Rattle.std.specs.Prelude.{Bool, true, false, not, cond, ◌&&◌, List, [], ◌∷◌, ℕ, ◌+◌, ◌-◌, ◌*◌, ltb, eqb, ℤ, pos, length, get_or}
+use Rattle.std.specs.Prelude.{Some, None, Ok, Err, Bool, true, false, not, cond, ◌&&◌, List, [], ◌∷◌, ℕ, ◌+◌, ◌-◌, ◌*◌, ltb, eqb, ℤ, pos, length, get_or}
 use Rattle.rules.specs.Words.{bit, every, first, eq_z, same_bytes}
 use Rattle.rules.specs.Bench.{Moment, Tolerances, with_stretches, End, none, stop, limit, drawn}
 use Rattle.rules.specs.Cycle.{valid}
@@ -11,14 +11,7 @@ use Rattle.rules.specs.Parts.{row_part, phase_part, finished, cycles, part_energ
 use Rattle.rules.specs.Regular.{interval, position_of, regular_layout, regular_rule, regular}
 use Rattle.rules.specs.Plan.{plan, course_of}
 use Rattle.rules.specs.Shown.{shown_row}
-use Rattle.rules.specs.declared.Charge.{Charge}
-use Rattle.rules.specs.declared.Charge.TheVariants.{Absent as absent}
-use Rattle.rules.specs.declared.Figure.{Figure}
-use Rattle.rules.specs.declared.Figure.TheVariants.{Is, Absent}
-use Rattle.rules.specs.declared.Figure.TheVariants as figure
-use Rattle.rules.specs.declared.ClosingAnswer.{ClosingAnswer}
-use Rattle.rules.specs.declared.ClosingAnswer.TheVariants.{Closed, Refused}
-use Rattle.rules.specs.Closing.{weighted, together, closing_by}
+use Rattle.rules.specs.Closing.{Charge, absent, Figure, Absent, ClosingAnswer, Closed, Refused, weighted, together, closing_by}
 use Rattle.rules.specs.Exact.{exact_range, range_denominator, exact_metres}
 
 abbrev pub same_end : End → End → Bool
@@ -117,9 +110,9 @@ same x y = cond x y (not y)
 
 -- a closing, as numbers of which the first of each says the case
 figure_numbers : Figure → List ℕ
-figure_numbers (Is x) = 1 ∷ x ∷ []
-figure_numbers Absent = 2 ∷ []
-figure_numbers (figure.Refused n) = 3 ∷ n ∷ []
+figure_numbers (Ok (Some x)) = 1 ∷ x ∷ []
+figure_numbers (Ok None) = 2 ∷ []
+figure_numbers (Err n) = 3 ∷ n ∷ []
 
 numbers_of : ClosingAnswer → List ℕ
 numbers_of (Closed x) = 1 ∷ x.weighted ∷ x.range ∷ figure_numbers x.recharge

@@ -3,11 +3,7 @@
 use Rattle.std.specs.Prelude.{Bool, true, false, ◌&&◌, List, [], ◌∷◌, ◌++◌, ℕ, eqb, ℤ, pos, neg_ℤ}
 use Rattle.rules.specs.declared.End.{End}
 use Rattle.rules.specs.declared.End.TheVariants.{None as none, Stop as stop, Limit as limit}
-use Rattle.rules.specs.declared.Figure.TheVariants.{Is, Absent}
-use Rattle.rules.specs.declared.Figure.TheVariants as figure
-use Rattle.rules.specs.declared.ClosingAnswer.{ClosingAnswer}
-use Rattle.rules.specs.declared.ClosingAnswer.TheVariants.{Closed, Refused}
-use Rattle.rules.specs.Closing.{together}
+use Rattle.rules.specs.Closing.{Is, Absent, ClosingAnswer, Closed, Refused, together}
 use Rattle.rules.specs.Text.{Figures, sheet_text, refusal_text}
 
 pub data Row : Type 0 where
@@ -94,7 +90,7 @@ rows =
     -- refused 10
     ∷ (114 ∷ 101 ∷ 102 ∷ 117 ∷ 115 ∷ 101 ∷ 100 ∷ 32 ∷ 49 ∷ 48 ∷ 10 ∷ [])
     ∷ [])
-    ∷ sheet (figures limit 2_560 64 9 10 (pos 99) (Closed (together 5 6 (figure.Refused 14)))) (
+    ∷ sheet (figures limit 2_560 64 9 10 (pos 99) (Closed (together 5 6 (Refused 14)))) (
     run_line
     -- end limit 2560
     ∷ (101 ∷ 110 ∷ 100 ∷ 32 ∷ 108 ∷ 105 ∷ 109 ∷ 105 ∷ 116 ∷ 32 ∷ 50 ∷ 53 ∷ 54 ∷ 48 ∷ 10 ∷ [])

@@ -1,15 +1,11 @@
 -- 'The report program': what is printed, in bytes.
 -- Assumes nothing.
-use Rattle.std.specs.Prelude.{cond, List, [], ◌∷◌, ◌++◌, ℕ, zero, suc, ◌+◌, ◌/◌, ◌%◌, ltb, ℤ, pos, negsuc}
+use Rattle.std.specs.Prelude.{Some, None, Ok, Err, cond, List, [], ◌∷◌, ◌++◌, ℕ, zero, suc, ◌+◌, ◌/◌, ◌%◌, ltb, ℤ, pos, negsuc}
 use Rattle.rules.specs.Words.{spell}
 use Rattle.rules.specs.declared.End.{End}
 use Rattle.rules.specs.declared.End.TheVariants.{None as none, Stop as stop, Limit as limit}
-use Rattle.rules.specs.declared.Figure.{Figure}
-use Rattle.rules.specs.declared.Figure.TheVariants.{Is, Absent}
-use Rattle.rules.specs.declared.Figure.TheVariants as figure
 use Rattle.rules.specs.declared.Closing.{Closing}
-use Rattle.rules.specs.declared.ClosingAnswer.{ClosingAnswer}
-use Rattle.rules.specs.declared.ClosingAnswer.TheVariants.{Closed, Refused}
+use Rattle.rules.specs.Closing.{Figure, ClosingAnswer, Closed, Refused}
 use Rattle.rules.specs.Record.{Sheet, told, refused_at}
 use Rattle.rules.specs.Figures.{figures_told}
 pub use Rattle.rules.specs.declared.Figures.{Figures}
@@ -77,9 +73,9 @@ count_lines f =
 
 -- "`ac` figure or `-`"; "a recharge refusal in place of `ac`"
 unfoldable pub recharge_line : Figure → List ℕ
-recharge_line (Is n) = line (spell "ac") (digits n)
-recharge_line Absent = line (spell "ac") (spell "-")
-recharge_line (figure.Refused n) = refused_line n
+recharge_line (Ok (Some n)) = line (spell "ac") (digits n)
+recharge_line (Ok None) = line (spell "ac") (spell "-")
+recharge_line (Err n) = refused_line n
 
 -- "`weighted`; `range`; `ac`"
 unfoldable pub closed_lines : Closing → List ℕ

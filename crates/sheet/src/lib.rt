@@ -24,13 +24,13 @@ pub fn sheet_lines(f: Figures, out: &mut [u8]) -> usize
     if out.len() < MOST_SHEET {
         return 0;
     }
-    let head = sheets::head_lines(&mut *out, 0, f);
-    let body = sheets::count_lines(&mut *out, head, f);
-    let closing = f.closing;
-    sheets::closing_lines(&mut *out, body, closing)
+    let head = sheets::head_lines(out, 0, f);
+    let body = sheets::count_lines(out, head, f);
+    sheets::closing_lines(out, body, f.closing)
 }
 
 // The line of a refused field, likewise.
+// Stays: the number and no `Refusal`: the line of every number is promised (`refusal_text`).
 pub fn refusal_line(number: u32, field: u64, out: &mut [u8]) -> usize
     ensures value { result ≡ unless 0 (leb most_sheet (length out.old)) (length (refusal_text number field)) }
     ensures out_after { out.new
@@ -40,7 +40,7 @@ pub fn refusal_line(number: u32, field: u64, out: &mut [u8]) -> usize
         return 0;
     }
     let n = number as u64;
-    let word = text::put_text(&mut *out, 0, b"refused", 32);
-    let next = text::put_number(&mut *out, word, n, 32);
-    lines::number_line(&mut *out, next, b"field", field)
+    let word = text::put_text(out, 0, b"refused", 32);
+    let next = text::put_number(out, word, n, 32);
+    lines::number_line(out, next, b"field", field)
 }

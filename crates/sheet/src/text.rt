@@ -8,12 +8,9 @@ fn put(out: &mut [u8], at: usize, text: &[u8]) -> usize
     requires { at + length text.now ≤ length out.old }
     ensures { Wrote (length text.now) out.old at text.now out.new result }
 {
-    let mut i: usize = 0;
-    while i < text.len() {
-        out[at + i] = text[i];
-        i += 1;
-    }
-    at + i
+    let end = at + text.len();
+    out[at..end].copy_from_slice(text);
+    end
 }
 
 // The text, and the byte `last`.
@@ -21,7 +18,7 @@ pub fn put_text(out: &mut [u8], at: usize, text: &[u8], last: u8) -> usize
     requires { at + length text.now + 1 ≤ length out.old }
     ensures { Wrote (length text.now + 1) out.old at (text.now ++ last ∷ []) out.new result }
 {
-    let end = put(&mut *out, at, text);
+    let end = put(out, at, text);
     out[end] = last;
     end + 1
 }
@@ -34,7 +31,7 @@ fn put_digits(out: &mut [u8], at: usize, n: u64) -> usize
         out[at] = 48 + (n as u8);
         return at + 1;
     }
-    let next = put_digits(&mut *out, at, n / 10);
+    let next = put_digits(out, at, n / 10);
     out[next] = 48 + ((n % 10) as u8);
     next + 1
 }
@@ -44,19 +41,9 @@ pub fn put_number(out: &mut [u8], at: usize, n: u64, last: u8) -> usize
     requires { at + 21 ≤ length out.old }
     ensures { Wrote 21 out.old at (digits n ++ last ∷ []) out.new result }
 {
-    let next = put_digits(&mut *out, at, n);
+    let next = put_digits(out, at, n);
     out[next] = last;
     next + 1
-}
-
-// z without its sign; the least i64 has no opposite, and z + 1 has one.
-fn size(z: i64) -> u64
-    ensures { result ≡ nat_abs z }
-{
-    if z < 0 {
-        return (-(z + 1)) as u64 + 1;
-    }
-    z as u64
 }
 
 // A number of either sign, and the byte `last`.
@@ -64,10 +51,10 @@ pub fn put_signed(out: &mut [u8], at: usize, z: i64, last: u8) -> usize
     requires { at + 22 ≤ length out.old }
     ensures { Wrote 22 out.old at (signed z ++ last ∷ []) out.new result }
 {
-    let n = size(z);
+    let n = z.unsigned_abs();
     if z < 0 {
         out[at] = 45;
-        return put_number(&mut *out, at + 1, n, last);
+        return put_number(out, at + 1, n, last);
     }
-    put_number(&mut *out, at, n, last)
+    put_number(out, at, n, last)
 }

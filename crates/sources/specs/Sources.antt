@@ -16,6 +16,7 @@ use Rattle.state.specs.State.{closed_by}
 use Rattle.reading.specs.declared.Reading.{Reading}
 use Rattle.figures.specs.Figured.{figures_of}
 pub use Rattle.sources.specs.declared.Stop.{Stop}
+use Rattle.sources.specs.declared.Stop.TheVariants.{InE, At}
 
 -- ---- where a cycle begins
 
@@ -97,7 +98,13 @@ stretch_e r = stretch_by r.stretched.in_e (begun_e r.track.method (positions_of 
 -- ---- where the sample behind those counted stands, which stops a run that is stopped
 
 abbrev pub stop_at : Bool → ℕ → ℕ → Stop
-stop_at e c p = record { in_e = e; cycle = c; position = p }
+stop_at true c p = InE p
+stop_at false c p = At c p
+
+-- the cycle, or the row of E
+abbrev pub row_of : Stop → ℕ
+row_of (InE p) = row_e
+row_of (At c p) = c
 
 -- at place i of the cycles, of n positions each, laid end to end
 abbrev pub ride_stop : ℕ → ℕ → Stop

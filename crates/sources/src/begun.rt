@@ -7,12 +7,12 @@ ghost use Rattle.state.specs.State.{is_run};
 ghost use Rattle.sources.specs.Sources.{most_first, first_around, first_in, phase_begun, phase_finished, begun_m, finished_m, begun_e};
 
 use cycle::end_of;
-use numbers::wide;
 use rules::Method;
 use rules::limits::MOST_OFFERED;
 use state::Run;
 
 // The first sample of cycle c, of n positions each, where M of m samples stands before the third of four.
+// Stays: a number that no run reaches and no Option, as `first_around` of the specs says it: both tests of a phase just compare with it.
 fn first_around(m: u32, n: u32, c: u32) -> u32
     requires { (m ≤ most_offered) × (n ≤ most_positions) }
     ensures { (result ≡ first_around m n c) × (result ≤ most_first) }
@@ -33,9 +33,7 @@ pub fn first_of(run: Run, c: usize) -> u32
 {
     let n = 20 * run.track.seconds;
     let k = c as u32;
-    let track = run.track;
-    let method = track.method;
-    match method {
+    match run.track.method {
         Method::Regular => k * n,
         Method::Shortened(x) => first_around(x.length, n, k),
     }
@@ -57,10 +55,7 @@ pub fn phase_begun(cycle: &[u8], k: usize, first: u32, closed: u32) -> bool
     requires { (valid cycle.now ≡ true) × (first ≤ most_first) }
     ensures { result ≡ phase_begun cycle.now k first closed }
 {
-    if k < wide(cycle[0]) {
-        return first + 20 * (start_of(cycle, k) as u32) < closed;
-    }
-    false
+    k < usize::from(cycle[0]) && first + 20 * (start_of(cycle, k) as u32) < closed
 }
 
 // Whether it is finished.
@@ -68,13 +63,11 @@ pub fn phase_finished(cycle: &[u8], k: usize, first: u32, closed: u32) -> bool
     requires { (valid cycle.now ≡ true) × (first ≤ most_first) }
     ensures { result ≡ phase_finished cycle.now k first closed }
 {
-    if k < wide(cycle[0]) {
-        return first + 20 * (end_of(cycle, k) as u32) <= closed;
-    }
-    false
+    k < usize::from(cycle[0]) && first + 20 * (end_of(cycle, k) as u32) <= closed
 }
 
 // Whether M has begun, behind two cycles of n positions.
+// Stays: this and the next two differ in the rule, and not in a type, a size or a constant.
 pub fn begun_m(method: Method, n: u32, closed: u32) -> bool
     requires { n ≤ most_positions }
     ensures { result ≡ begun_m method n closed }

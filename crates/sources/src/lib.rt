@@ -12,7 +12,7 @@ ghost use Rattle.rules.specs.Cycle.{valid};
 ghost use Rattle.rules.specs.Shown.{most_energy, most_distance};
 ghost use Rattle.ledger.specs.Row.{bounded};
 ghost use Rattle.state.specs.State.{is_run};
-ghost use Rattle.sources.specs.Sources.{phase_on, row_on, outside_on, stretch_m, stretch_e, stop_on};
+ghost use Rattle.sources.specs.Sources.{phase_on, row_on, outside_on, stretch_m, stretch_e, stop_on, row_of};
 
 use begun::{begun_e, begun_m, finished_m, first_of, phase_begun, phase_finished};
 use ledger::totals::{distance_in, energy_in};
@@ -20,12 +20,11 @@ use rules::{Gathered, Method};
 use standing::{ride_stop, stop_around};
 use state::{Run, closed_of};
 
-// Where the sample that stops a run stands: in E, or at this position of this cycle, both from 0.
-#[derive(Clone, Copy)]
-pub struct Stop {
-    pub in_e: bool,
-    pub cycle: u32,
-    pub position: u32,
+// Where the sample that stops a run stands: at this position of E, or of this cycle at this position, all from 0.
+#[derive(Clone, Copy, Debug, PartialEq, Eq)]
+pub enum Stop {
+    InE(u32),
+    At(u32, u32),
 }
 
 // Phase k of cycle c.
@@ -77,10 +76,8 @@ pub fn stretch_m(run: Run) -> Gathered
 {
     let n = 20 * run.track.seconds;
     let closed = closed_of(run.progress);
-    let track = run.track;
-    let method = track.method;
-    let begun = begun_m(method, n, closed);
-    let finished = finished_m(method, n, closed);
+    let begun = begun_m(run.track.method, n, closed);
+    let finished = finished_m(run.track.method, n, closed);
     Gathered {
         energy: run.stretched.in_m.energy,
         distance: run.stretched.in_m.distance as i64,
@@ -96,9 +93,7 @@ pub fn stretch_e(run: Run) -> Gathered
 {
     let n = 20 * run.track.seconds;
     let closed = closed_of(run.progress);
-    let track = run.track;
-    let method = track.method;
-    let begun = begun_e(method, n, closed);
+    let begun = begun_e(run.track.method, n, closed);
     Gathered {
         energy: run.stretched.in_e.energy,
         distance: run.stretched.in_e.distance as i64,
@@ -111,13 +106,11 @@ pub fn stretch_e(run: Run) -> Gathered
 pub fn stop_on(run: Run) -> Stop
     requires { is_run run ≡ true }
     ensures value { result ≡ stop_on run }
-    ensures cycle_le_row_e { result.cycle ≤ row_e }
+    ensures cycle_le_row_e { row_of result ≤ row_e }
 {
     let n = 20 * run.track.seconds;
     let counted = run.progress.counted;
-    let track = run.track;
-    let method = track.method;
-    match method {
+    match run.track.method {
         Method::Regular => ride_stop(n, counted),
         Method::Shortened(x) => stop_around(x.length, n, counted),
     }

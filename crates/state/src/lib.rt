@@ -7,20 +7,21 @@ mod own;
 ghost use Rattle.std.specs.Prelude.{◌≡◌, true, ◌≤◌, ◌<◌};
 ghost use Rattle.rules.specs.Bench.{most_cycles};
 ghost use Rattle.rules.specs.Cycle.{seconds, valid};
+ghost use Rattle.laws.specs.Answers.{refused_by};
 ghost use Rattle.state.specs.State.{closed_by, end_or_zero, ends_of, is_run, is_lent, is_starts, run_ground};
 ghost use Rattle.state.specs.Refusals.{with_method, start_refusal, sample_refusal, beside_by, cycles_by, last_cycle};
 
 use around::{finished_around, last_around, last_judged};
 use cycle::{end_of, is_cycle, seconds_of};
 use ledger::whole::is_bounded;
-use numbers::{less, smaller, wide};
-use own::{are_same, is_run};
+use own::is_run;
 use rules::limits::{LEDGER_NUMBERS, MAP_WORDS, MOST_OFFERED};
-use rules::{End, Method, Moment, Sample, Tolerances};
+use rules::{End, Method, Moment, Refusal, Sample, Tolerances};
 use values::{is_method, is_sample, is_tolerable};
 
 // The seconds at which the phases end; 0 for a phase that does not exist.
-#[derive(Clone, Copy)]
+// Stays: four fields; `ends_of`, `are_ends` and `Limits` speak of each by name, and no code goes over them: an array is no plainer.
+#[derive(Clone, Copy, Debug, PartialEq, Eq)]
 pub struct Ends {
     pub first: u16,
     pub second: u16,
@@ -29,7 +30,7 @@ pub struct Ends {
 }
 
 // What is fixed before the first sample: T, the phase ends, the tolerances, the method.
-#[derive(Clone, Copy)]
+#[derive(Clone, Copy, Debug, PartialEq, Eq)]
 pub struct Track {
     pub seconds: u32,
     pub ends: Ends,
@@ -39,7 +40,7 @@ pub struct Track {
 
 // What a sample changes: how many were offered, how many count, how the run ended, and what closes the open interval: the last counted sample's
 // product and speed, and 0 where no interval is open.
-#[derive(Clone, Copy)]
+#[derive(Clone, Copy, Debug, PartialEq, Eq)]
 pub struct Progress {
     pub offered: u32,
     pub counted: u32,
@@ -48,14 +49,15 @@ pub struct Progress {
 }
 
 // What the closed intervals of a stretch have brought.
-#[derive(Clone, Copy)]
+#[derive(Clone, Copy, Debug, PartialEq, Eq)]
 pub struct Stretch {
     pub energy: i64,
     pub distance: u64,
 }
 
 // What a run has of its stretches M and E. `watch` is 0 until a sample of E has reached the set speed, and then one more than the samples below in a row.
-#[derive(Clone, Copy)]
+// Stays: the watch is one number, as `watch_next` counts it and `is_run` bounds it; every number that is handed in is answered.
+#[derive(Clone, Copy, Debug, PartialEq, Eq)]
 pub struct Stretched {
     pub in_m: Stretch,
     pub in_e: Stretch,
@@ -63,7 +65,7 @@ pub struct Stretched {
 }
 
 // A started run. Where its next sample stands is not in it: method, T and counted say so.
-#[derive(Clone, Copy)]
+#[derive(Clone, Copy, Debug, PartialEq, Eq)]
 pub struct Run {
     pub track: Track,
     pub progress: Progress,
@@ -74,33 +76,27 @@ pub struct Run {
 pub fn with_method(run: Run, method: Method) -> Run
     ensures { result ≡ with_method run method }
 {
-    let ends = run.track.ends;
-    let tolerances = run.track.tolerances;
-    let progress = run.progress;
-    let stretched = run.stretched;
-    Run {
-        track: Track {
-            seconds: run.track.seconds,
-            ends,
-            tolerances,
-            method,
-        },
-        progress,
-        stretched,
-    }
+    let track = Track {
+        method,
+        ..run.track
+    };
+    Run { track, ..run }
 }
 
 // The end of phase k, and 0 where there is no such phase.
+#[tactic(auto, using(laws::proofs::Sound::sound))]
 fn end_or_zero(cycle: &[u8], k: usize) -> u16
     requires { valid cycle.now ≡ true }
     ensures { result ≡ end_or_zero cycle.now k }
 {
-    if k < wide(cycle[0]) {
+    if k < usize::from(cycle[0]) {
         return end_of(cycle, k);
     }
     0
 }
 
+// Stays: `valid cycle` is asked here and by many: the functions are public, and a type that carries it would ask more of who has bytes only.
+#[tactic(auto, unfolding(crate::specs::State::ends_of))]
 pub fn ends_of(cycle: &[u8]) -> Ends
     requires { valid cycle.now ≡ true }
     ensures { result ≡ ends_of cycle.now }
@@ -114,89 +110,89 @@ pub fn ends_of(cycle: &[u8]) -> Ends
 }
 
 // Whether ledger and map are long enough, and no number of ledger or state is out of bounds.
+#[tactic(auto, unfolding(crate::specs::State::is_lent))]
 fn is_lent(run: Run, ledger: &[i64], map: &[u64]) -> bool
     ensures { result ≡ is_lent run ledger.now map.now }
 {
-    if !is_bounded(ledger) {
-        return false;
-    }
-    if map.len() < MAP_WORDS {
-        return false;
-    }
-    is_run(run)
+    is_bounded(ledger) && MAP_WORDS <= map.len() && is_run(run)
 }
 
 // Whether the bytes are a cycle, the start's in T and phase ends.
+#[tactic(auto, unfolding(crate::specs::State::is_starts, crate::specs::State::same_ends), using(laws::proofs::Sound::sound))]
 fn is_starts(run: Run, cycle: &[u8]) -> bool
     ensures { result ≡ is_starts run cycle.now }
 {
-    if !is_cycle(cycle) {
-        return false;
-    }
-    if seconds_of(cycle) != run.track.seconds {
-        return false;
-    }
-    are_same(ends_of(cycle), run.track.ends)
+    is_cycle(cycle) && seconds_of(cycle) == run.track.seconds && ends_of(cycle) == run.track.ends
 }
 
-// 1 or 2, or 0 where a started run's operation may go on.
-pub fn ground_refusal(run: Run, cycle: &[u8], ledger: &[i64], map: &[u64]) -> u32
-    ensures { result ≡ run_ground run cycle.now ledger.now map.now 0 }
+// 1 or 2, unless a started run's operation may go on.
+#[tactic(auto, unfolding(crate::specs::State::run_ground, rules::specs::Words::unless))]
+pub fn ground_refusal(run: Run, cycle: &[u8], ledger: &[i64], map: &[u64]) -> Result<(), Refusal>
+    ensures { refused_by result ≡ run_ground run cycle.now ledger.now map.now 0 }
 {
     if !is_lent(run, ledger, map) {
-        return 1;
+        return Err(Refusal::Ground);
     }
     if !is_starts(run, cycle) {
-        return 2;
+        return Err(Refusal::Cycle);
     }
-    0
+    Ok(())
 }
 
-pub fn start_refusal(cycle: &[u8], t: Tolerances, y: Method, ledger: &[i64], map: &[u64]) -> u32
-    ensures { result ≡ start_refusal cycle.now t y ledger.now map.now }
+#[tactic(auto, unfolding(crate::specs::Refusals::start_refusal, rules::specs::Words::unless))]
+pub fn start_refusal(
+    cycle: &[u8],
+    t: Tolerances,
+    y: Method,
+    ledger: &[i64],
+    map: &[u64],
+) -> Result<(), Refusal>
+    ensures { refused_by result ≡ start_refusal cycle.now t y ledger.now map.now }
 {
-    if ledger.len() < LEDGER_NUMBERS {
-        return 1;
-    }
-    if map.len() < MAP_WORDS {
-        return 1;
+    if ledger.len() < LEDGER_NUMBERS || map.len() < MAP_WORDS {
+        return Err(Refusal::Ground);
     }
     if !is_cycle(cycle) {
-        return 2;
+        return Err(Refusal::Cycle);
     }
     if !is_tolerable(t) {
-        return 3;
+        return Err(Refusal::Tolerance);
     }
     if !is_method(y) {
-        return 19;
+        return Err(Refusal::Stretches);
     }
-    0
+    Ok(())
 }
 
-pub fn sample_refusal(run: Run, cycle: &[u8], ledger: &[i64], map: &[u64], x: Sample) -> u32
-    ensures { result ≡ sample_refusal run cycle.now ledger.now map.now x }
+#[tactic(auto, unfolding(crate::specs::Refusals::sample_refusal, crate::specs::State::run_ground, rules::specs::Words::unless))]
+pub fn sample_refusal(
+    run: Run,
+    cycle: &[u8],
+    ledger: &[i64],
+    map: &[u64],
+    x: Sample,
+) -> Result<(), Refusal>
+    ensures { refused_by result ≡ sample_refusal run cycle.now ledger.now map.now x }
 {
-    let a = ground_refusal(run, cycle, ledger, map);
-    if a != 0 {
-        return a;
-    }
+    ground_refusal(run, cycle, ledger, map)?;
     if MOST_OFFERED <= run.progress.offered {
-        return 7;
+        return Err(Refusal::Full);
     }
     if !is_sample(x) {
-        return 5;
+        return Err(Refusal::Sample);
     }
-    0
+    Ok(())
 }
 
 // How many intervals are closed.
 pub fn closed_of(progress: Progress) -> u32
     ensures { result ≡ closed_by progress }
 {
-    smaller(less(progress.offered, 1), progress.counted)
+    progress.offered.saturating_sub(1).min(progress.counted)
 }
 
 // The energy of M and E.
+// Stays: `is_run run` is asked here and by many, for the same reason; `ground_refusal` tests it once for each call.
 pub fn beside_of(run: Run) -> i64
     requires { is_run run ≡ true }
     ensures { result ≡ beside_by run }
@@ -211,9 +207,7 @@ pub fn cycles_of(run: Run) -> u32
 {
     let closed = closed_of(run.progress);
     let n = 20 * run.track.seconds;
-    let track = run.track;
-    let method = track.method;
-    match method {
+    match run.track.method {
         Method::Regular => closed / n,
         Method::Shortened(x) => finished_around(closed, n, x.length),
     }
@@ -226,9 +220,7 @@ pub fn last_cycle(run: Run, cycle: &[u8]) -> usize
 {
     let n = 20 * run.track.seconds;
     let last = last_judged(run.progress);
-    let track = run.track;
-    let method = track.method;
-    match method {
+    match run.track.method {
         Method::Regular => (last / n) as usize,
         Method::Shortened(x) => last_around(last, n, x.length) as usize,
     }

@@ -2,7 +2,7 @@
 ghost use Rattle.std.specs.Prelude.{◌≡◌, true, ◌≤◌};
 ghost use Rattle.rules.specs.Bench.{most_seconds};
 ghost use Rattle.values.specs.Limits.{is_method};
-ghost use Rattle.state.specs.State.{same_ends, is_progress, is_nothing, is_held, are_ends, is_stretch, are_stretched, is_stretched, most_of, is_run};
+ghost use Rattle.state.specs.State.{is_progress, is_nothing, is_held, are_ends, is_stretch, are_stretched, is_stretched, most_of, is_run};
 
 use crate::{Ends, Progress, Run, Stretch, Stretched, closed_of};
 use rules::limits::{
@@ -17,60 +17,22 @@ const CYCLES: u32 = MOST_CYCLES as u32;
 
 const MOST_END: u16 = MOST_SECONDS as u16;
 
-pub fn are_same(d: Ends, e: Ends) -> bool
-    ensures { result ≡ same_ends d e }
-{
-    if d.first != e.first {
-        return false;
-    }
-    if d.second != e.second {
-        return false;
-    }
-    if d.third != e.third {
-        return false;
-    }
-    d.fourth == e.fourth
-}
-
+#[tactic(auto, unfolding(crate::specs::State::are_ends))]
 fn are_ends(e: Ends) -> bool
     ensures { result ≡ are_ends e }
 {
-    if MOST_END < e.first {
-        return false;
-    }
-    if MOST_END < e.second {
-        return false;
-    }
-    if MOST_END < e.third {
-        return false;
-    }
-    e.fourth <= MOST_END
+    e.first <= MOST_END && e.second <= MOST_END && e.third <= MOST_END && e.fourth <= MOST_END
 }
 
 // Whether the samples offered and counted are such as the end says.
+#[tactic(auto, unfolding(crate::specs::State::is_progress))]
 fn is_progress(progress: Progress, most: u32) -> bool
     ensures { result ≡ is_progress progress.end most progress.offered progress.counted }
 {
-    let end = progress.end;
-    match end {
-        End::None => {
-            if progress.counted != progress.offered {
-                return false;
-            }
-            progress.counted <= most
-        }
-        End::Stop => {
-            if progress.offered <= progress.counted {
-                return false;
-            }
-            progress.counted < most
-        }
-        End::Limit => {
-            if progress.counted != most {
-                return false;
-            }
-            most < progress.offered
-        }
+    match progress.end {
+        End::None => progress.counted == progress.offered && progress.counted <= most,
+        End::Stop => progress.counted < progress.offered && progress.counted < most,
+        End::Limit => progress.counted == most && most < progress.offered,
     }
 }
 
@@ -78,27 +40,23 @@ fn is_progress(progress: Progress, most: u32) -> bool
 fn is_nothing(x: Moment) -> bool
     ensures { result ≡ is_nothing x }
 {
-    if x.speed != 0 {
-        return false;
-    }
-    x.energy == 0
+    x.speed == 0 && x.energy == 0
 }
 
 // Whether what is held of the open interval is within its limits: one is open while the run goes on, from its first sample on.
+#[tactic(auto, unfolding(crate::specs::State::is_held))]
 fn is_held(progress: Progress) -> bool
     ensures { result ≡ is_held progress.end progress.counted progress.held }
 {
     let held = progress.held;
-    let end = progress.end;
-    match end {
+    match progress.end {
         End::None => {
             if progress.counted == 0 {
                 return is_nothing(held);
             }
             is_moment(held)
         }
-        End::Stop => is_nothing(held),
-        End::Limit => is_nothing(held),
+        End::Stop | End::Limit => is_nothing(held),
     }
 }
 
@@ -107,31 +65,19 @@ fn is_stretch(begun: bool, x: Stretch) -> bool
     ensures { result ≡ is_stretch begun x }
 {
     if !begun {
-        if x.distance != 0 {
-            return false;
-        }
-        return x.energy == 0;
+        return x.distance == 0 && x.energy == 0;
     }
-    if MOST_STRETCH_DISTANCE < x.distance {
-        return false;
-    }
-    is_between(LEAST_STRETCH_ENERGY, MOST_STRETCH_ENERGY, x.energy)
+    x.distance <= MOST_STRETCH_DISTANCE
+        && is_between(LEAST_STRETCH_ENERGY, MOST_STRETCH_ENERGY, x.energy)
 }
 
 // Whether the numbers of the stretches are within their limits: whether intervals of M and of E are closed, and whether a sample of E is counted.
+#[tactic(auto, unfolding(crate::specs::State::are_stretched))]
 fn are_stretched(z: Stretched, m: bool, e: bool, watched: bool) -> bool
     ensures { result ≡ are_stretched z m e watched }
 {
-    if !is_stretch(m, z.in_m) {
-        return false;
-    }
-    if !is_stretch(e, z.in_e) {
-        return false;
-    }
-    if watched {
-        return z.watch <= MOST_BELOW;
-    }
-    z.watch == 0
+    let most = if watched { MOST_BELOW } else { 0 };
+    is_stretch(m, z.in_m) && is_stretch(e, z.in_e) && z.watch <= most
 }
 
 // The same of a run: by the regular method there are no stretches.
@@ -140,9 +86,7 @@ fn is_stretched(run: Run) -> bool
     ensures { result ≡ is_stretched run }
 {
     let stretched = run.stretched;
-    let track = run.track;
-    let method = track.method;
-    match method {
+    match run.track.method {
         Method::Regular => are_stretched(stretched, false, false, false),
         Method::Shortened(x) => {
             let two = 40 * run.track.seconds;
@@ -163,43 +107,24 @@ fn most_of(run: Run) -> u32
     requires { run.track.seconds ≤ most_seconds }
     ensures { result ≡ most_of run }
 {
-    let track = run.track;
-    let method = track.method;
-    match method {
+    match run.track.method {
         Method::Regular => CYCLES * (20 * run.track.seconds),
         Method::Shortened(_) => MOST_OFFERED,
     }
 }
 
 // Whether no number of the state is beyond its limits.
+#[tactic(auto, unfolding(crate::specs::State::is_run))]
 pub fn is_run(run: Run) -> bool
     ensures { result ≡ is_run run }
 {
-    if run.track.seconds < LEAST_SECONDS {
-        return false;
-    }
-    if MOST_SECONDS < run.track.seconds {
-        return false;
-    }
-    if !are_ends(run.track.ends) {
-        return false;
-    }
-    if !is_tolerable(run.track.tolerances) {
-        return false;
-    }
-    let track = run.track;
-    let method = track.method;
-    if !is_method(method) {
-        return false;
-    }
-    if MOST_OFFERED < run.progress.offered {
-        return false;
-    }
-    if !is_held(run.progress) {
-        return false;
-    }
-    if !is_stretched(run) {
-        return false;
-    }
-    is_progress(run.progress, most_of(run))
+    LEAST_SECONDS <= run.track.seconds
+        && run.track.seconds <= MOST_SECONDS
+        && are_ends(run.track.ends)
+        && is_tolerable(run.track.tolerances)
+        && is_method(run.track.method)
+        && run.progress.offered <= MOST_OFFERED
+        && is_held(run.progress)
+        && is_stretched(run)
+        && is_progress(run.progress, most_of(run))
 }

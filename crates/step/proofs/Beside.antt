@@ -5,7 +5,7 @@ use mathlib.Core.List.{List, []}
 use mathlib.Core.Path.{◌≡◌, sym, ap, ◌∙◌}
 use Prim.Native.Nat.{ℕ, ◌+◌, ◌*◌, ◌≤◌, ◌<◌}
 use native.Mathlib.Omega.{arith}
-use borrow.Author.Tests.{lt-ltb, le-ltb, ne_eqb}
+use borrow.Author.Tests.{lt-ltb, le-ltb}
 use lib.Dec.{ltb}
 use Rattle.numbers.proofs.Order.{digits}
 use Rattle.rules.specs.declared.Moment.{Moment}
@@ -25,25 +25,10 @@ use Rattle.laws.proofs.Shortened.{Stands, rides, in_M, in_E, stands, stand_M, st
 use Rattle.laws.proofs.Sound.{Sound, sound, real}
 use Rattle.state.specs.declared.Stretched.{Stretched}
 use Rattle.state.specs.State.{lent}
-use Rattle.step.specs.Step.{ended_by, counted_one, stretch_with, stretch_closed, with_watch, watch_in, judge_or_limit}
+use Rattle.step.specs.Step.{ended_by, counted_one, with_watch, watch_in, judge_or_limit}
 use Rattle.step.specs.Where.{Going, Taken, standing, progressed, Counts, taking, taken_at, one_beside}
 use Rattle.step.proofs.Standing.{row_is}
 use Rattle.step.proofs.Steps.{none_counts, judged_beside}
-
--- ---- an interval of this row
-
-module _ (row : ℕ) (z : Stretched) (x y : Moment) where
-  pub closed_M : row ≡ row_m → stretch_closed row z x y ≡ record { in_m = stretch_with z.in_m x y; in_e = z.in_e; watch = z.watch }
-  unfolding stretch_closed
-  closed_M e = rw e
-
-  pub closed_E : row ≡ row_e → stretch_closed row z x y ≡ record { in_m = z.in_m; in_e = stretch_with z.in_e x y; watch = z.watch }
-  unfolding stretch_closed
-  closed_E e = rw e
-
-  pub closed_none : (row ≡ row_m → ⊥) → (row ≡ row_e → ⊥) → stretch_closed row z x y ≡ z
-  unfolding stretch_closed
-  closed_none m e = rw (ne_eqb row row_m m, ne_eqb row row_e e)
 
 -- ---- sample n of a shortened run, with M of m samples
 

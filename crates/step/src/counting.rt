@@ -30,7 +30,7 @@ fn next_phase(cycle: &[u8], phase: usize, position: u32) -> usize
     requires { (valid cycle.now ≡ true) × (position + 1 < positions cycle.now) × (phase ≡ phase_at cycle.now position) }
     ensures { result ≡ phase_at cycle.now (position + 1) }
 {
-    if position + 1 < 20 * (end_of(cycle, phase) as u32) {
+    if position + 1 < 20 * u32::from(end_of(cycle, phase)) {
         return phase;
     }
     phase + 1
@@ -59,9 +59,8 @@ fn turned_by(cycle: &[u8], w: u32, y: Method, g: Going, x: Moment) -> Going
 {
     let next = next_place(cycle, w, y, g);
     let window = window_at(cycle, w, next.position);
-    let progress = g.progress;
     Going {
-        progress: counted_one(progress, x),
+        progress: counted_one(g.progress, x),
         row: next.row,
         phase: next.phase,
         window,
@@ -81,9 +80,8 @@ pub fn resumed_by(cycle: &[u8], w: u32, g: Going, x: Moment) -> Going
     ensures { result ≡ resumed_on cycle.now w g x }
 {
     let window = window_at(cycle, w, 0);
-    let progress = g.progress;
     Going {
-        progress: counted_one(progress, x),
+        progress: counted_one(g.progress, x),
         row: 2,
         phase: 0,
         window,
@@ -99,17 +97,11 @@ pub fn moved_by(g: Going, x: Moment) -> Going
     requires { (g.progress.offered < most_offered) × (g.progress.counted ≤ g.progress.offered) }
     ensures { result ≡ moved_on g x }
 {
-    let window = g.window;
-    let progress = g.progress;
     Going {
-        progress: counted_one(progress, x),
-        row: g.row,
-        phase: g.phase,
-        window,
+        progress: counted_one(g.progress, x),
         open_row: g.row,
         open_phase: g.phase,
-        position: g.position,
-        until: g.until,
+        ..g
     }
 }
 
@@ -122,16 +114,12 @@ pub fn counted_by(cycle: &[u8], w: u32, y: Method, g: Going, x: Moment) -> Going
     if g.until <= position + 1 {
         return turned_by(cycle, w, y, g, x);
     }
-    let window = g.window;
-    let progress = g.progress;
     Going {
-        progress: counted_one(progress, x),
-        row: g.row,
-        phase: g.phase,
-        window: shift(cycle, w, position, window),
+        progress: counted_one(g.progress, x),
+        window: shift(cycle, w, position, g.window),
         open_row: g.row,
         open_phase: g.phase,
         position: position + 1,
-        until: g.until,
+        ..g
     }
 }

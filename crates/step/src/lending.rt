@@ -16,8 +16,8 @@ pub fn mark_sample(map: &mut [u64], p: usize, outside: bool)
     requires { (p < most_positions) × (map_words ≤ length map.old) }
     ensures { map.new ≡ marked_if (opened map.old p) p outside }
 {
-    open_map(&mut *map, p);
-    mark_if(&mut *map, p, outside);
+    open_map(map, p);
+    mark_if(map, p, outside);
 }
 
 // The nine numbers of a cycle are lent on: the interval from sample x to sample y is of this row and phase.

@@ -28,7 +28,7 @@ use rules::limits::MOST_CYCLES;
 use rules::{End, Method, Moment, Tolerances};
 use state::{Progress, Run, Stretched};
 use stretches::{close_stretch, take_beside};
-use window::{Window, verdict_in, window_at};
+use window::{Side, Window, verdict_in, window_at};
 
 // Where a run stands while samples are taken: row, position and phase of the next sample and the window of its position, beside its progress.
 // Up to position `until` only the ends of the window move. The open interval is of the row and phase of the sample before.
@@ -52,7 +52,7 @@ pub struct Taken {
 }
 
 // Where the next sample stands.
-#[derive(Clone, Copy)]
+#[derive(Clone, Copy, Debug, PartialEq, Eq)]
 struct Next {
     row: usize,
     position: u32,
@@ -67,10 +67,9 @@ pub fn going_at(cycle: &[u8], run: Run) -> Going
     ensures { result ≡ standing cycle.now run.track.tolerances.time run.track.method run.progress }
 {
     let progress = run.progress;
-    let track = run.track;
-    let method = track.method;
+    let method = run.track.method;
     let next = place_at(cycle, method, progress.counted);
-    let window = window_at(cycle, track.tolerances.time, next.position);
+    let window = window_at(cycle, run.track.tolerances.time, next.position);
     let last = open_place(cycle, method, progress.counted);
     Going {
         progress,
@@ -88,14 +87,10 @@ pub fn going_at(cycle: &[u8], run: Run) -> Going
 pub fn with_taken(run: Run, x: Taken) -> Run
     ensures { result ≡ run_to run x.going.progress x.stretched }
 {
-    let track = run.track;
-    let going = x.going;
-    let progress = going.progress;
-    let stretched = x.stretched;
     Run {
-        track,
-        progress,
-        stretched,
+        progress: x.going.progress,
+        stretched: x.stretched,
+        ..run
     }
 }
 
@@ -103,7 +98,7 @@ pub fn with_taken(run: Run, x: Taken) -> Run
 fn is_outside(window: Window, s: u32, v: u32) -> bool
     ensures { result ≡ not (inside_of (least_in window) (greatest_in window) s v) }
 {
-    verdict_in(window, s, v) != 0
+    verdict_in(window, s, v) != Side::Inside
 }
 
 // A sample of an open run closes the open interval, in the ledger or in a stretch; before the first sample none is open.
@@ -118,15 +113,15 @@ fn close_interval(g: Going, z: Stretched, ledger: &mut [i64], x: Moment) -> Stre
     ensures value { result ≡ stretch_closed g.open_row z g.progress.held x }
     ensures ledger_after { ledger.new ≡ interval_closed g.open_row g.open_phase ledger.old g.progress.held x }
 {
-    let progress = g.progress;
     if MOST_CYCLES <= g.open_row {
-        return close_stretch(g.open_row, z, progress.held, x);
+        return close_stretch(g.open_row, z, g.progress.held, x);
     }
-    add_in_cycle(&mut *ledger, g.open_row, g.open_phase, progress.held, x);
+    add_in_cycle(ledger, g.open_row, g.open_phase, g.progress.held, x);
     z
 }
 
 // A sample that stands in a cycle, of an open run of which the last interval is closed.
+// Stays: here and below the parameters stand one by one; `take_one`'s contract names each, and a struct made anew at each sample would be no plainer.
 fn judge_one(
     cycle: &[u8],
     t: Tolerances,
@@ -145,11 +140,9 @@ fn judge_one(
     ensures { left result ledger.new map.new
         ≡ one_judged cycle.now t y g ledger.old map.old x }
 {
-    let position = g.position;
-    let window = g.window;
-    let outside = is_outside(window, t.speed, x.speed as u32);
-    mark_sample(&mut *map, position as usize, outside);
-    let over = count_in_cycle(&mut *ledger, g.row, outside, t.allowance);
+    let outside = is_outside(g.window, t.speed, x.speed as u32);
+    mark_sample(map, g.position as usize, outside);
+    let over = count_in_cycle(ledger, g.row, outside, t.allowance);
     if over {
         return ended_by(g, End::Stop);
     }
@@ -172,12 +165,12 @@ fn take_open(
     ensures { left result ledger.new map.new
         ≡ open_taken cycle.now t y (taking g z) ledger.old map.old x }
 {
-    let closed = close_interval(g, z, &mut *ledger, x);
+    let closed = close_interval(g, z, ledger, x);
     if MOST_CYCLES <= g.row {
         return take_beside(cycle, t, y, g, closed, x);
     }
     Taken {
-        going: judge_one(cycle, t, y, g, &mut *ledger, &mut *map, x),
+        going: judge_one(cycle, t, y, g, ledger, map, x),
         stretched: closed,
     }
 }
@@ -198,10 +191,10 @@ pub fn take_one(
     ensures { left result ledger.new map.new
         ≡ one_taken cycle.now t y (taking g z) ledger.old map.old x }
 {
-    let progress = g.progress;
-    let end = progress.end;
+    let end = g.progress.end;
+    // Stays: two arms that are alike; joined, `End::Stop | End::Limit`, they cost four instructions more at each sample, of 175.
     match end {
-        End::None => take_open(cycle, t, y, g, z, &mut *ledger, &mut *map, x),
+        End::None => take_open(cycle, t, y, g, z, ledger, map, x),
         End::Stop => Taken {
             going: offered_by(g, end),
             stretched: z,

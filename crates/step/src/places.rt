@@ -10,13 +10,13 @@ ghost use Rattle.step.specs.Where.{next_at, next_of, progressed};
 
 use crate::{Going, Next};
 use cycle::{end_of, phase_of, seconds_of};
-use numbers::smaller;
 use rules::limits::{ROW_E, ROW_M};
 use rules::{End, Method, Moment};
 use state::Progress;
 use window::Window;
 
 // A row in which no sample stands.
+// Stays: no Option: `open_row` (step/specs/Step.antt) says this row before the first sample, and each turn copies the struct that holds it.
 const NO_ROW: usize = ROW_E + 1;
 
 // Up to which position phase and window stay what they are, but for the window's ends.
@@ -24,24 +24,14 @@ pub fn until_in(cycle: &[u8], window: Window, phase: usize) -> u32
     requires { 2 + 2 * phase < length cycle.now }
     ensures { result ≡ min window.until (20 * phase_end cycle.now phase) }
 {
-    smaller(window.until, 20 * (end_of(cycle, phase) as u32))
+    window.until.min(20 * u32::from(end_of(cycle, phase)))
 }
 
 // The run stands where it stood, with other progress that counts as many samples.
 fn with_progress(g: Going, progress: Progress) -> Going
     ensures { result ≡ progressed g progress }
 {
-    let window = g.window;
-    Going {
-        progress,
-        row: g.row,
-        phase: g.phase,
-        window,
-        open_row: g.open_row,
-        open_phase: g.open_phase,
-        position: g.position,
-        until: g.until,
-    }
+    Going { progress, ..g }
 }
 
 // A sample more is offered to a run that has ended so.
@@ -49,15 +39,12 @@ pub fn offered_by(g: Going, end: End) -> Going
     requires { g.progress.offered < most_offered }
     ensures { result ≡ progressed g (offered_one g.progress end) }
 {
-    let progress = g.progress;
-    let held = progress.held;
     with_progress(
         g,
         Progress {
-            offered: progress.offered + 1,
-            counted: progress.counted,
+            offered: g.progress.offered + 1,
             end,
-            held,
+            ..g.progress
         },
     )
 }
@@ -67,17 +54,16 @@ pub fn ended_by(g: Going, end: End) -> Going
     requires { g.progress.offered < most_offered }
     ensures { result ≡ progressed g (ended_by g.progress end) }
 {
-    let progress = g.progress;
     with_progress(
         g,
         Progress {
-            offered: progress.offered + 1,
-            counted: progress.counted,
+            offered: g.progress.offered + 1,
             end,
             held: Moment {
                 speed: 0,
                 energy: 0,
             },
+            ..g.progress
         },
     )
 }

@@ -27,24 +27,21 @@ fn with_interval(z: Stretch, x: Moment, y: Moment) -> Stretch
 }
 
 // The interval from sample x to sample y is of this row: M's or E's.
+#[tactic(auto, unfolding(crate::specs::Step::stretch_closed))]
 pub fn close_stretch(row: usize, z: Stretched, x: Moment, y: Moment) -> Stretched
     requires { StretchFits z.in_m most_offered × StretchFits z.in_e most_offered × (is_moment x ≡ true) × (is_moment y ≡ true) }
     ensures { result ≡ stretch_closed row z x y }
 {
-    let in_m = z.in_m;
-    let in_e = z.in_e;
     if row == ROW_M {
         return Stretched {
-            in_m: with_interval(in_m, x, y),
-            in_e,
-            watch: z.watch,
+            in_m: with_interval(z.in_m, x, y),
+            ..z
         };
     }
     if row == ROW_E {
         return Stretched {
-            in_m,
-            in_e: with_interval(in_e, x, y),
-            watch: z.watch,
+            in_e: with_interval(z.in_e, x, y),
+            ..z
         };
     }
     z
@@ -55,19 +52,20 @@ fn watch_next(u: u32, s: u32, v: u64, watch: u64) -> u64
     requires { (v ≤ most_speed) × (watch ≤ most_below) }
     ensures { result ≡ watch_next (leb u v) (is_below u s v) watch }
 {
-    if (u as u64) <= v {
+    if u64::from(u) <= v {
         return 1;
     }
     if watch == 0 {
         return 0;
     }
-    if v + (s as u64) < (u as u64) {
+    if v + u64::from(s) < u64::from(u) {
         return watch + 1;
     }
     1
 }
 
 // The same where the sample stands in this row: M has no part in it.
+#[tactic(auto, unfolding(crate::specs::Step::watch_in))]
 fn watch_in(y: Stretches, s: u32, row: usize, v: u64, watch: u64) -> u64
     requires { (v ≤ most_speed) × (watch ≤ most_below) }
     ensures { result ≡ watch_in (with_stretches y) s row v watch }
@@ -83,10 +81,8 @@ fn counted_beside(cycle: &[u8], w: u32, y: Stretches, g: Going, x: Moment) -> Go
     requires { Counts cycle.now w (with_stretches y) g × (most_cycles ≤ g.row) }
     ensures { result ≡ standing cycle.now w (with_stretches y) (counted_one g.progress x) }
 {
-    if g.row == ROW_M {
-        if 40 * seconds_of(cycle) + y.length <= g.progress.counted + 1 {
-            return resumed_by(cycle, w, g, x);
-        }
+    if g.row == ROW_M && 40 * seconds_of(cycle) + y.length <= g.progress.counted + 1 {
+        return resumed_by(cycle, w, g, x);
     }
     moved_by(g, x)
 }
@@ -110,11 +106,9 @@ fn take_stretch(
             stretched: z,
         };
     }
-    let in_m = z.in_m;
-    let in_e = z.in_e;
     Taken {
         going: counted_beside(cycle, t.time, y, g, x),
-        stretched: Stretched { in_m, in_e, watch },
+        stretched: Stretched { watch, ..z },
     }
 }
 

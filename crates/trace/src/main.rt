@@ -1,31 +1,27 @@
 // The trace: a record from standard input, its sheet with every number that it came from to standard output.
 #![tactic(auto)]
 
-use edges::{print, tell};
-use rules::limits::{LEDGER_NUMBERS, MAP_WORDS, MOST_BYTES};
+use edges::{Fault, print, tell_fault};
+use intake::programs::Memory;
 use traced::trace_record;
 use tracing::MOST_TRACE;
 
-fn main(rt: HostRuntime) {
-    let mut buffer = [0u8; 4864];
-    let mut room = [0u8; MOST_BYTES];
-    let mut ledger = [0i64; LEDGER_NUMBERS];
-    let mut map = [0u64; MAP_WORDS];
-    let mut lines = [0u8; MOST_TRACE];
+fn trace(rt: HostRuntime) -> Result<(), Fault> {
+    let mut m = Memory::<MOST_TRACE>::new();
     let x = trace_record(
         rt,
-        18_446_744_073_709_551_615,
-        &mut buffer[..],
-        &mut room[..],
-        &mut ledger[..],
-        &mut map[..],
-        &mut lines[..],
+        u64::MAX,
+        &mut m.buffer,
+        &mut m.room,
+        &mut m.ledger,
+        &mut m.map,
+        &mut m.lines,
     );
-    if x.failed {
-        tell(rt, b"trace: the input could not be read\n");
-        return;
-    }
-    if !print(rt, &lines[..], x.printed) {
-        tell(rt, b"trace: the output was lost\n");
+    print(rt, &m.lines, x.printed?)
+}
+
+fn main(rt: HostRuntime) {
+    if let Err(fault) = trace(rt) {
+        tell_fault(rt, "trace", fault);
     }
 }

@@ -1,25 +1,18 @@
 -- What is printed of a file that is traced is what the rules give for the bytes that came from it, in whatever parts they came.
 -- Assumes nothing.
-use mathlib.Core.Bool.{Bool, false, cond}
-use mathlib.Core.List.{List, [], ◌∷◌, ◌++◌}
-use mathlib.Core.Logic.{⊎_elim}
-use mathlib.Core.Path.{◌≡◌, refl, sym, ap, subst, ◌∙◌}
+use mathlib.Core.List.{List, ◌++◌}
+use mathlib.Core.Path.{◌≡◌, refl, sym, ap, ◌∙◌}
 use Prim.Native.Nat.{ℕ, ◌≤◌}
 use native.Mathlib.Omega.{arith}
-use types.Run.{OneOf}
-use denote.Enum.Declared.{tag_of}
-use lib.Dec.{leb}
 use lib.IntN.{ℤ}
 use lib.ListN.{length, take, drop}
-use Rattle.rules.specs.Words.{unless}
 use Rattle.rules.specs.declared.Spot.{Spot}
 use Rattle.rules.specs.Listing.{list_of}
 use Rattle.rules.specs.Trace.{traced}
 use Rattle.laws.specs.Answers.{Said, gives, refuses}
-use Rattle.sheet.specs.Overlaid.{overlaid, most_sheet}
 use Rattle.desk.specs.Feeding.{Laid, Consumed, Lent, laid_of, feed_of}
 use Rattle.desk.proofs.Arriving.{Arrived, arrived_none, arrived_more}
-use Rattle.prints.specs.Printed.{PrintsIn, refuse_text}
+use Rattle.prints.specs.Printed.{refuse_text}
 use Rattle.prints.proofs.Texts.{text_at}
 use Rattle.tracing.specs.Traced.{most_trace, trace_close_text}
 use Rattle.tracing.proofs.Printed.{trace_print, trace_refusal}
@@ -27,25 +20,11 @@ use Rattle.intake.specs.declared.Intake.{Intake}
 use Rattle.intake.specs.declared.Turned.{Turned}
 use Rattle.intake.specs.declared.Turned.TheVariants.{On, Ended, Failed, Refused}
 use Rattle.intake.specs.Turns.{is_failed, Came, none, part, turned_said}
-use Rattle.intake.proofs.Told.{start}
-use Rattle.intake.specs.contracts.Turned.{the_type as turned-type}
+use Rattle.std.specs.Prelude.{Ok}
+use Rattle.intake.proofs.Told.{start, was_printed}
 use Rattle.intake.proofs.Untested.{came_arrived}
 use Rattle.walk.proofs.Printed.{spot_is}
 use Rattle.traced.specs.Recorded.{last_trace, room_for, trace_of, Recorded}
-
--- what is printed of the last turn, by what became of it: the line of a refused field, or what stands where the input ends
-module _ (x : Laid) (blocks held : ℕ) (out : List ℕ) where
-  abbrev By : Turned → ℕ → List ℕ → Type 0
-  By z r after = PrintsIn (room_for z) (last_trace z x blocks held) out r after
-
-  pub refused_stands : {z : Turned} {k r : ℕ} {after : List ℕ} → z ≡ Refused k → PrintsIn most_sheet (refuse_text x k) out r after → By z r after
-  refused_stands {r = r} {after = after} e p = subst (λ (z : Turned). By z r after) (sym e) p
-
-  pub other_stands : (z : Turned) → OneOf (0 ∷ 1 ∷ 2 ∷ []) (tag_of turned-type z) → {r : ℕ} {after : List ℕ} → PrintsIn most_trace (trace_close_text x blocks held) out r after → By z r after
-  other_stands On h p = p
-  other_stands Ended h p = p
-  other_stands Failed h p = p
-  other_stands (Refused k) h p = absurd (⊎_elim (λ e. omega arith) (⊎_elim (λ e. omega arith) (λ e. omega arith)) h)
 
 room_most : (z : Turned) → room_for z ≤ most_trace
 room_most On = omega arith
@@ -81,17 +60,15 @@ module _ (lent : Lent) where
 
   -- every number of the trace is the rules' one, to the bytes that are written: the lines are what the rules give for the bytes that came
   pub trace_record_prints : {most : ℕ} {out : List ℕ} {r : Intake} {buffer room : List ℕ} {l : List ℤ} {m after : List ℕ} (c : Recorded (start lent) most out r buffer room l m after)
-      → r.failed ≡ false → most_trace ≤ length out → take r.printed after ≡ traced c.walked.shows.stood.bytes
-  trace_record_prints {out = out} {room = room} {l = l} {m = m} c e h =
+      → {k : ℕ} → r.printed ≡ Ok k → most_trace ≤ length out → take k after ≡ traced c.walked.shows.stood.bytes
+  trace_record_prints {out = out} {room = room} {l = l} {m = m} c {k} e h =
       let s = c.walked.shows in
       let x = laid_of c.turn.desk room l m in
       let blocks = c.spot.blocks in
       let n = room_for c.turn.turned in
       let text = trace_of c.turn x blocks in
-      let on : is_failed c.turn.turned ≡ false = ap (λ (y : Intake). y.failed) (sym c.answer) ∙ e in
-      text_at n text out
-      (ap (λ (y : Intake). y.printed) c.answer ∙ ap (λ (b : Bool). cond b 0 (unless 0 (leb n (length out)) (length text))) on)
-      (c.lines ∙ ap (λ (b : Bool). cond b out (unless out (leb n (length out)) (overlaid out 0 text))) on)
+      let both = was_printed (is_failed c.turn.turned) _ _ (sym e ∙ ap (λ (y : Intake). y.printed) c.answer) c.lines in
+      text_at n text out both.0 both.1
       (omega (arith, room_most c.turn.turned))
       ∙ by_said c.turn.turned x blocks c.turn.held
       ∙ ap (text_by (turned_said c.turn.turned) x blocks) (sym s.stood.held.1)

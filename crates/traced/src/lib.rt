@@ -8,6 +8,7 @@ ghost use Rattle.intake.specs.Turns.{Unread};
 ghost use Rattle.traced.specs.Recorded.{room_for, trace_of, Recorded};
 
 use desk::empty;
+use edges::Fault;
 use intake::turns::has_failed;
 use intake::{Intake, LONGEST, Turned};
 use prints::refuse;
@@ -16,26 +17,25 @@ use walk::Walk;
 use walk::passing::pass_through;
 
 // What is printed of a record that was walked through, to its end or to a refused field.
+// Stays: beside `print_record` (intake): the texts need lines of other lengths (`room_for`), and two lines would not get fewer by a closure.
 fn print_trace(walk: Walk, room: &[u8], ledger: &[i64], map: &[u64], lines: &mut [u8]) -> usize
     ensures { PrintsIn (room_for walk.turn.turned)
         (trace_of walk.turn (laid_of walk.turn.desk room.now ledger.now map.now) walk.spot.blocks)
         lines.old result lines.new }
 {
     let turn = walk.turn;
-    let desk = turn.desk;
-    let turned = turn.turned;
-    if let Turned::Refused(number) = turned {
-        return refuse(desk, number, &mut *lines);
+    match turn.turned {
+        Turned::Refused(number) => refuse(turn.desk, number, lines),
+        _ => trace_close(
+            turn.desk,
+            walk.spot.blocks,
+            turn.held,
+            room,
+            ledger,
+            map,
+            lines,
+        ),
     }
-    trace_close(
-        desk,
-        walk.spot.blocks,
-        turn.held,
-        room,
-        ledger,
-        map,
-        &mut *lines,
-    )
 }
 
 // A record of at most so many bytes: its trace stands in the lines.
@@ -52,25 +52,20 @@ fn trace_through(
     ensures { Recorded (laid_of empty_desk room.old ledger.old map.old) most lines.old
         result buffer.new room.new ledger.new map.new lines.new }
 {
-    let walk = pass_through(rt, most, &mut *buffer, &mut *room, &mut *ledger, &mut *map);
-    let turn = walk.turn;
-    let left = turn.left;
-    let turned = turn.turned;
-    if has_failed(turned) {
-        return Intake {
-            printed: 0,
-            left,
-            failed: true,
-        };
-    }
+    let walk = pass_through(rt, most, buffer, room, ledger, map);
+    let printed = if has_failed(walk.turn.turned) {
+        Err(Fault::Input)
+    } else {
+        Ok(print_trace(walk, room, ledger, map, lines))
+    };
     Intake {
-        printed: print_trace(walk, &room[..], &ledger[..], &map[..], &mut *lines),
-        left,
-        failed: false,
+        printed,
+        left: walk.turn.left,
     }
 }
 
 // The same, of any buffer: one that is too short for a field is refused 1 before all else.
+// Stays: beside `intake::take_record`: a step that is handed over would have to lend all slices on, and each of the two promises a `Recorded` of its own.
 pub fn trace_record(
     rt: HostRuntime,
     most: u64,
@@ -90,18 +85,9 @@ pub fn trace_record(
 {
     if buffer.len() < LONGEST {
         return Intake {
-            printed: refuse(empty(), 1, &mut *lines),
+            printed: Ok(refuse(empty(), 1, lines)),
             left: most,
-            failed: false,
         };
     }
-    trace_through(
-        rt,
-        most,
-        &mut *buffer,
-        &mut *room,
-        &mut *ledger,
-        &mut *map,
-        &mut *lines,
-    )
+    trace_through(rt, most, buffer, room, ledger, map, lines)
 }

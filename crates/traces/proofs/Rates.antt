@@ -1,23 +1,18 @@
 -- What a rate is formed of: numbers from 1 on, as the machine tests and casts them.
 -- Assumes nothing.
-use mathlib.Core.Path.{◌≡◌, refl, sym, ap, ◌∙◌, subst}
-use mathlib.Core.Bool.{Bool, true, not, ◌&&◌, false≢true}
+use mathlib.Core.Path.{◌≡◌, refl, sym, subst}
+use mathlib.Core.Bool.{Bool, true, ◌&&◌, false≢true}
 use Prim.Native.Nat.{◌^◌, ◌≤◌, ◌<◌}
 use native.Mathlib.Omega.{arith}
 use borrow.Author.Tests.{leb-true}
 use lib.Dec.{T}
 use lib.IntN.{ℤ, pos, negsuc, nat_abs}
-use lib.Signed.{le_z, lt_z, non_neg}
+use lib.Signed.{le_z, non_neg}
 use mir.Syntax.{w64}
 use mir.Val.{SFits, Fits, to_z, of_z}
-use Rattle.numbers.proofs.Whole.{le_not}
 use Rattle.numbers.proofs.Signed.{read, sized_fits}
 use Rattle.numbers.proofs.Tests.{both}
 use Rattle.rules.specs.Words.{up}
-
--- the test of the machine, where it gave t
-pub from_one : {z : ℤ} (t : Bool) → SFits w64 z → lt_z (to_z w64 (of_z w64 z)) (pos 1) ≡ t → not t ≡ le_z (pos 1) z
-from_one {z} t fits e = ap not (sym e ∙ ap (λ (x : ℤ). lt_z x (pos 1)) (read fits)) ∙ sym (le_not z (pos 1))
 
 -- the machine's reading y of z, cast to a number without sign
 pub record Cast (y z : ℤ) : Type 0 where

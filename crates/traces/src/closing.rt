@@ -4,7 +4,7 @@ ghost use Rattle.rules.specs.Trace.{amounts_line, sum_text, weight_text, charge_
 ghost use Rattle.sheet.specs.Overlaid.{Wrote};
 ghost use Rattle.traces.specs.Bounds.{most_place};
 
-use rules::{Amounts, Charge};
+use rules::Amounts;
 use sheet::lines::{number_line, signed_line, text_line};
 use sheet::text::{put_number, put_signed, put_text};
 
@@ -13,10 +13,10 @@ fn amounts_line(out: &mut [u8], at: usize, a: Amounts) -> usize
     requires { at + 70 ≤ length out.old }
     ensures { Wrote 70 out.old at (amounts_line a) out.new result }
 {
-    let word = put_text(&mut *out, at, b"transfer", 32);
-    let name = put_text(&mut *out, word, b"before", 32);
-    let next = put_signed(&mut *out, name, a.before, 32);
-    signed_line(&mut *out, next, b"after", a.after)
+    let word = put_text(out, at, b"transfer", 32);
+    let name = put_text(out, word, b"before", 32);
+    let next = put_signed(out, name, a.before, 32);
+    signed_line(out, next, b"after", a.after)
 }
 
 // The lines from "cycles" to "whole".
@@ -32,11 +32,11 @@ pub fn sum_lines(
     requires { at + 198 ≤ length out.old }
     ensures { Wrote 198 out.old at (sum_text cycles outside drawn amounts whole) out.new result }
 {
-    let first = number_line(&mut *out, at, b"cycles", cycles as u64);
-    let second = signed_line(&mut *out, first, b"outside", outside);
-    let third = signed_line(&mut *out, second, b"drawn", drawn);
-    let fourth = amounts_line(&mut *out, third, amounts);
-    signed_line(&mut *out, fourth, b"whole", whole)
+    let first = number_line(out, at, b"cycles", cycles as u64);
+    let second = signed_line(out, first, b"outside", outside);
+    let third = signed_line(out, second, b"drawn", drawn);
+    let fourth = amounts_line(out, third, amounts);
+    signed_line(out, fourth, b"whole", whole)
 }
 
 // "weight C NUM DEN"; c counts from 0.
@@ -44,19 +44,19 @@ pub fn weight_line(out: &mut [u8], at: usize, c: u64, num: u64, den: u64) -> usi
     requires { (at + 70 ≤ length out.old) × (c ≤ most_place) }
     ensures { Wrote 70 out.old at (weight_text c num den) out.new result }
 {
-    let word = put_text(&mut *out, at, b"weight", 32);
-    let cycle = put_number(&mut *out, word, c + 1, 32);
-    let next = put_number(&mut *out, cycle, num, 32);
-    put_number(&mut *out, next, den, 10)
+    let word = put_text(out, at, b"weight", 32);
+    let cycle = put_number(out, word, c + 1, 32);
+    let next = put_number(out, cycle, num, 32);
+    put_number(out, next, den, 10)
 }
 
 // "recharge A | recharge -".
-pub fn charge_line(out: &mut [u8], at: usize, charge: Charge) -> usize
+pub fn charge_line(out: &mut [u8], at: usize, charge: Option<u32>) -> usize
     requires { at + 32 ≤ length out.old }
     ensures { Wrote 32 out.old at (charge_line charge) out.new result }
 {
     match charge {
-        Charge::Absent => text_line(&mut *out, at, b"recharge", b"-"),
-        Charge::Wh(a) => number_line(&mut *out, at, b"recharge", a as u64),
+        None => text_line(out, at, b"recharge", b"-"),
+        Some(a) => number_line(out, at, b"recharge", a as u64),
     }
 }

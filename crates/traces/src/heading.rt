@@ -18,10 +18,10 @@ fn shortened_line(out: &mut [u8], at: usize, x: Stretches) -> usize
         (spaced (spell "method") ++ spaced (spell "shortened") ++ spaced (digits x.length) ++ ended (digits x.speed))
         out.new result }
 {
-    let word = put_text(&mut *out, at, b"method", 32);
-    let name = put_text(&mut *out, word, b"shortened", 32);
-    let next = put_number(&mut *out, name, x.length as u64, 32);
-    put_number(&mut *out, next, x.speed as u64, 10)
+    let word = put_text(out, at, b"method", 32);
+    let name = put_text(out, word, b"shortened", 32);
+    let next = put_number(out, name, x.length as u64, 32);
+    put_number(out, next, x.speed as u64, 10)
 }
 
 // "method regular | method shortened M U".
@@ -30,8 +30,8 @@ pub fn method_line(out: &mut [u8], at: usize, method: Method) -> usize
     ensures { Wrote 59 out.old at (method_line method) out.new result }
 {
     match method {
-        Method::Regular => text_line(&mut *out, at, b"method", b"regular"),
-        Method::Shortened(x) => shortened_line(&mut *out, at, x),
+        Method::Regular => text_line(out, at, b"method", b"regular"),
+        Method::Shortened(x) => shortened_line(out, at, x),
     }
 }
 
@@ -40,11 +40,11 @@ pub fn fields_line(out: &mut [u8], at: usize, fields: u64, blocks: u64, passed: 
     requires { at + 88 ≤ length out.old }
     ensures { Wrote 88 out.old at (fields_line fields blocks passed) out.new result }
 {
-    let word = put_text(&mut *out, at, b"fields", 32);
-    let next = put_number(&mut *out, word, fields, 32);
-    let name = put_text(&mut *out, next, b"blocks", 32);
-    let last = put_number(&mut *out, name, blocks, 32);
-    number_line(&mut *out, last, b"passed", passed as u64)
+    let word = put_text(out, at, b"fields", 32);
+    let next = put_number(out, word, fields, 32);
+    let name = put_text(out, next, b"blocks", 32);
+    let last = put_number(out, name, blocks, 32);
+    number_line(out, last, b"passed", passed as u64)
 }
 
 // "stop cycle C position P": the cycle counts from 1, the position from 0.
@@ -54,10 +54,10 @@ pub fn stop_at_cycle(out: &mut [u8], at: usize, cycle: u64, position: u64) -> us
         (spaced (spell "stop") ++ spaced (spell "cycle") ++ spaced (digits cycle) ++ line (spell "position") (digits position))
         out.new result }
 {
-    let word = put_text(&mut *out, at, b"stop", 32);
-    let name = put_text(&mut *out, word, b"cycle", 32);
-    let next = put_number(&mut *out, name, cycle, 32);
-    number_line(&mut *out, next, b"position", position)
+    let word = put_text(out, at, b"stop", 32);
+    let name = put_text(out, word, b"cycle", 32);
+    let next = put_number(out, name, cycle, 32);
+    number_line(out, next, b"position", position)
 }
 
 // "stop stretch E".
@@ -65,8 +65,8 @@ pub fn stop_in_e(out: &mut [u8], at: usize) -> usize
     requires { at + 37 ≤ length out.old }
     ensures { Wrote 37 out.old at (spaced (spell "stop") ++ line (spell "stretch") (spell "E")) out.new result }
 {
-    let next = put_text(&mut *out, at, b"stop", 32);
-    text_line(&mut *out, next, b"stretch", b"E")
+    let next = put_text(out, at, b"stop", 32);
+    text_line(out, next, b"stretch", b"E")
 }
 
 // The vehicle, the method, the cycle and the tolerances, a line each.
@@ -83,8 +83,8 @@ pub fn plan_lines(
         (plan_lines vehicle.now (plan cycle.now tolerances method))
         out.new result }
 {
-    let run = text_line(&mut *out, at, b"run", vehicle);
-    let driven = method_line(&mut *out, run, method);
-    let next = cycle_line(&mut *out, driven, cycle);
-    tolerances_line(&mut *out, next, tolerances)
+    let run = text_line(out, at, b"run", vehicle);
+    let driven = method_line(out, run, method);
+    let next = cycle_line(out, driven, cycle);
+    tolerances_line(out, next, tolerances)
 }

@@ -18,10 +18,10 @@ fn gathered_text(out: &mut [u8], at: usize, g: Gathered) -> usize
     requires { at + 60 ≤ length out.old }
     ensures { Wrote 60 out.old at (gathered_text g) out.new result }
 {
-    let word = put_text(&mut *out, at, b"energy", 32);
-    let next = put_signed(&mut *out, word, g.energy, 32);
-    let name = put_text(&mut *out, next, b"distance", 32);
-    put_signed(&mut *out, name, g.distance, 32)
+    let word = put_text(out, at, b"energy", 32);
+    let next = put_signed(out, word, g.energy, 32);
+    let name = put_text(out, next, b"distance", 32);
+    put_signed(out, name, g.distance, 32)
 }
 
 // "finished|open", to the end of the line.
@@ -30,9 +30,9 @@ fn finished_word(out: &mut [u8], at: usize, finished: bool) -> usize
     ensures { Wrote 9 out.old at (ended (finished_word finished)) out.new result }
 {
     if finished {
-        return put_text(&mut *out, at, b"finished", 10);
+        return put_text(out, at, b"finished", 10);
     }
-    put_text(&mut *out, at, b"open", 10)
+    put_text(out, at, b"open", 10)
 }
 
 // "phase C K energy X distance Y finished|open", where the phase has begun; c and k count from 0.
@@ -43,24 +43,18 @@ pub fn phase_line(out: &mut [u8], at: usize, c: u64, k: u64, g: Gathered) -> usi
     if !g.begun {
         return at;
     }
-    let word = put_text(&mut *out, at, b"phase", 32);
-    let cycle = put_number(&mut *out, word, c + 1, 32);
-    let phase = put_number(&mut *out, cycle, k + 1, 32);
-    let next = gathered_text(&mut *out, phase, g);
-    finished_word(&mut *out, next, g.finished)
+    let word = put_text(out, at, b"phase", 32);
+    let cycle = put_number(out, word, c + 1, 32);
+    let phase = put_number(out, cycle, k + 1, 32);
+    let next = gathered_text(out, phase, g);
+    finished_word(out, next, g.finished)
 }
 
 // "Q where it is finished, X >= 1 and Y >= 1".
 fn has_rate(g: Gathered) -> bool
     ensures { result ≡ (g.finished && le_z (pos 1) g.energy && le_z (pos 1) g.distance) }
 {
-    if !g.finished {
-        return false;
-    }
-    if g.energy < 1 {
-        return false;
-    }
-    1 <= g.distance
+    g.finished && 1 <= g.energy && 1 <= g.distance
 }
 
 // "floor(100 X / Y)".
@@ -77,11 +71,11 @@ fn rate_text(out: &mut [u8], at: usize, g: Gathered) -> usize
     ensures { Wrote 41 out.old at (rate_text g) out.new result }
 {
     if !has_rate(g) {
-        return finished_word(&mut *out, at, g.finished);
+        return finished_word(out, at, g.finished);
     }
     let q = rate_of(g.energy, g.distance);
-    let next = put_text(&mut *out, at, b"finished", 32);
-    number_line(&mut *out, next, b"rate", q)
+    let next = put_text(out, at, b"finished", 32);
+    number_line(out, next, b"rate", q)
 }
 
 // "cycle C energy X distance Y".
@@ -89,19 +83,16 @@ fn row_text(out: &mut [u8], at: usize, c: u64, g: Gathered) -> usize
     requires { (at + 87 ≤ length out.old) × (c ≤ most_place) }
     ensures { Wrote 87 out.old at (spaced (spell "cycle") ++ spaced (digits (suc c)) ++ gathered_text g) out.new result }
 {
-    let word = put_text(&mut *out, at, b"cycle", 32);
-    let next = put_number(&mut *out, word, c + 1, 32);
-    gathered_text(&mut *out, next, g)
+    let word = put_text(out, at, b"cycle", 32);
+    let next = put_number(out, word, c + 1, 32);
+    gathered_text(out, next, g)
 }
 
 // "each cycle in which a share is closed or a sample is outside".
 fn is_shown(begun: bool, outside: i64) -> bool
     ensures { result ≡ (begun || le_z (pos 1) outside) }
 {
-    if begun {
-        return true;
-    }
-    1 <= outside
+    begun || 1 <= outside
 }
 
 // "cycle C energy X distance Y outside O finished|open [rate Q]", where it is shown; c counts from 0.
@@ -112,10 +103,10 @@ pub fn row_line(out: &mut [u8], at: usize, c: u64, g: Gathered, outside: i64) ->
     if !is_shown(g.begun, outside) {
         return at;
     }
-    let text = row_text(&mut *out, at, c, g);
-    let word = put_text(&mut *out, text, b"outside", 32);
-    let next = put_signed(&mut *out, word, outside, 32);
-    rate_text(&mut *out, next, g)
+    let text = row_text(out, at, c, g);
+    let word = put_text(out, text, b"outside", 32);
+    let next = put_signed(out, word, outside, 32);
+    rate_text(out, next, g)
 }
 
 // "stretch M|E energy X distance Y finished|open", where the stretch has begun; the name is M or E.
@@ -126,8 +117,8 @@ pub fn stretch_line(out: &mut [u8], at: usize, name: &[u8], g: Gathered) -> usiz
     if !g.begun {
         return at;
     }
-    let word = put_text(&mut *out, at, b"stretch", 32);
-    let text = put_text(&mut *out, word, name, 32);
-    let next = gathered_text(&mut *out, text, g);
-    finished_word(&mut *out, next, g.finished)
+    let word = put_text(out, at, b"stretch", 32);
+    let text = put_text(out, word, name, 32);
+    let next = gathered_text(out, text, g);
+    finished_word(out, next, g.finished)
 }

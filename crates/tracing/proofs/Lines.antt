@@ -10,12 +10,11 @@ use lib.Dec.{ltb}
 use lib.IntN.{ℤ, ◌+ℤ◌}
 use Rattle.numbers.proofs.Range.{fold_same}
 use Rattle.rules.specs.Words.{up, spell}
-use Rattle.rules.specs.declared.ClosingAnswer.{ClosingAnswer}
-use Rattle.rules.specs.declared.ClosingAnswer.TheVariants.{Closed, Refused}
+use Rattle.rules.specs.Closing.{ClosingAnswer, weight}
+use Rattle.std.specs.Prelude.{Ok as Closed, Err as Refused}
 use Rattle.rules.specs.declared.Figures.{Figures}
 use Rattle.rules.specs.declared.Gathered.{Gathered}
 use Rattle.rules.specs.Bench.{most_cycles}
-use Rattle.rules.specs.Closing.{weight}
 use Rattle.rules.specs.Course.{row_m, row_e}
 use Rattle.rules.specs.Text.{digits, line, end_line, recharge_line}
 use Rattle.rules.specs.Listing.{in_turn}

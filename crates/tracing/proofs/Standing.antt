@@ -3,13 +3,14 @@
 use mathlib.Core.Bool.{Bool, true, false, cond}
 use mathlib.Core.List.{List, ◌++◌}
 use mathlib.Core.Path.{◌≡◌, refl, sym, ap, ◌∙◌}
-use Prim.Native.Nat.{ℕ, suc, ◌+◌, ◌*◌}
-use native.Mathlib.Numerals.{add-one}
+use Prim.Native.Nat.{ℕ, suc, ◌-◌, ◌*◌}
 use native.Mathlib.Omega.{arith}
+use lib.Dec.{eqb}
 use Rattle.rules.specs.Words.{spell}
 use Rattle.rules.specs.declared.End.{End}
 use Rattle.rules.specs.declared.End.TheVariants.{None as none, Stop as stop, Limit as limit}
 use Rattle.rules.specs.Cycle.{seconds, positions, valid}
+use Rattle.rules.specs.Course.{row_e}
 use Rattle.rules.specs.Plan.{layout_of}
 use Rattle.rules.specs.Text.{digits, spaced, line}
 use Rattle.rules.specs.Trace.{stop_text, stop_line}
@@ -18,8 +19,7 @@ use Rattle.state.specs.declared.Run.{Run}
 use Rattle.state.specs.State.{most_by, is_run}
 use Rattle.state.proofs.Checked.{limits, progress_most}
 use Rattle.judge.proofs.Beside.{planned_most}
-use Rattle.sources.specs.declared.Stop.{Stop}
-use Rattle.sources.specs.Sources.{stop_by, stop_on, stood_at}
+use Rattle.sources.specs.Sources.{stop_at, stop_by, stop_on, stood_at}
 use Rattle.sources.proofs.Places.{stop_stands}
 use Rattle.tracing.specs.Traced.{stop_shown, stop_for}
 
@@ -30,13 +30,9 @@ in_e = spaced (spell "stop") ++ line (spell "stretch") (spell "E")
 abbrev in_cycle : ℕ → ℕ → List ℕ
 in_cycle c p = spaced (spell "stop") ++ spaced (spell "cycle") ++ spaced (digits c) ++ line (spell "position") (digits p)
 
-module _ (s : Stop) where
-  pub shown_in_e : s.in_e ≡ true → in_e ≡ stop_shown s
-  shown_in_e e = ap (λ (b : Bool). cond b in_e (in_cycle (suc s.cycle) s.position)) (sym e)
-
-  pub shown_at_cycle : s.in_e ≡ false → in_cycle (s.cycle + 1) s.position ≡ stop_shown s
-  shown_at_cycle e =
-      ap (λ (c : ℕ). in_cycle c s.position) (add-one s.cycle) ∙ ap (λ (b : Bool). cond b in_e (in_cycle (suc s.cycle) s.position)) (sym e)
+shown : (e : Bool) (c p : ℕ) → stop_shown (stop_at e c p) ≡ cond e in_e (in_cycle (suc c) p)
+shown true c p = refl
+shown false c p = refl
 
 -- ---- as the rules have it
 
@@ -52,5 +48,8 @@ module _ (r : Run) (b : List ℕ) (is_run_lem : is_run r ≡ true) (v : valid b 
   pub stop_is : (e : End) → stop_for e (stop_on r) ≡ stop_line e (layout_of b r.track.method) r.progress.counted
   unfolding stop_text
   stop_is none = refl
-  stop_is stop = ap stop_shown stood
+  stop_is stop =
+      let l = layout_of b r.track.method in
+      let n = r.progress.counted in
+      ap stop_shown stood ∙ shown (eqb (l.row n) row_e) (l.row n) (n - l.begin (l.row n))
   stop_is limit = refl

@@ -10,9 +10,11 @@ use borrow.Author.Tests.{le-leb}
 use lib.ListN.{length}
 use Rattle.rules.specs.Words.{unless}
 use Rattle.numbers.proofs.Tests.{pass, stop, tests, settled_taken, settled_refused}
-use Rattle.reader.specs.declared.Ending.{Ending}
-use Rattle.laws.specs.Answers.{Said}
-use Rattle.reader.specs.Answers.{ending_said, ending_of}
+use Rattle.std.specs.Prelude.{Result, Err}
+use Rattle.rules.specs.Numbered.{number}
+use Rattle.rules.specs.declared.Refusal.{Refusal}
+use Rattle.laws.specs.Answers.{answer_said, Said}
+use Rattle.reader.specs.Answers.{ending_of}
 use Rattle.sheet.specs.Overlaid.{overlaid, most_sheet, Wrote}
 use Rattle.desk.specs.Feeding.{Laid, desk_ground}
 use Rattle.prints.specs.Printed.{Prints, refuse_text}
@@ -49,5 +51,10 @@ module _ (x : Laid) (blocks left : ℕ) where
     unfolding trace_close_text
     by_end = sym (settled_taken _ g)
 
-    pub by_ending : {s y : Ending} → ending_said s ≡ ending_of x.desk.started left → s ≡ y → trace_ending (ending_said y) x blocks ≡ trace_close_text x blocks left
-    by_ending e p = ap (λ (z : Said (Unit {0})). trace_ending z x blocks) (ap ending_said (sym p) ∙ e) ∙ by_end
+    pub by_ending : {s y : Result (Unit {0}) Refusal} → answer_said s ≡ ending_of x.desk.started left → s ≡ y → trace_ending (answer_said y) x blocks ≡ trace_close_text x blocks left
+    by_ending e p = ap (λ (z : Said (Unit {0})). trace_ending z x blocks) (ap answer_said (sym p) ∙ e) ∙ by_end
+
+    -- refused, with the number n
+    pub by_refusal : {s : Result (Unit {0}) Refusal} (k : Refusal) {n : ℕ} → n ≡ number k → answer_said s ≡ ending_of x.desk.started left → s ≡ Err k
+        → refuse_text x n ≡ trace_close_text x blocks left
+    by_refusal k q e p = ap (refuse_text x) q ∙ by_ending e p

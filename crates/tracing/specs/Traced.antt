@@ -1,11 +1,9 @@
 -- What the trace prints of a desk.
 -- Assumes nothing.
-use Rattle.std.specs.Prelude.{true, cond, List, [], ◌++◌, ◌≡◌, ℕ, suc, leb, ℤ, length}
+use Rattle.std.specs.Prelude.{true, List, [], ◌++◌, ◌≡◌, ℕ, suc, leb, ℤ, length, Ok as Closed, Err as Refused}
 use Rattle.rules.specs.Words.{unless, settled, up, spell}
-use Rattle.rules.specs.declared.Charge.{Charge}
+use Rattle.rules.specs.Closing.{Charge, ClosingAnswer}
 use Rattle.rules.specs.declared.Closing.{Closing}
-use Rattle.rules.specs.declared.ClosingAnswer.{ClosingAnswer}
-use Rattle.rules.specs.declared.ClosingAnswer.TheVariants.{Closed, Refused}
 use Rattle.rules.specs.declared.End.{End}
 use Rattle.rules.specs.declared.End.TheVariants.{None as none, Stop as stop, Limit as limit}
 use Rattle.rules.specs.Bench.{most_phases, most_cycles}
@@ -21,6 +19,7 @@ use Rattle.reading.specs.declared.Reading.{Reading}
 use Rattle.state.specs.declared.Run.{Run}
 use Rattle.figures.specs.Figured.{Figurable}
 use Rattle.sources.specs.declared.Stop.{Stop}
+use Rattle.sources.specs.declared.Stop.TheVariants.{InE, At}
 use Rattle.sources.specs.Sources.{phase_on, outside_on, part_on, stop_on, trace_on}
 use Rattle.sheet.specs.Overlaid.{overlaid}
 use Rattle.desk.specs.Feeding.{Laid, lent_cycle, desk_ground}
@@ -40,10 +39,8 @@ Traces text out r after =
 
 -- "stop cycle C position P", "stop stretch E"
 abbrev pub stop_shown : Stop → List ℕ
-stop_shown s =
-    cond s.in_e
-    (spaced (spell "stop") ++ line (spell "stretch") (spell "E"))
-    (spaced (spell "stop") ++ spaced (spell "cycle") ++ spaced (digits (suc s.cycle)) ++ line (spell "position") (digits s.position))
+stop_shown (InE p) = spaced (spell "stop") ++ line (spell "stretch") (spell "E")
+stop_shown (At c p) = spaced (spell "stop") ++ spaced (spell "cycle") ++ spaced (digits (suc c)) ++ line (spell "position") (digits p)
 
 abbrev pub stop_for : End → Stop → List ℕ
 stop_for none s = []

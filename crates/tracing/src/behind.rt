@@ -11,28 +11,16 @@ ghost use Rattle.sheet.specs.Overlaid.{Wrote};
 ghost use Rattle.tracing.specs.Traced.{weight_at, figures_on, closing_for};
 
 use ledger::totals::energy_in;
-use rules::{Amounts, Charge, Closing, ClosingAnswer, Figures};
+use rules::{Amounts, Closing, Figures};
 use sheet::lines::{number_line, recharge_line, refused_line};
 use traces::closing::{charge_line, sum_lines, weight_line};
 
-// z, or 0 where it is below 0.
-fn positive(z: i64) -> u64
-    ensures { result ≡ up z }
+// The energy of cycle c, or 0 where it is below 0.
+fn drawn_in(ledger: &[i64], c: usize) -> u64
+    requires { (bounded ledger.now ≡ true) × (c < most_cycles) }
+    ensures { result ≡ up (energy_in ledger.now c) }
 {
-    if z < 0 {
-        return 0;
-    }
-    z as u64
-}
-
-// a without b, or 0 where b is larger.
-fn without(a: u64, b: u64) -> u64
-    ensures { result ≡ a - b }
-{
-    if a < b {
-        return 0;
-    }
-    a - b
+    u64::try_from(energy_in(ledger, c)).unwrap_or(0)
 }
 
 // NUM of cycle c, of n finished cycles and the whole energy.
@@ -41,10 +29,10 @@ fn weight_in(ledger: &[i64], whole: u64, n: usize, c: usize) -> u64
     ensures { result ≡ weight_of whole n (λ k. up (energy_in ledger.now k)) c }
 {
     if c < 2 {
-        return without(n as u64, 2) * positive(energy_in(ledger, c));
+        return (n as u64).saturating_sub(2) * drawn_in(ledger, c);
     }
-    let rest = without(whole, positive(energy_in(ledger, 0)));
-    without(rest, positive(energy_in(ledger, 1)))
+    let rest = whole.saturating_sub(drawn_in(ledger, 0));
+    rest.saturating_sub(drawn_in(ledger, 1))
 }
 
 // "weight C NUM DEN", for each finished cycle.
@@ -52,13 +40,11 @@ fn weight_lines(out: &mut [u8], at: usize, ledger: &[i64], whole: u64, n: usize)
     requires { (at + 4480 ≤ length out.old) × (bounded ledger.now ≡ true) × (whole ≤ most_whole) × (n ≤ most_cycles) }
     ensures { Wrote 4480 out.old at (in_turn (weight_at ledger.now whole n) n) out.new result }
 {
-    let den = whole * without(n as u64, 2);
+    let den = whole * (n as u64).saturating_sub(2);
     let mut next = at;
-    let mut c: usize = 0;
-    while c < n {
+    for c in 0..n {
         let num = weight_in(ledger, whole, n, c);
-        next = weight_line(&mut *out, next, c as u64, num, den);
-        c += 1;
+        next = weight_line(out, next, c as u64, num, den);
     }
     next
 }
@@ -70,18 +56,17 @@ fn figure_lines(
     ledger: &[i64],
     whole: u64,
     n: usize,
-    charge: Charge,
+    charge: Option<u32>,
     x: Closing,
 ) -> usize
     requires { (at + 4608 ≤ length out.old) × (bounded ledger.now ≡ true) × (whole ≤ most_whole) × (n ≤ most_cycles) }
     ensures { Wrote 4608 out.old at (figures_on ledger.now whole n charge x) out.new result }
 {
-    let recharge = x.recharge;
-    let weights = weight_lines(&mut *out, at, ledger, whole, n);
-    let weighted = number_line(&mut *out, weights, b"weighted", x.weighted);
-    let range = number_line(&mut *out, weighted, b"range", x.range);
-    let next = charge_line(&mut *out, range, charge);
-    recharge_line(&mut *out, next, recharge)
+    let weights = weight_lines(out, at, ledger, whole, n);
+    let weighted = number_line(out, weights, b"weighted", x.weighted);
+    let range = number_line(out, weighted, b"range", x.range);
+    let next = charge_line(out, range, charge);
+    recharge_line(out, next, x.recharge)
 }
 
 // The same, or the closing's refusal, behind which nothing stands.
@@ -91,15 +76,15 @@ fn closing_part(
     ledger: &[i64],
     whole: u64,
     n: usize,
-    charge: Charge,
-    closing: ClosingAnswer,
+    charge: Option<u32>,
+    closing: Result<Closing, u32>,
 ) -> usize
     requires { (at + 4608 ≤ length out.old) × (bounded ledger.now ≡ true) × (whole ≤ most_whole) × (n ≤ most_cycles) }
     ensures { Wrote 4608 out.old at (closing_for ledger.now whole n charge closing) out.new result }
 {
     match closing {
-        ClosingAnswer::Closed(x) => figure_lines(&mut *out, at, ledger, whole, n, charge, x),
-        ClosingAnswer::Refused(k) => refused_line(&mut *out, at, k),
+        Ok(x) => figure_lines(out, at, ledger, whole, n, charge, x),
+        Err(k) => refused_line(out, at, k),
     }
 }
 
@@ -129,16 +114,14 @@ pub fn behind_lines(
         out.new result }
 {
     let whole = whole_of(amounts.before, f.drawn);
-    let charge = amounts.charge;
-    let closing = f.closing;
-    let next = sum_lines(&mut *out, at, f.cycles, f.outside, f.drawn, amounts, whole);
+    let next = sum_lines(out, at, f.cycles, f.outside, f.drawn, amounts, whole);
     closing_part(
-        &mut *out,
+        out,
         next,
         ledger,
-        positive(whole),
+        u64::try_from(whole).unwrap_or(0),
         f.cycles as usize,
-        charge,
-        closing,
+        amounts.charge,
+        f.closing,
     )
 }

@@ -19,7 +19,7 @@ use figures::figures_on;
 use offering::{offered_lines, opening_lines};
 use parts::part_lines;
 use prints::refuse;
-use reader::{Ending, ended};
+use reader::ended;
 use reading::Reading;
 
 // How long lines are lent: no trace is longer.
@@ -40,12 +40,11 @@ fn trace_lines(
         out.new result }
 {
     let run = reading.run;
-    let amounts = reading.amounts;
     let figures = figures_on(reading, ledger);
-    let plan = opening_lines(&mut *out, 0, reading, cycle);
-    let offered = offered_lines(&mut *out, plan, run, fields, blocks, reading.passed);
-    let parts = part_lines(&mut *out, offered, run, cycle, ledger);
-    behind_lines(&mut *out, parts, figures, amounts, ledger)
+    let plan = opening_lines(out, 0, reading, cycle);
+    let offered = offered_lines(out, plan, run, fields, blocks, reading.passed);
+    let parts = part_lines(out, offered, run, cycle, ledger);
+    behind_lines(out, parts, figures, reading.amounts, ledger)
 }
 
 // A record that was read to its end, on a desk without 1 or 2, with its cycle in the room.
@@ -57,15 +56,14 @@ fn trace_run(desk: Desk, blocks: u64, room: &[u8], ledger: &[i64], out: &mut [u8
         (trace_text (trace_on desk.reading (take desk.opening.cycle room.now) ledger.now desk.fields blocks))
         out.new result }
 {
-    let reading = desk.reading;
     let size = desk.opening.cycle;
     trace_lines(
-        reading,
+        desk.reading,
         desk.fields,
         blocks,
         &room[..size],
         ledger,
-        &mut *out,
+        out,
     )
 }
 
@@ -88,14 +86,11 @@ pub fn trace_close(
     if out.len() < MOST_TRACE {
         return 0;
     }
-    let refusal = desk_refusal(desk, room, ledger, map);
-    if refusal != 0 {
-        return refuse(desk, refusal, &mut *out);
+    if let Err(refusal) = desk_refusal(desk, room, ledger, map) {
+        return refuse(desk, refusal.number(), out);
     }
-    let started = desk.started;
-    let ending = ended(started, left);
-    match ending {
-        Ending::Refused(number) => refuse(desk, number, &mut *out),
-        Ending::Whole => trace_run(desk, blocks, room, ledger, &mut *out),
+    match ended(desk.started, left) {
+        Err(unfinished) => refuse(desk, unfinished.number(), out),
+        Ok(()) => trace_run(desk, blocks, room, ledger, out),
     }
 }

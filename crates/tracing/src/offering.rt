@@ -10,7 +10,7 @@ ghost use Rattle.tracing.specs.Traced.{stop_shown, stop_for, offered_on};
 use reading::Reading;
 use rules::End;
 use sheet::lines::{end_line, number_line};
-use sources::stop_on;
+use sources::{Stop, stop_on};
 use state::Run;
 use traces::heading::{fields_line, plan_lines, stop_at_cycle, stop_in_e};
 
@@ -21,12 +21,15 @@ pub fn opening_lines(out: &mut [u8], at: usize, reading: Reading, cycle: &[u8]) 
         (plan_lines reading.vehicle (plan cycle.now reading.run.track.tolerances reading.run.track.method))
         out.new result }
 {
-    let vehicle = reading.vehicle;
-    let run = reading.run;
-    let track = run.track;
-    let method = track.method;
-    let tolerances = track.tolerances;
-    plan_lines(&mut *out, at, &vehicle[..], method, cycle, tolerances)
+    let track = reading.run.track;
+    plan_lines(
+        out,
+        at,
+        &reading.vehicle[..],
+        track.method,
+        cycle,
+        track.tolerances,
+    )
 }
 
 // Where the stopping sample stands: "stop cycle C position P", and in E "stop stretch E".
@@ -34,11 +37,10 @@ fn stop_text(out: &mut [u8], at: usize, run: Run) -> usize
     requires { (at + 64 ≤ length out.old) × (is_run run ≡ true) }
     ensures { Wrote 64 out.old at (stop_shown (stop_on run)) out.new result }
 {
-    let stop = stop_on(run);
-    if stop.in_e {
-        return stop_in_e(&mut *out, at);
+    match stop_on(run) {
+        Stop::InE(_) => stop_in_e(out, at),
+        Stop::At(cycle, position) => { stop_at_cycle(out, at, cycle as u64 + 1, position as u64) }
     }
-    stop_at_cycle(&mut *out, at, stop.cycle as u64 + 1, stop.position as u64)
 }
 
 // The same of a run that was stopped, and nothing of another.
@@ -46,11 +48,9 @@ fn stop_line(out: &mut [u8], at: usize, run: Run) -> usize
     requires { (at + 64 ≤ length out.old) × (is_run run ≡ true) }
     ensures { Wrote 64 out.old at (stop_for run.progress.end (stop_on run)) out.new result }
 {
-    let progress = run.progress;
-    let end = progress.end;
-    match end {
+    match run.progress.end {
         End::None => at,
-        End::Stop => stop_text(&mut *out, at, run),
+        End::Stop => stop_text(out, at, run),
         End::Limit => at,
     }
 }
@@ -68,9 +68,8 @@ pub fn offered_lines(
     ensures { Wrote 224 out.old at (offered_on run fields blocks passed) out.new result }
 {
     let progress = run.progress;
-    let end = progress.end;
-    let first = fields_line(&mut *out, at, fields, blocks, passed);
-    let second = number_line(&mut *out, first, b"offered", progress.offered as u64);
-    let third = end_line(&mut *out, second, end, progress.counted);
-    stop_line(&mut *out, third, run)
+    let first = fields_line(out, at, fields, blocks, passed);
+    let second = number_line(out, first, b"offered", progress.offered as u64);
+    let third = end_line(out, second, progress.end, progress.counted);
+    stop_line(out, third, run)
 }

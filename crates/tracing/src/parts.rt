@@ -19,11 +19,9 @@ fn phase_lines(out: &mut [u8], at: usize, run: Run, cycle: &[u8], ledger: &[i64]
     ensures { Wrote 468 out.old at (in_turn (phase_at run cycle.now ledger.now c) most_phases) out.new result }
 {
     let mut next = at;
-    let mut k: usize = 0;
-    while k < MOST_PHASES {
+    for k in 0..MOST_PHASES {
         let g = phase_on(run, cycle, ledger, c, k);
-        next = phase_line(&mut *out, next, c as u64, k as u64, g);
-        k += 1;
+        next = phase_line(out, next, c as u64, k as u64, g);
     }
     next
 }
@@ -35,8 +33,8 @@ fn cycle_lines(out: &mut [u8], at: usize, run: Run, cycle: &[u8], ledger: &[i64]
 {
     let g = row_on(run, ledger, c);
     let outside = outside_on(ledger, c);
-    let next = phase_lines(&mut *out, at, run, cycle, ledger, c);
-    row_line(&mut *out, next, c as u64, g, outside)
+    let next = phase_lines(out, at, run, cycle, ledger, c);
+    row_line(out, next, c as u64, g, outside)
 }
 
 // All cycles.
@@ -45,10 +43,8 @@ fn all_cycles(out: &mut [u8], at: usize, run: Run, cycle: &[u8], ledger: &[i64])
     ensures { Wrote 40064 out.old at (in_turn (cycle_at run cycle.now ledger.now) most_cycles) out.new result }
 {
     let mut next = at;
-    let mut c: usize = 0;
-    while c < MOST_CYCLES {
-        next = cycle_lines(&mut *out, next, run, cycle, ledger, c);
-        c += 1;
+    for c in 0..MOST_CYCLES {
+        next = cycle_lines(out, next, run, cycle, ledger, c);
     }
     next
 }
@@ -60,7 +56,7 @@ pub fn part_lines(out: &mut [u8], at: usize, run: Run, cycle: &[u8], ledger: &[i
 {
     let in_m = stretch_m(run);
     let in_e = stretch_e(run);
-    let cycles = all_cycles(&mut *out, at, run, cycle, ledger);
-    let next = stretch_line(&mut *out, cycles, b"M", in_m);
-    stretch_line(&mut *out, next, b"E", in_e)
+    let cycles = all_cycles(out, at, run, cycle, ledger);
+    let next = stretch_line(out, cycles, b"M", in_m);
+    stretch_line(out, next, b"E", in_e)
 }

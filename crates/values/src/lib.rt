@@ -13,35 +13,29 @@ use rules::limits::{
     MOST_CURRENT, MOST_DRAWN, MOST_OFFERED, MOST_SPEED, MOST_SPEED_TOLERANCE, MOST_TIME_TOLERANCE,
     MOST_TRANSFER, MOST_TRANSFER_IN, MOST_VOLTAGE,
 };
-use rules::{Amounts, Charge, Method, Moment, Sample, Stretches, Tolerances};
+use rules::{Amounts, Method, Moment, Sample, Stretches, Tolerances};
 
 pub fn is_between(lo: i64, hi: i64, z: i64) -> bool
     ensures { result ≡ between lo hi z }
 {
-    if z < lo {
-        return false;
-    }
-    z <= hi
+    lo <= z && z <= hi
 }
 
 // Whether every value of the sample is within its limits.
+#[tactic(auto, unfolding(rules::specs::Bench::is_sample))]
 pub fn is_sample(x: Sample) -> bool
     ensures { result ≡ is_sample x }
 {
-    if MOST_SPEED < x.speed {
-        return false;
-    }
-    if MOST_VOLTAGE < x.voltage {
-        return false;
-    }
-    is_between(LEAST_CURRENT, MOST_CURRENT, x.current as i64)
+    x.speed <= MOST_SPEED
+        && x.voltage <= MOST_VOLTAGE
+        && is_between(LEAST_CURRENT, MOST_CURRENT, i64::from(x.current))
 }
 
 // Drawn energy.
 fn drawn_by(x: Sample) -> i64
     ensures { result ≡ drawn x }
 {
-    -((x.voltage as i64) * (x.current as i64))
+    -(i64::from(x.voltage) * i64::from(x.current))
 }
 
 // What a run takes of the sample.
@@ -49,38 +43,27 @@ pub fn moment_of(x: Sample) -> Moment
     ensures { result ≡ moment_of x }
 {
     Moment {
-        speed: x.speed as u64,
+        speed: u64::from(x.speed),
         energy: drawn_by(x),
     }
 }
 
 // Whether the tolerances are within their limits.
+#[tactic(auto, unfolding(rules::specs::Bench::tolerable))]
 pub fn is_tolerable(t: Tolerances) -> bool
     ensures { result ≡ tolerable t }
 {
-    if MOST_SPEED_TOLERANCE < t.speed {
-        return false;
-    }
-    if MOST_TIME_TOLERANCE < t.time {
-        return false;
-    }
-    t.allowance <= MOST_ALLOWANCE
+    t.speed <= MOST_SPEED_TOLERANCE
+        && t.time <= MOST_TIME_TOLERANCE
+        && t.allowance <= MOST_ALLOWANCE
 }
 
 // Whether M's length and E's set speed are within their limits.
+#[tactic(auto, unfolding(rules::specs::Bench::are_stretches))]
 pub fn are_stretches(x: Stretches) -> bool
     ensures { result ≡ are_stretches x }
 {
-    if x.length < 1 {
-        return false;
-    }
-    if MOST_OFFERED < x.length {
-        return false;
-    }
-    if x.speed < 1 {
-        return false;
-    }
-    x.speed <= MOST_SPEED as u32
+    1 <= x.length && x.length <= MOST_OFFERED && 1 <= x.speed && x.speed <= u32::from(MOST_SPEED)
 }
 
 // Whether the method's stretches, if it has any, are within their limits.
@@ -94,13 +77,11 @@ pub fn is_method(y: Method) -> bool
 }
 
 // Whether the moment is such as a sample within its limits brings.
+#[tactic(auto, unfolding(laws::specs::Beside::is_moment))]
 pub fn is_moment(x: Moment) -> bool
     ensures { result ≡ is_moment x }
 {
-    if (MOST_SPEED as u64) < x.speed {
-        return false;
-    }
-    is_between(LEAST_DRAWN, MOST_DRAWN, x.energy)
+    x.speed <= u64::from(MOST_SPEED) && is_between(LEAST_DRAWN, MOST_DRAWN, x.energy)
 }
 
 // Whether a transfer energy is within the limits of field 6.
@@ -117,12 +98,12 @@ fn is_transfer(energy: i64) -> bool
     is_between(LEAST_TRANSFER, MOST_TRANSFER, energy)
 }
 
-pub fn is_charge(charge: Charge) -> bool
+pub fn is_charge(charge: Option<u32>) -> bool
     ensures { result ≡ is_charge charge }
 {
     match charge {
-        Charge::Absent => true,
-        Charge::Wh(wh) => {
+        None => true,
+        Some(wh) => {
             if wh < 1 {
                 return false;
             }
@@ -132,15 +113,9 @@ pub fn is_charge(charge: Charge) -> bool
 }
 
 // Whether transfer energies and recharge are within their limits.
+#[tactic(auto, unfolding(crate::specs::Limits::are_amounts))]
 pub fn are_amounts(a: Amounts) -> bool
     ensures { result ≡ are_amounts a }
 {
-    if !is_transfer(a.before) {
-        return false;
-    }
-    if !is_transfer(a.after) {
-        return false;
-    }
-    let charge = a.charge;
-    is_charge(charge)
+    is_transfer(a.before) && is_transfer(a.after) && is_charge(a.charge)
 }

@@ -26,9 +26,8 @@ going_is : (t : Turn) → t.turned ≡ On → t ≡ going_on t.desk t.used t.hel
 going_is t e = λ i. record { turned = e i; desk = t.desk; used = t.used; held = t.held; left = t.left }
 
 -- a turn that goes on, and the text of the lines shown up to there
-pub record Going (x₀ : Laid) (most : ℕ) (text : List ℕ) (w : Walk) (left : ℕ) (buffer room : List ℕ) (l : List ℤ) (m : List ℕ) : Type 0 where
+pub record Going (x₀ : Laid) (most : ℕ) (text : List ℕ) (w : Walk) (buffer room : List ℕ) (l : List ℤ) (m : List ℕ) : Type 0 where
   pub on : w.turn.turned ≡ On
-  pub left_is : w.turn.left ≡ left
   pub within : w.turn.used + w.turn.held ≤ length buffer
   pub held : w.turn.held < longest
   pub counts : Counts w.spot (w.turn.held + w.turn.left)
@@ -38,10 +37,9 @@ pub record Going (x₀ : Laid) (most : ℕ) (text : List ℕ) (w : Walk) (left :
 abbrev pub first : ℕ → Walk
 first most = record { turn = going_on empty_desk 0 0 most; spot = first_spot; printed = 0 }
 
-pub going_none : (most : ℕ) (w : Walk) (buffer room : List ℕ) (l : List ℤ) (m : List ℕ) → w ≡ first most → most ≤ most_count → Going (laid_of empty_desk room l m) most [] w most buffer room l m
-going_none most w buffer room l m e few = subst (λ (x : Walk). Going (laid_of empty_desk room l m) most [] x most buffer room l m) (sym e) (record {
+pub going_none : (most : ℕ) (w : Walk) (buffer room : List ℕ) (l : List ℤ) (m : List ℕ) → w ≡ first most → most ≤ most_count → Going (laid_of empty_desk room l m) most [] w buffer room l m
+going_none most w buffer room l m e few = subst (λ (x : Walk). Going (laid_of empty_desk room l m) most [] x buffer room l m) (sym e) (record {
   on = refl;
-  left_is = refl;
   within = omega arith;
   held = omega arith;
   counts = record { fields = omega arith; offset = omega arith; blocks = omega arith };
@@ -52,8 +50,8 @@ going_none most w buffer room l m e few = subst (λ (x : Walk). Going (laid_of e
 pub shown_few : {room₀ : List ℕ} {l₀ : List ℤ} {m₀ : List ℕ} {most : ℕ} {text : List ℕ} {p : Round} {spot : Spot} → Shows (laid_of empty_desk room₀ l₀ m₀) most text p spot → p.turn.desk.fields ≤ most_fields
 shown_few {room₀} {l₀} {m₀} s = came_few room₀ l₀ m₀ s.stood.came
 
-module _ {room₀ : List ℕ} {l₀ : List ℤ} {m₀ : List ℕ} {most : ℕ} {text : List ℕ} {left : ℕ} {w : Walk} {buffer room : List ℕ} {l : List ℤ} {m : List ℕ}
-    (g : Going (laid_of empty_desk room₀ l₀ m₀) most text w left buffer room l m) where
+module _ {room₀ : List ℕ} {l₀ : List ℤ} {m₀ : List ℕ} {most : ℕ} {text : List ℕ} {w : Walk} {buffer room : List ℕ} {l : List ℤ} {m : List ℕ}
+    (g : Going (laid_of empty_desk room₀ l₀ m₀) most text w buffer room l m) where
   abbrev t : Turn
   t = w.turn
 
@@ -62,12 +60,12 @@ module _ {room₀ : List ℕ} {l₀ : List ℤ} {m₀ : List ℕ} {most : ℕ} {
   shown = subst (λ (x : Turn). Shows (laid_of empty_desk room₀ l₀ m₀) most text (round_of x buffer room l m) w.spot) (going_is t g.on) g.shows
 
   -- another turn may be made
-  pub going_ready : 1 ≤ left → longest ≤ length buffer → Ready t w.spot buffer room l m
+  pub going_ready : 1 ≤ t.left → longest ≤ length buffer → Ready t w.spot buffer room l m
   going_ready some long = record {
     within = g.within;
     held = g.held;
     long = long;
-    some = omega (arith, g.left_is);
+    some = some;
     steady = stood_steady room₀ l₀ m₀ most t.desk t.used t.held t.left buffer room l m shown.stood;
     counts = g.counts;
   }
@@ -79,10 +77,9 @@ module _ {room₀ : List ℕ} {l₀ : List ℤ} {m₀ : List ℕ} {most : ℕ} {
     shows_on = adds (laid_of empty_desk room₀ l₀ m₀) most text shown
 
     pub going_on_lem : {held n : ℕ} → is_on w'.turn.turned ≡ true → Goes held n (length buffer) w'.turn → length buffer' ≡ length buffer → Counts w'.spot (w'.turn.held + w'.turn.left)
-        → Going (laid_of empty_desk room₀ l₀ m₀) most (text ++ more) w' w'.turn.left buffer' room' l' m'
+        → Going (laid_of empty_desk room₀ l₀ m₀) most (text ++ more) w' buffer' room' l' m'
     going_on_lem e goes same counts = record {
       on = is_on_lem w'.turn.turned e;
-      left_is = refl;
       within = omega (arith, goes.within, same);
       held = goes.short e;
       counts = counts;
@@ -91,25 +88,25 @@ module _ {room₀ : List ℕ} {l₀ : List ℤ} {m₀ : List ℕ} {most : ℕ} {
 
 -- ---- without lines
 
-pub record Passing (x₀ : Laid) (most : ℕ) (w : Walk) (left : ℕ) (buffer room : List ℕ) (l : List ℤ) (m : List ℕ) : Type 0 where
+pub record Passing (x₀ : Laid) (most : ℕ) (w : Walk) (buffer room : List ℕ) (l : List ℤ) (m : List ℕ) : Type 0 where
   pub text : List ℕ
-  pub going : Going x₀ most text w left buffer room l m
+  pub going : Going x₀ most text w buffer room l m
 
 -- ---- with lines, which go out before the next turn
 
-pub record Sending (x₀ : Laid) (most : ℕ) (w : Walk) (left sent : ℕ) (buffer room : List ℕ) (l : List ℤ) (m lines : List ℕ) : Type 0 where
+pub record Sending (x₀ : Laid) (most : ℕ) (w : Walk) (sent : ℕ) (buffer room : List ℕ) (l : List ℤ) (m lines : List ℕ) : Type 0 where
   pub out : List ℕ
-  pub going : Going x₀ most (out ++ take w.printed lines) w left buffer room l m
+  pub going : Going x₀ most (out ++ take w.printed lines) w buffer room l m
   pub printed : w.printed + most_line ≤ length lines
   pub sent_is : sent ≡ min (length out) most_count
 
 pub sending_none : (most : ℕ) (w : Walk) (buffer room : List ℕ) (l : List ℤ) (m lines : List ℕ) → w ≡ first most → most ≤ most_count → most_line ≤ length lines
-    → Sending (laid_of empty_desk room l m) most w most 0 buffer room l m lines
+    → Sending (laid_of empty_desk room l m) most w 0 buffer room l m lines
 sending_none most w buffer room l m lines e few long =
     let none : w.printed ≡ 0 = ap (λ (x : Walk). x.printed) e in
     record {
       out = [];
-      going = subst (λ (n : ℕ). Going (laid_of empty_desk room l m) most (take n lines) w most buffer room l m) (sym none) (going_none most w buffer room l m e few);
+      going = subst (λ (n : ℕ). Going (laid_of empty_desk room l m) most (take n lines) w buffer room l m) (sym none) (going_none most w buffer room l m e few);
       printed = omega (arith, none);
       sent_is = refl;
     }

@@ -1,6 +1,6 @@
 -- What is shown of a record turn by turn, with its last line, is its field list by the rules.
 -- Assumes nothing.
-use mathlib.Core.Bool.{Bool, false, cond, ◌||◌}
+use mathlib.Core.Bool.{Bool}
 use mathlib.Core.List.{List, [], ◌++◌, append_assoc, append-nil}
 use mathlib.Core.Path.{◌≡◌, refl, sym, ap, ◌∙◌}
 use Prim.Native.Nat.{ℕ, ◌≤◌}
@@ -29,6 +29,7 @@ use Rattle.intake.specs.declared.Turned.TheVariants.{On, Ended, Failed, Refused}
 use Rattle.intake.specs.Turns.{Round, Came, none, part, turned_said}
 use Rattle.intake.proofs.Told.{start}
 use Rattle.intake.proofs.Untested.{came_arrived}
+use Rattle.std.specs.Prelude.{Ok}
 use Rattle.walk.specs.declared.whole.Listed.{Listed}
 use Rattle.walk.specs.Walks.{Shows, last_text, last_said, last_of, Recorded, short_line, Unlisted}
 
@@ -132,12 +133,12 @@ module _ (lent : Lent) where
 
   -- what went out and what is to go out behind it, of a record that was listed
   pub list_record_prints : {most : ℕ} {r : Listed} {buffer room : List ℕ} {l : List ℤ} {m after : List ℕ} (c : Recorded (start lent) most r buffer room l m after)
-      → r.failed ≡ false → r.lost ≡ false → c.out ++ take r.printed after ≡ fields_text c.shows.stood.bytes
-  list_record_prints c e f =
+      → {n : ℕ} → r.printed ≡ Ok n → c.out ++ take n after ≡ fields_text c.shows.stood.bytes
+  list_record_prints c {n} e =
       let last = last_of c.turn c.spot _ in
-      ap (λ (q : List ℕ). c.out ++ q) (c.lines ∙ (λ i. cond (e i || f i) [] (c.rest ++ last))) ∙ sym (append_assoc c.out c.rest last) ∙ fields_print c.shows
+      ap (λ (q : List ℕ). c.out ++ q) (c.lines n e) ∙ sym (append_assoc c.out c.rest last) ∙ fields_print c.shows
 
 -- where buffer or lines are too short, a refusal before all else
 pub short_list_prints : {x₀ : Laid} {most : ℕ} {out : List ℕ} {r : Listed} {room : List ℕ} {l : List ℤ} {m after : List ℕ} → Unlisted x₀ most out r room l m after
-    → most_line ≤ length out → take r.printed after ≡ last_line (refused_at 1 1) 0 []
-short_list_prints {out = out} u h = text_at most_line short_line out (ap (λ (x : Listed). x.printed) u.answer) u.lines h
+    → most_line ≤ length out → (n : ℕ) × (r.printed ≡ Ok n) × (take n after ≡ last_line (refused_at 1 1) 0 [])
+short_list_prints {out = out} u h = (_, ap (λ (x : Listed). x.printed) u.answer, text_at most_line short_line out refl u.lines h)

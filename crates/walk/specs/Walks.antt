@@ -1,6 +1,6 @@
 -- A record from standard input, turn by turn, with the lines of its fields: what is shown of the bytes that came.
 -- Assumes nothing.
-use Rattle.std.specs.Prelude.{Bool, false, cond, ◌&&◌, ◌||◌, List, [], ◌++◌, ◌≡◌, ℕ, suc, ◌+◌, ◌*◌, ◌≤◌, ◌<◌, min, leb, ℤ, length, take, drop}
+use Rattle.std.specs.Prelude.{Bool, cond, ◌&&◌, Ok, Err, List, [], ◌++◌, ◌≡◌, ℕ, suc, ◌+◌, ◌*◌, ◌≤◌, ◌<◌, min, leb, ℤ, length, take, drop}
 use Rattle.rules.specs.declared.Spot.{Spot}
 use Rattle.rules.specs.Words.{unless}
 use Rattle.rules.specs.Table.{tags}
@@ -13,6 +13,7 @@ use Rattle.reader.specs.Answers.{ending_of}
 use Rattle.sheet.specs.Overlaid.{overlaid}
 use Rattle.listing.specs.Lines.{per_byte, most_line, most_count, Counts}
 use Rattle.desk.specs.Feeding.{Laid, laid_of, longest, Steady}
+use Rattle.edges.specs.declared.Fault.TheVariants.{Input, Output}
 use Rattle.intake.specs.declared.Turn.{Turn}
 use Rattle.intake.specs.declared.Turned.{Turned}
 use Rattle.intake.specs.declared.Turned.TheVariants.{On, Ended, Failed, Refused}
@@ -74,10 +75,8 @@ last_of t spot buffer = last_text (last_said t.turned t.desk.started t.held) t.d
 abbrev pub finished_by : Walk → ℕ → List ℕ → Listed
 finished_by w sent last = record {
   sent = sent;
-  printed = cond (is_failed w.turn.turned) 0 (w.printed + length last);
+  printed = cond (is_failed w.turn.turned) (Err Input) (Ok (w.printed + length last));
   left = w.turn.left;
-  failed = is_failed w.turn.turned;
-  lost = false;
 }
 
 abbrev pub finished_lines : Walk → List ℕ → List ℕ → List ℕ
@@ -94,9 +93,9 @@ pub record Recorded (x₀ : Laid) (most : ℕ) (r : Listed) (buffer room : List 
   pub shows : Shows x₀ most (out ++ rest) (round_of turn buffer room l m) spot
   pub sent : r.sent ≡ min (length out) most_count
   pub left : r.left ≡ turn.left
-  pub failed : r.failed ≡ is_failed turn.turned
-  pub printed : r.printed ≡ length (cond (r.failed || r.lost) [] (rest ++ last_of turn spot buffer))
-  pub lines : take r.printed after ≡ cond (r.failed || r.lost) [] (rest ++ last_of turn spot buffer)
+  pub lost : Bool
+  pub printed : r.printed ≡ cond (is_failed turn.turned) (Err Input) (cond lost (Err Output) (Ok (length (rest ++ last_of turn spot buffer))))
+  pub lines : (n : ℕ) → r.printed ≡ Ok n → take n after ≡ rest ++ last_of turn spot buffer
 
 -- "shorter room is refused 1 before all else": buffer or lines are too short
 abbrev pub short_line : List ℕ
@@ -105,5 +104,5 @@ short_line = last_line (refused_at 1 1) 0 []
 -- nothing was read: memory stays, and the lines have that line, where it fits
 pub record Unlisted (x₀ : Laid) (most : ℕ) (out : List ℕ) (r : Listed) (room : List ℕ) (l : List ℤ) (m after : List ℕ) : Type 0 where
   pub memory : laid_of x₀.desk room l m ≡ x₀
-  pub answer : r ≡ record { sent = 0; printed = unless 0 (leb most_line (length out)) (length short_line); left = most; failed = false; lost = false }
+  pub answer : r ≡ record { sent = 0; printed = Ok (unless 0 (leb most_line (length out)) (length short_line)); left = most }
   pub lines : after ≡ unless out (leb most_line (length out)) (overlaid out 0 short_line)

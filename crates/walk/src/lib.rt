@@ -18,7 +18,7 @@ use intake::turns::read_once;
 use intake::{Turn, Turned};
 use listing::list_fields;
 use listing::refused::refused_field;
-use reader::{Ending, ended};
+use reader::ended;
 use rules::Spot;
 
 // The last turn, where the field list stands behind it, and how many bytes of lines the turn brought.
@@ -76,31 +76,17 @@ fn walk_on(
         (take result.printed lines.new)
         (round_of result.turn buffer.new room.new ledger.new map.new) result.spot }
 {
-    let spot = walk.spot;
-    let turn = walk.turn;
-    let desk = turn.desk;
-    let t = read_once(
-        rt,
-        desk,
-        turn.used,
-        turn.held,
-        turn.left,
-        &mut *buffer,
-        &mut *room,
-        &mut *ledger,
-        &mut *map,
-    );
-    let used = t.used;
-    let x = list_fields(spot, &buffer[..used], &mut *lines);
-    let on = x.spot;
+    let t = read_once(rt, walk.turn, buffer, room, ledger, map);
+    let x = list_fields(walk.spot, &buffer[..t.used], lines);
     Walk {
         turn: t,
-        spot: on,
+        spot: x.spot,
         printed: x.next,
     }
 }
 
 // The line of what is refused behind a turn.
+// Stays: the number and no `Refusal`: it is handed on to `refused_field`, and comes from `Turned` too.
 fn refused_line(walk: Walk, number: u32, buffer: &[u8], lines: &mut [u8]) -> usize
     requires most_line_in_bounds { (walk.printed + most_line ≤ length lines.old) × (walk.turn.used + walk.turn.held ≤ length buffer.now) }
     requires fields_le_most_fields { walk.turn.desk.fields ≤ most_fields }
@@ -109,16 +95,15 @@ fn refused_line(walk: Walk, number: u32, buffer: &[u8], lines: &mut [u8]) -> usi
         lines.new result }
 {
     let turn = walk.turn;
-    let used = turn.used;
-    let end = used + turn.held;
+    let end = turn.used + turn.held;
     let k = turn.desk.fields + 1;
     refused_field(
-        &mut *lines,
+        lines,
         walk.printed,
         k,
         walk.spot.offset,
         number,
-        &buffer[used..end],
+        &buffer[turn.used..end],
     )
 }
 
@@ -129,13 +114,11 @@ fn last_line(walk: Walk, buffer: &[u8], lines: &mut [u8]) -> usize
     ensures { Wrote most_line lines.old walk.printed (last_of walk.turn walk.spot buffer.now) lines.new result }
 {
     let turn = walk.turn;
-    let turned = turn.turned;
-    if let Turned::Refused(number) = turned {
-        return refused_line(walk, number, buffer, &mut *lines);
+    if let Turned::Refused(number) = turn.turned {
+        return refused_line(walk, number, buffer, lines);
     }
-    let ending = ended(turn.desk.started, turn.held);
-    match ending {
-        Ending::Whole => walk.printed,
-        Ending::Refused(number) => refused_line(walk, number, buffer, &mut *lines),
+    match ended(turn.desk.started, turn.held) {
+        Ok(()) => walk.printed,
+        Err(unfinished) => refused_line(walk, unfinished.number(), buffer, lines),
     }
 }

@@ -26,29 +26,16 @@ fn pass_on(
         (list_from walk.spot (take result.turn.used buffer.new)).text
         (round_of result.turn buffer.new room.new ledger.new map.new) result.spot }
 {
-    let spot = walk.spot;
-    let turn = walk.turn;
-    let desk = turn.desk;
-    let t = read_once(
-        rt,
-        desk,
-        turn.used,
-        turn.held,
-        turn.left,
-        &mut *buffer,
-        &mut *room,
-        &mut *ledger,
-        &mut *map,
-    );
-    let used = t.used;
+    let t = read_once(rt, walk.turn, buffer, room, ledger, map);
     Walk {
         turn: t,
-        spot: pass_fields(spot, &buffer[..used]),
+        spot: pass_fields(walk.spot, &buffer[..t.used]),
         printed: 0,
     }
 }
 
 // Turn after turn, to the last one of a record of at most so many bytes.
+// Stays: beside `read_through` (intake) and `list_through`: each has a state of its own, and an invariant about it, of which four lines of loop are the least part.
 pub fn pass_through(
     rt: HostRuntime,
     most: u64,
@@ -62,14 +49,9 @@ pub fn pass_through(
         (round_of result.turn buffer.new room.new ledger.new map.new) result.spot }
 {
     let mut walk = begin(most);
-    let mut left = most;
-    while left > 0 {
-        let on = pass_on(rt, walk, &mut *buffer, &mut *room, &mut *ledger, &mut *map);
-        let turn = on.turn;
-        let turned = turn.turned;
-        walk = on;
-        left = turn.left;
-        if !goes_on(turned) {
+    while walk.turn.left > 0 {
+        walk = pass_on(rt, walk, buffer, room, ledger, map);
+        if !goes_on(walk.turn.turned) {
             return walk;
         }
     }

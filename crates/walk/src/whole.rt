@@ -7,7 +7,7 @@ ghost use Rattle.desk.specs.Feeding.{laid_of, empty_desk, longest, most_fields};
 ghost use Rattle.walk.specs.Walks.{most_lines, roomy, last_of, finished_by, finished_lines, Recorded, short_line, Unlisted};
 
 use crate::{Walk, begin, last_line, walk_on};
-use edges::send;
+use edges::{Fault, send};
 use intake::LONGEST;
 use intake::turns::{goes_on, has_failed};
 use listing::refused::refused_field;
@@ -16,25 +16,20 @@ use listing::{MOST_LINE, PER_BYTE};
 // How long the lines have to be for a buffer of 4,864 bytes (docs/STATE.md).
 pub const MOST_LINES: usize = PER_BYTE * 4864 + 2 * MOST_LINE;
 
-// What became of the list of a record: how many bytes of it went out, how many bytes of the lines are to go out behind them, how many of the record were not
-// read, whether reading failed, and whether the system took no more.
-#[derive(Clone, Copy)]
+// What became of the list of a record: how many bytes of it went out, how many bytes of the lines are to go out behind them, none where reading failed or the
+// system took no more, and how many of the record were not read.
+#[derive(Clone, Copy, Debug, PartialEq, Eq)]
 pub struct Listed {
     pub sent: u64,
-    pub printed: usize,
+    pub printed: Result<usize, Fault>,
     pub left: u64,
-    pub failed: bool,
-    pub lost: bool,
 }
 
 // So many bytes more went out: how many in all, as far as 64 bits go.
 fn more_sent(sent: u64, went: usize) -> u64
     ensures { result ≡ min (sent + went) most_count }
 {
-    if 18_446_744_073_709_551_615 - sent < went as u64 {
-        return 18_446_744_073_709_551_615;
-    }
-    sent + went as u64
+    sent.saturating_add(went as u64)
 }
 
 // The last line stands behind those of the last turn.
@@ -44,24 +39,15 @@ fn finish(walk: Walk, sent: u64, buffer: &[u8], lines: &mut [u8]) -> Listed
     ensures value { result ≡ finished_by walk sent (last_of walk.turn walk.spot buffer.now) }
     ensures lines_after { lines.new ≡ finished_lines walk (last_of walk.turn walk.spot buffer.now) lines.old }
 {
-    let turn = walk.turn;
-    let left = turn.left;
-    let turned = turn.turned;
-    if has_failed(turned) {
-        return Listed {
-            sent,
-            printed: 0,
-            left,
-            failed: true,
-            lost: false,
-        };
-    }
+    let printed = if has_failed(walk.turn.turned) {
+        Err(Fault::Input)
+    } else {
+        Ok(last_line(walk, buffer, lines))
+    };
     Listed {
         sent,
-        printed: last_line(walk, buffer, &mut *lines),
-        left,
-        failed: false,
-        lost: false,
+        printed,
+        left: walk.turn.left,
     }
 }
 
@@ -80,51 +66,31 @@ fn list_through(
         result buffer.new room.new ledger.new map.new lines.new }
 {
     let mut walk = begin(most);
-    let mut left = most;
     let mut sent: u64 = 0;
-    while left > 0 {
-        let n = walk.printed;
-        let went = send(rt, &lines[..], n);
-        if went < n {
+    // Stays: no index is counted; a turn leads on by what was read.
+    while walk.turn.left > 0 {
+        let went = send(rt, lines, walk.printed);
+        if went < walk.printed {
             return Listed {
                 sent,
-                printed: 0,
-                left,
-                failed: false,
-                lost: true,
+                printed: Err(Fault::Output),
+                left: walk.turn.left,
             };
         }
         sent = more_sent(sent, went);
-        walk = walk_on(
-            rt,
-            walk,
-            &mut *buffer,
-            &mut *room,
-            &mut *ledger,
-            &mut *map,
-            &mut *lines,
-        );
-        let turn = walk.turn;
-        let turned = turn.turned;
-        left = turn.left;
-        if !goes_on(turned) {
-            return finish(walk, sent, &buffer[..], &mut *lines);
+        walk = walk_on(rt, walk, buffer, room, ledger, map, lines);
+        if !goes_on(walk.turn.turned) {
+            return finish(walk, sent, buffer, lines);
         }
     }
-    finish(walk, sent, &buffer[..], &mut *lines)
+    finish(walk, sent, buffer, lines)
 }
 
 // Whether a buffer of so many bytes holds the longest field, and so many bytes of lines those of a turn.
 fn is_roomy(size: usize, lines: usize) -> bool
     ensures { result ≡ roomy size lines }
 {
-    if size < LONGEST {
-        return false;
-    }
-    if lines < 2 * MOST_LINE {
-        return false;
-    }
-    size <= (lines - 2 * MOST_LINE) / PER_BYTE
+    size >= LONGEST && lines >= 2 * MOST_LINE && size <= (lines - 2 * MOST_LINE) / PER_BYTE
 }
 
 // The line of a buffer or of lines that are too short, where it fits.
@@ -136,12 +102,12 @@ fn short_line(lines: &mut [u8]) -> usize
     if lines.len() < MOST_LINE {
         return 0;
     }
-    let none = [0u8; 1];
-    refused_field(&mut *lines, 0, 1, 0, 1, &none[..0])
+    refused_field(lines, 0, 1, 0, 1, &[])
 }
 
 // The field list of a record of at most so many bytes goes out, but for what is then to go out of the lines. A buffer that is too short for a field, and lines
 // that are too short for a turn, are refused 1 before all else.
+// Stays: beside `intake::take_record`, for the reason that `traced::trace_record` gives.
 pub fn list_record(
     rt: HostRuntime,
     most: u64,
@@ -162,19 +128,9 @@ pub fn list_record(
     if !is_roomy(buffer.len(), lines.len()) {
         return Listed {
             sent: 0,
-            printed: short_line(&mut *lines),
+            printed: Ok(short_line(lines)),
             left: most,
-            failed: false,
-            lost: false,
         };
     }
-    list_through(
-        rt,
-        most,
-        &mut *buffer,
-        &mut *room,
-        &mut *ledger,
-        &mut *map,
-        &mut *lines,
-    )
+    list_through(rt, most, buffer, room, ledger, map, lines)
 }

@@ -120,11 +120,11 @@ module _ (b : List ℕ) (o : Sound b) (w p : ℕ) (h : p + 1 < positions b) wher
       rw (l.0.value, l.0.rise, r.value, r.rise, l.0.second, r.second, t.after l.1)
 
   -- both ends are small
-  pub left_small : p + 1 < (window_of b w p).until → Small (window_of b w p).left (window_of b w p).leftrise
+  pub left_small : p + 1 < (window_of b w p).until → Small (window_of b w p).left.value (window_of b w p).left.rise
   unfolding window_of
   left_small s = (left_goes (steady s).left).0.small
 
-  pub right_small : p + 1 < (window_of b w p).until → Small (window_of b w p).right (window_of b w p).rightrise
+  pub right_small : p + 1 < (window_of b w p).until → Small (window_of b w p).right.value (window_of b w p).right.rise
   unfolding window_of
   right_small s = (right_goes (steady s).right).small
 
@@ -132,6 +132,6 @@ module _ (b : List ℕ) (o : Sound b) (w p : ℕ) (h : p + 1 < positions b) wher
 pub window_made : (b : List ℕ) (w p t a e : ℕ) (l r : Edge) (i j s : ℕ) → t ≡ seconds b → a ≡ p - w → e ≡ min (20 * t) (p + w)
     → l ≡ edge_of b (left_moves w p) (window_from w p) → r ≡ edge_of b (right_moves (positions b) w p) (window_to b w p)
     → i ≡ inner_least b a e → j ≡ inner_greatest b a e → s ≡ until_of (20 * t) w p
-    → ◌≡◌ {A = Window} (record { left = l.value; leftrise = l.rise; low = i; right = r.value; rightrise = r.rise; high = j; until = s }) (window_of b w p)
+    → ◌≡◌ {A = Window} (record { left = l; right = r; inner = record { low = i; high = j }; until = s }) (window_of b w p)
 unfolding window_of
 window_made b w p t a e l r i j s ht ha he hl hr hi hj hs = rw (hl, hr, hi, hj, hs, he, ha, ht)

@@ -3,15 +3,15 @@
 
 mod ends;
 
-ghost use Rattle.std.specs.Prelude.{◌≡◌, true, ◌+◌, ◌≤◌, ◌<◌};
+ghost use Rattle.std.specs.Prelude.{◌≡◌, true, ◌+◌, ◌≤◌, ◌<◌, pos};
 ghost use Rattle.rules.specs.Cycle.{positions, seconds, valid};
 ghost use Rattle.rules.specs.Band.{lo, hi, side, verdict};
 ghost use Rattle.rules.specs.Bench.{most_time_tolerance};
 ghost use Rattle.window.specs.Moving.{least_after, greatest_after, window_of, least_in, greatest_in};
+ghost use Rattle.window.specs.Sides.{number_of};
 
 use cycle::{point_of, seconds_of};
 use ends::{left_edge, moved, right_edge, until_of};
-use numbers::{larger, less, smaller};
 use rules::Tolerances;
 
 // An end of the window: its value, and what that gains at the next place, kept 1500 higher.
@@ -21,43 +21,61 @@ pub struct Edge {
     pub rise: u32,
 }
 
-// The ends, number by number, the least and the greatest over the whole seconds inside, and the position at which all is worked out anew.
+// The least and the greatest over the whole seconds inside.
+#[derive(Clone, Copy)]
+pub struct Inner {
+    pub low: u32,
+    pub high: u32,
+}
+
+// The ends, what lies between them, and the position at which all is worked out anew.
 #[derive(Clone, Copy)]
 pub struct Window {
-    pub left: u32,
-    pub leftrise: u32,
-    pub low: u32,
-    pub right: u32,
-    pub rightrise: u32,
-    pub high: u32,
+    pub left: Edge,
+    pub right: Edge,
+    pub inner: Inner,
     pub until: u32,
 }
 
-#[derive(Clone, Copy)]
-struct Inner {
-    low: u32,
-    high: u32,
+// Where a speed lies.
+#[derive(Clone, Copy, Debug, PartialEq, Eq)]
+pub enum Side {
+    Inside,
+    Below,
+    Above,
+}
+
+// The number that the bench controller is told.
+impl From<Side> for i32 {
+    ghost from_gives = { λ side n. n ≡ pos (number_of side) };
+
+    fn from(side: Side) -> i32 {
+        match side {
+            Side::Inside => 0,
+            Side::Below => 1,
+            Side::Above => 2,
+        }
+    }
 }
 
 // The least and the greatest over the whole seconds after second j, up to second k.
+#[tactic(auto, using(laws::proofs::Sound::sound))]
 fn inner_over(cycle: &[u8], j: u32, k: u32) -> Inner
     requires { (valid cycle.now ≡ true) × (k ≤ seconds cycle.now) }
     ensures { (result.low ≡ least_after cycle.now j k) × (result.high ≡ greatest_after cycle.now j k) }
 {
-    let n = less(k, j);
-    let mut low = 30000;
-    let mut high = 0;
-    let mut i = 0;
-    while i < n {
-        let x = 20 * (point_of(cycle, (j + 1 + i) as usize) as u32);
-        low = smaller(low, x);
-        high = larger(high, x);
-        i += 1;
+    let mut low: u32 = 30000;
+    let mut high: u32 = 0;
+    for i in 0..k.saturating_sub(j) {
+        let x = 20 * u32::from(point_of(cycle, (j + 1 + i) as usize));
+        low = low.min(x);
+        high = high.max(x);
     }
     Inner { low, high }
 }
 
 // The window of position p.
+#[tactic(auto, using(laws::proofs::Sound::sound))]
 pub fn window_at(cycle: &[u8], w: u32, p: u32) -> Window
     requires { (valid cycle.now ≡ true) × (w ≤ most_time_tolerance) × (p < positions cycle.now) }
     ensures value { result ≡ window_of cycle.now w p }
@@ -67,62 +85,64 @@ pub fn window_at(cycle: &[u8], w: u32, p: u32) -> Window
     let n = 20 * t;
     let left = left_edge(cycle, w, p);
     let right = right_edge(cycle, w, p, t);
-    let inner = inner_over(cycle, less(p, w) / 20, smaller(n, p + w) / 20);
+    let inner = inner_over(cycle, p.saturating_sub(w) / 20, n.min(p + w) / 20);
     Window {
-        left: left.value,
-        leftrise: left.rise,
-        right: right.value,
-        rightrise: right.rise,
-        low: inner.low,
-        high: inner.high,
+        left,
+        right,
+        inner,
         until: until_of(w, p, n),
     }
 }
 
 // The window of position p + 1, from that of position p: only its ends move, as long as nothing is to be worked out anew.
+#[tactic(auto, using(laws::proofs::Sound::sound, crate::proofs::Moves::shifts, crate::proofs::Moves::left_small, crate::proofs::Moves::right_small))]
 pub fn shift(cycle: &[u8], w: u32, p: u32, window: Window) -> Window
     requires { (valid cycle.now ≡ true) × (p + 1 < positions cycle.now) × (window ≡ window_of cycle.now w p) × (p + 1 < window.until) }
     ensures { result ≡ window_of cycle.now w (p + 1) }
 {
     Window {
-        left: moved(window.left, window.leftrise),
-        leftrise: window.leftrise,
-        right: moved(window.right, window.rightrise),
-        rightrise: window.rightrise,
-        low: window.low,
-        high: window.high,
-        until: window.until,
+        left: moved(window.left),
+        right: moved(window.right),
+        ..window
     }
 }
 
-// Where the speed v lies with the tolerance s: 0 inside, 1 below, 2 above.
-fn side_of(lo: u32, hi: u32, s: u32, v: u32) -> u32
-    ensures { result ≡ side lo hi s v }
+// Where the speed v lies with the tolerance s.
+#[tactic(auto, unfolding(rules::specs::Band::side))]
+fn side_of(lo: u32, hi: u32, s: u32, v: u32) -> Side
+    ensures { number_of result ≡ side lo hi s v }
 {
-    let speed = 20 * (v as u64);
-    let spare = 20 * (s as u64);
-    if speed + spare < lo as u64 {
-        return 1;
+    let speed = 20 * u64::from(v);
+    let spare = 20 * u64::from(s);
+    if speed + spare < u64::from(lo) {
+        return Side::Below;
     }
-    if hi as u64 + spare < speed {
-        return 2;
+    if u64::from(hi) + spare < speed {
+        return Side::Above;
     }
-    0
+    Side::Inside
 }
 
-// The verdict on the speed v in a window, with the tolerance s: 0 inside, 1 below, 2 above.
-pub fn verdict_in(window: Window, s: u32, v: u32) -> u32
-    ensures { result ≡ side (least_in window) (greatest_in window) s v }
+// The verdict on the speed v in a window, with the tolerance s.
+pub fn verdict_in(window: Window, s: u32, v: u32) -> Side
+    ensures { number_of result ≡ side (least_in window) (greatest_in window) s v }
 {
-    let lo = smaller(smaller(window.left, window.right), window.low);
-    let hi = larger(larger(window.left, window.right), window.high);
+    let Window {
+        left,
+        right,
+        inner,
+        ..
+    } = window;
+    let lo = left.value.min(right.value).min(inner.low);
+    let hi = left.value.max(right.value).max(inner.high);
     side_of(lo, hi, s, v)
 }
 
-// The verdict on the speed v at position p: 0 inside, 1 below, 2 above.
-pub fn verdict_at(cycle: &[u8], t: Tolerances, p: u32, v: u32) -> u32
+// The verdict on the speed v at position p.
+#[tactic(auto, unfolding(rules::specs::Band::verdict))]
+pub fn verdict_at(cycle: &[u8], t: Tolerances, p: u32, v: u32) -> Side
     requires { (valid cycle.now ≡ true) × (t.time ≤ most_time_tolerance) × (p < positions cycle.now) }
-    ensures { result ≡ verdict cycle.now t p v }
+    ensures { number_of result ≡ verdict cycle.now t p v }
 {
     verdict_in(window_at(cycle, t.time, p), t.speed, v)
 }

@@ -2,26 +2,20 @@
 use mathlib.Core.Bool.{true}
 use mathlib.Core.Path.{◌≡◌, ◌∙◌}
 use Prim.Native.Nat.{◌*◌}
-use native.Mathlib.Omega.{arith}
 use mir.Syntax.{w64}
 use Rattle.numbers.specs.Whole.{Sized}
 use Rattle.numbers.proofs.Whole.{sized_add}
 use Rattle.numbers.proofs.Signed.{read}
 use Rattle.rules.specs.Shown.{most_stretch_energy}
-use Rattle.laws.specs.Answers.{closing_said}
 use Rattle.laws.proofs.Closes.{three_at_least}
 use Rattle.state.specs.declared.Run.{Run}
 use Rattle.state.specs.State.{is_run}
 use Rattle.state.specs.Refusals.{beside_by}
 use Rattle.state.proofs.Checked.{limits}
 use Rattle.state.proofs.Stretches.{stretched_m, stretched_e}
-use Rattle.consumption.specs.Figures.{closing_on}
 use Rattle.consumption.proofs.Weights.{machine}
 use Rattle.closing.proofs.close_on.Goals as goal
 use Rattle.closing.proofs.close_on.Goals.{After-beside_of}
-
-pub overflow_cast-n : goal.overflow_cast-n
-overflow_cast-n c = omega (arith, c.cycles_of-n.ensures.1)
 
 -- what is beside the cycles, as the machine hands it on
 beside-is : (c : After-beside_of) → machine c.beside_of.result ≡ beside_by c.args.run
@@ -37,9 +31,3 @@ close-requires c =
       ledger_value = (c.requires.2, c.cycles_of-n.ensures.1, c.requires.1);
       sized = (rw (beside-is a) (beside_sized _ c.requires.0), rw c.least_finished.ensures (three_at_least c.args.run.track.method));
     }
-
-pub returns : goal.returns
-returns c =
-    let b = (goal.at.returns c).After-beside_of in
-    c.close.ensures
-    ∙ (λ i. closing_said (closing_on c.args.ledger.now (beside-is b i) (c.least_finished.ensures i) (c.cycles_of-n.ensures.0 i) c.args.amounts))

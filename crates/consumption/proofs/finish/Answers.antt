@@ -24,26 +24,9 @@ module _ (s : Start) where
   whole : Cast (machine s.args.total) s.args.total
   whole = cast tt (read s.ranges.total) natural
 
-pub overflow_cast-whole : goal.overflow_cast-whole
-overflow_cast-whole c = (whole (goal.at.overflow_cast-whole c).Start).fits
-
-pub weighted_of-weighted-requires : goal.weighted_of-weighted-requires
-weighted_of-weighted-requires c = rw (whole (goal.at.weighted_of-weighted-requires c).Start).is c.requires.weighable.0
-
 -- W
 found : (c : After-weighted_of-weighted) → (let a = c.args in c.weighted_of-weighted.result ≡ weighed_by a.g a.n (up a.total))
 found c = let a = c.args in c.weighted_of-weighted.ensures ∙ ap (weighed_by a.g a.n) (whole c.before).is
-
-pub overflow_mul-range : goal.overflow_mul-range
-overflow_mul-range c =
-    let s = (goal.at.overflow_mul-range c).Start in
-    record { fits = omega (arith, (whole s).is, (natural s).most) }
-
-pub overflow_mul-range-2 : goal.overflow_mul-range-2
-overflow_mul-range-2 c = record { fits = omega (arith, found (goal.at.overflow_mul-range-2 c).After-weighted_of-weighted, c.requires.weighable.0.greatest) }
-
-pub nonzero_div-range : goal.nonzero_div-range
-nonzero_div-range c = omega (arith, found (goal.at.nonzero_div-range c).After-weighted_of-weighted, c.requires.weighable.0.least)
 
 -- the range, as the code has it and as the definition has it
 abbrev R : Start → ℕ

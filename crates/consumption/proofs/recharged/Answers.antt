@@ -11,19 +11,21 @@ use Rattle.rules.specs.Words.{up}
 use Rattle.numbers.specs.Whole.{Sized}
 use Rattle.numbers.proofs.Tests.{pass, stop, tests, settled_taken, settled_answer}
 use Rattle.numbers.proofs.Whole.{le_up, le_not, abs_is, sized_add}
-use Rattle.numbers.proofs.Signed.{read, sum_fits, sum_read}
-use Rattle.wide.specs.Ratio.{ratio}
+use Rattle.numbers.proofs.Signed.{read, sum_read}
+use Rattle.std.specs.Result.{result_ok}
+use Rattle.std.proofs.lemmas.Result.{err_from_is_err_and}
+use Rattle.wide.specs.declared.Parts.{Parts}
+use Rattle.wide.specs.Ratio.{Ratio, ratio}
 use Rattle.wide.proofs.Answers.{is_quotient, over_quotient}
-use Rattle.rules.specs.declared.Charge.TheVariants.{Wh as wh}
-use Rattle.rules.specs.declared.Figure.TheVariants.{Is}
-use Rattle.rules.specs.Closing.{recharge, recharge_figure, recharge_refusal, recharge_by}
+use Rattle.std.specs.Prelude.{ok_or, Some as wh, Result, Ok}
+use Rattle.rules.specs.Closing.{Is, recharge, recharge_figure, recharge_refusal, recharge_by}
 use Rattle.laws.specs.Answers.{Said, gives, refuses, Measure, is, figure_said}
 use Rattle.laws.proofs.Answers.{figure_or}
 use Rattle.laws.specs.Beside.{most_transfer, most_whole}
 use Rattle.laws.proofs.Recharge.{twice}
 use Rattle.consumption.proofs.Weights.{positive, cast}
 use Rattle.consumption.proofs.recharged.Goals as goal
-use Rattle.consumption.proofs.recharged.Goals.{After-divided, Else-both-lt1, In-Is, Start}
+use Rattle.consumption.proofs.recharged.Goals.{After-divided, Else-both-lt1, Start}
 
 module _ (s : Start) where
   abbrev E : ℤ
@@ -49,9 +51,6 @@ module _ (s : Start) where
 some : (c : Else-both-lt1) → le_z (pos 1) (EF c.before) ≡ true
 some c = tested c.before false c.if-both-lt1.false
 
-pub overflow_add-both : goal.overflow_add-both
-overflow_add-both c = sum_fits w64 tt c.requires.le_range.3 c.requires.sized.0
-
 -- 14 or 12 as the answer, or the figure
 abbrev refusal : Start → ℕ
 refusal s = recharge_refusal (E s) s.args.range s.args.after s.args.wh
@@ -71,14 +70,6 @@ returns-then-both-lt1 c =
     let s = (goal.at.returns-then-both-lt1 c).Start in
     refused_so s (stop _ (tested s true c.if-both-lt1.true))
 
-pub overflow_cast-total : goal.overflow_cast-total
-overflow_cast-total c = (cast tt (read c.ranges.total) (positive _ _ c.requires.le_range.3 c.requires.le_range.2)).fits
-
-pub overflow_cast-both : goal.overflow_cast-both
-overflow_cast-both c =
-    let s = (goal.at.overflow_cast-both c).Start in
-    (cast tt (machine_is s) (positive _ _ (sum_sized s) (some (goal.at.overflow_cast-both c).Else-both-lt1))).fits
-
 -- what `divided` says, of the numbers that are cast
 quotient : (c : After-divided) → (let a = c.args in
     c.divided.result ≡ ratio (up a.total * a.wh * 1000000 / a.range) (up (EF c.before.before)))
@@ -89,31 +80,38 @@ quotient c =
     (cast tt (read s.ranges.total) (positive _ _ s.requires.le_range.3 s.requires.le_range.2)).is
     (cast tt (machine_is s) (positive _ _ (sum_sized s) (some c.before))).is
 
+-- no quotient: the answer is 12
+pub returns-in_err-r : goal.returns-in_err-r
+unfolding recharge_refusal
+returns-in_err-r c =
+    let a = goal.at.returns-in_err-r c in
+    let s = a.Start in
+    let more = some a.Else-both-lt1 in
+    let over = c.ok_or.ensures.ok_part ∙ ap result_ok c.in_err-r.was in
+    let number = sym c.in_err-r.was ∙ c.ok_or.ensures.value ∙ ap (λ (x : Ratio). ok_or {E = ℕ} x 12) over in
+    let twelve : c.in_err-r.field-0.0 ≡ 12 = cc in
+    let large =
+    over_quotient _ (up (EF s)) (omega (arith, le_up (pos 1) (EF s) more)) (omega (arith, abs_is (EF s), (sum_sized s).size))
+    (sym over ∙ quotient a.After-divided) in
+    let p = err_from_is_err_and c.from_residual.result c.from_residual.ensures.1 in
+    rw (p.1, p.2, twelve) (refused_so s (pass 14 more (stop _ (omega (tests, twice (up s.args.total) (up (EF s)) s.args.wh s.args.range)))))
+
 -- the figure, as the definition has it
-figure : (c : In-Is) → (let s = c.before.before.before in
-    c.in-Is.r ≡ recharge (up s.args.total) (up (EF s)) s.args.wh s.args.range)
-figure c = is_quotient _ _ _ _ (sym c.in-Is.is ∙ quotient c.before) ∙ twice _ _ _ _
+figure : (c : After-divided) {a : Result Parts ℕ} {r : Parts} → c.divided.result ≡ result_ok a → a ≡ Ok r → (let s = c.before.before in
+    r.q ≡ recharge (up s.args.total) (up (EF s)) s.args.wh s.args.range)
+figure c found same = is_quotient _ _ _ _ (sym (found ∙ ap result_ok same) ∙ quotient c) ∙ twice _ _ _ _
 
 pub returns-then-r-gt-MOST_RATE : goal.returns-then-r-gt-MOST_RATE
 unfolding recharge_refusal
 returns-then-r-gt-MOST_RATE c =
     let a = goal.at.returns-then-r-gt-MOST_RATE c in
-    refused_so a.Start (pass 14 (some a.Else-both-lt1) (stop _ (omega (tests, figure a.In-Is))))
+    let q = figure a.After-divided c.ok_or.ensures.ok_part c.in_ok-r.was in
+    refused_so a.Start (pass 14 (some a.Else-both-lt1) (stop _ (omega (tests, q))))
 
-pub returns-else-r-gt-MOST_RATE : goal.returns-else-r-gt-MOST_RATE
+pub returns : goal.returns
 unfolding recharge_refusal
-returns-else-r-gt-MOST_RATE c =
-    let a = goal.at.returns-else-r-gt-MOST_RATE c in
-    let none : refusal a.Start ≡ 0 = sym (pass 14 (some a.Else-both-lt1) (pass 12 (omega (tests, figure a.In-Is)) refl)) in
-    ap (λ (n : ℕ). gives (is n)) (figure a.In-Is) ∙ sym (settled_taken _ none) ∙ sym (figure_or (refusal a.Start) (Is (figure-by a.Start)))
-
-pub returns-in-Over : goal.returns-in-Over
-unfolding recharge_refusal
-returns-in-Over c =
-    let a = goal.at.returns-in-Over c in
-    let s = a.Start in
-    let more = some a.Else-both-lt1 in
-    let large =
-    over_quotient _ (up (EF s)) (omega (arith, le_up (pos 1) (EF s) more)) (omega (arith, abs_is (EF s), (sum_sized s).size))
-    (sym c.in-Over.is ∙ quotient a.After-divided) in
-    refused_so s (pass 14 more (stop _ (omega (tests, twice (up s.args.total) (up (EF s)) s.args.wh s.args.range))))
+returns c =
+    let a = goal.at.returns c in
+    let q = figure a.After-divided c.ok_or.ensures.ok_part c.in_ok-r.was in
+    let none : refusal a.Start ≡ 0 = sym (pass 14 (some a.Else-both-lt1) (pass 12 (omega (tests, q)) refl)) in
+    ap (λ (n : ℕ). gives (is n)) q ∙ sym (settled_taken _ none) ∙ sym (figure_or (refusal a.Start) (Is (figure-by a.Start)))

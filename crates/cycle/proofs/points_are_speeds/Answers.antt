@@ -1,21 +1,14 @@
--- `cycle::points_are_speeds` meets its contract. The loop's invariant: each point before k is a speed.
-use Prim.Native.Nat.{◌-◌}
-use mathlib.Core.Path.{sym}
-use native.Mathlib.Omega.{arith}
+-- `cycle::points_are_speeds` meets its contract: `all` over the numbers below n is `all_below`.
+use Rattle.std.proofs.Common.{rules, arith, refl, ◌∙◌}
+use Rattle.std.proofs.lemmas.Iterator.{YieldsList-from_range}
+use Rattle.std.proofs.lemmas.Iterator.Search.{all_from_yields_List}
+use borrow.Author.Tests.{tests}
 use Rattle.rules.specs.Cycle.{is_speed}
-use Rattle.numbers.proofs.Tests.{all_fails, passing_none, passing_more, passing_all, tests}
+use Rattle.numbers.proofs.Tests.{all_range}
 use Rattle.cycle.proofs.points_are_speeds.Goals as goal
 
-pub loop-k-init : goal.loop-k-init
-loop-k-init c = passing_none
-
-pub returns-then-point_of-gt-MOST_SPEED : goal.returns-then-point_of-gt-MOST_SPEED
-returns-then-point_of-gt-MOST_SPEED c =
-    let b = c.args.cycle.now in
-    sym (all_fails _ c.loop-k.k (is_speed b) c.loop-k-test.true (omega tests))
-
-pub loop-k-preserved : goal.loop-k-preserved
-loop-k-preserved c = passing_more c.loop-k.invariant c.loop-k-test.true (omega tests)
-
 pub returns : goal.returns
-returns c = passing_all c.loop-k.invariant (omega arith)
+returns c =
+    let test = is_speed c.args.cycle.now in
+    all_from_yields_List test _ _ _ c.all.ensures.ran (YieldsList-from_range 0 c.args.n c.args.n refl (omega arith)) (λ x b q k. search (rules, tests))
+    ∙ all_range c.args.n test

@@ -11,7 +11,7 @@ use Rattle.judge.proofs.sums_of
 use Rattle.laws.specs.Answers.{Said}
 use Rattle.state.specs.declared.Run.{Run}
 use Rattle.state.specs.State.{Left}
-use Rattle.judge.proofs.Promises.{same_answer, same_shown, same_totals}
+use Rattle.laws.proofs.Answers.{same_answer}
 use Rattle.demands.specs.Calls.{AsksNothing, OneAnswer}
 use Rattle.demands.proofs.NoDoubt.{same}
 
@@ -34,13 +34,13 @@ pub block_asks_nothing : AsksNothing contracts.block.ended block.Reads.Asked
 block_asks_nothing κs a = tt
 
 pub shown_one_answer : OneAnswer contracts.shown.ended shown.Reads.Learnt
-shown_one_answer κs a r r' w w' p q = (same_shown r r' (same p q), refl)
+shown_one_answer κs a r r' w w' p q = (same_answer r r' (same p q), refl)
 
 pub shown_asks_nothing : AsksNothing contracts.shown.ended shown.Reads.Asked
 shown_asks_nothing κs a = tt
 
 pub totals_one_answer : OneAnswer contracts.totals.ended totals.Reads.Learnt
-totals_one_answer κs a r r' w w' p q = (same_totals r r' (same p q), refl)
+totals_one_answer κs a r r' w w' p q = (same_answer r r' (same p q), refl)
 
 pub totals_asks_nothing : AsksNothing contracts.totals.ended totals.Reads.Asked
 totals_asks_nothing κs a = tt

@@ -14,7 +14,8 @@ use Rattle.opening.specs.Answers.{OpenLeft}
 use Rattle.opening.proofs.Readied.{same_opened}
 use Rattle.reading.specs.declared.Reading.{Reading}
 use Rattle.reading.specs.Answers.{ReadSaid, AllSaid}
-use Rattle.reader.proofs.Endings.{same_read, same_all, same_ending}
+use Rattle.reader.proofs.Endings.{same_read, same_all}
+use Rattle.laws.proofs.Answers.{same_answer}
 use Rattle.demands.specs.Calls.{AsksNothing, OneAnswer}
 use Rattle.demands.proofs.NoDoubt.{same}
 
@@ -52,7 +53,7 @@ pub read_all_asks_nothing : AsksNothing contracts.read_all.ended read_all.Reads.
 read_all_asks_nothing κs a = tt
 
 pub ended_one_answer : OneAnswer contracts.ended.ended ended.Reads.Learnt
-ended_one_answer κs a r r' w w' p q = (same_ending r r' (same p q), refl)
+ended_one_answer κs a r r' w w' p q = (same_answer r r' (same p q), refl)
 
 pub ended_asks_nothing : AsksNothing contracts.ended.ended ended.Reads.Asked
 ended_asks_nothing κs a = tt

@@ -1,6 +1,7 @@
 -- No doubt about `reading`: each contract has one answer, and those of the operations ask nothing.
 -- Assumes nothing.
 use mathlib.Core.Path.{refl, ap}
+use Rattle.laws.proofs.Answers.{same_refused}
 use Rattle.reading.specs.contracts
 use Rattle.reading.proofs.read_refusal
 use Rattle.reading.proofs.with_along
@@ -15,7 +16,7 @@ use Rattle.demands.specs.Calls.{AsksNothing, OneAnswer}
 use Rattle.demands.proofs.NoDoubt.{same}
 
 pub read_refusal_one_answer : OneAnswer contracts.read_refusal.ended read_refusal.Reads.Learnt
-read_refusal_one_answer κs a r r' w w' p q = (same p q, refl)
+read_refusal_one_answer κs a r r' w w' p q = (same_refused r r' (same p q), refl)
 
 pub read_refusal_asks_nothing : AsksNothing contracts.read_refusal.ended read_refusal.Reads.Asked
 read_refusal_asks_nothing κs a = tt

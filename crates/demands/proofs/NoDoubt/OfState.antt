@@ -1,6 +1,7 @@
 -- No doubt about `state`: each contract has one answer, and those of the operations ask nothing.
 -- Assumes nothing.
 use mathlib.Core.Path.{refl}
+use Rattle.laws.proofs.Answers.{same_refused}
 use Rattle.state.specs.contracts
 use Rattle.state.proofs.ground_refusal
 use Rattle.state.proofs.start_refusal
@@ -15,19 +16,19 @@ use Rattle.demands.specs.Calls.{AsksNothing, OneAnswer}
 use Rattle.demands.proofs.NoDoubt.{same}
 
 pub ground_refusal_one_answer : OneAnswer contracts.ground_refusal.ended ground_refusal.Reads.Learnt
-ground_refusal_one_answer κs a r r' w w' p q = (same p q, refl)
+ground_refusal_one_answer κs a r r' w w' p q = (same_refused r r' (same p q), refl)
 
 pub ground_refusal_asks_nothing : AsksNothing contracts.ground_refusal.ended ground_refusal.Reads.Asked
 ground_refusal_asks_nothing κs a = tt
 
 pub start_refusal_one_answer : OneAnswer contracts.start_refusal.ended start_refusal.Reads.Learnt
-start_refusal_one_answer κs a r r' w w' p q = (same p q, refl)
+start_refusal_one_answer κs a r r' w w' p q = (same_refused r r' (same p q), refl)
 
 pub start_refusal_asks_nothing : AsksNothing contracts.start_refusal.ended start_refusal.Reads.Asked
 start_refusal_asks_nothing κs a = tt
 
 pub sample_refusal_one_answer : OneAnswer contracts.sample_refusal.ended sample_refusal.Reads.Learnt
-sample_refusal_one_answer κs a r r' w w' p q = (same p q, refl)
+sample_refusal_one_answer κs a r r' w w' p q = (same_refused r r' (same p q), refl)
 
 pub sample_refusal_asks_nothing : AsksNothing contracts.sample_refusal.ended sample_refusal.Reads.Asked
 sample_refusal_asks_nothing κs a = tt

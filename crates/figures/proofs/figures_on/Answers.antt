@@ -27,7 +27,7 @@ returns c =
     let sums = summed.sums_of-sums.ensures in
     let outside = read (outside-fits (goal.at.returns c).After-sums_of-sums) ∙ ap (λ (x : Sums). x.outside) sums in
     let by-rules = closing_on a.ledger.now (beside_by reading.run) (least_finished reading.run.track.method) (cycles_by reading.run) reading.amounts in
-    let closing = same_closing c.close_on-closing.result by-rules c.close_on-closing.ensures in
+    let closing = same_closing c.close_on.result by-rules c.close_on.ensures in
     let drawn = read (drawn_fits (goal.at.returns c).After-sums_of-sums) ∙ ap (λ (x : Sums). x.drawn) sums in
     λ i. record {
       vehicle = reading.vehicle;

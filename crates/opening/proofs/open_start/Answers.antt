@@ -10,20 +10,20 @@ slice_bounds-start-end c = let s = c in sym (length-take-le s.args.o.cycle s.arg
 pub with_field-requires : goal.with_field-requires
 with_field-requires c = c.requires.0
 
-pub returns-in-Refused : goal.returns-in-Refused
-returns-in-Refused c =
+pub returns-in-Err : goal.returns-in-Err
+returns-in-Err c =
     let known = c in
     let start = known in
     let t = start in
     let a = t.args in
     start_refused a.o a.room.now a.ledger.now a.map.now a.v.now a.n t.tolerances_of.ensures _ start.start-answer.ensures
-    known.in-Refused.is c.refused_at.ensures
+    known.in-Err.is c.refused_at.ensures
 
-pub returns-in-Taken : goal.returns-in-Taken
-returns-in-Taken c =
+pub returns-in-Ok : goal.returns-in-Ok
+returns-in-Ok c =
     let known = c in
     let start = known in
     let t = start in
     let a = t.args in
     start_taken a.o a.room.now a.ledger.now a.map.now a.v.now a.n t.tolerances_of.ensures _ start.start-answer.ensures
-    known.in-Taken.is c.with_field.ensures
+    known.in-Ok.is c.with_field.ensures

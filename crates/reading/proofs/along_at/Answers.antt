@@ -8,5 +8,5 @@ returns c = let r = c.args.r in λ i. record {
   passed = r.passed;
   amounts = r.amounts;
   method = r.run.track.method;
-  taken = taking (c.going_at-going.ensures i) r.run.stretched;
+  taken = taking (c.going_at.ensures i) r.run.stretched;
 }

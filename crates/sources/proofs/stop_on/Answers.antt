@@ -4,7 +4,7 @@ use Prim.Native.Nat.{◌/◌, ◌≤◌, ◌*◌}
 use native.Mathlib.Nat.{div-le_of_le-mul}
 use native.Mathlib.Omega.{arith}
 use Rattle.rules.specs.Bench.{most_cycles}
-use Rattle.sources.specs.declared.Stop.{Stop}
+use Rattle.sources.specs.Sources.{row_of}
 use Rattle.state.proofs.Stretches.{shortened_length}
 use Rattle.state.proofs.Checked.{limits, progress_most}
 use Rattle.state.specs.State.{most_by}
@@ -29,7 +29,4 @@ returns-in-Regular c =
     let most = ap (λ (y : Method). most_by y n) regular in
     let few = (progress_most _ _ _ _ g.progress).1 in
     let row : c.args.run.progress.counted / n ≤ most_cycles = div-le_of_le-mul n (omega (arith, most, few)) in
-    record { value = c.ride_stop.ensures ∙ rw regular; cycle_le_row_e = omega (arith, ap (λ (x : Stop). x.cycle) c.ride_stop.ensures) }
-
-pub returns-in-Shortened : goal.returns-in-Shortened
-returns-in-Shortened c = record { value = c.stop_around.ensures.value ∙ rw c.in-Shortened.is; cycle_le_row_e = c.stop_around.ensures.cycle_le_row_e }
+    record { value = c.ride_stop.ensures ∙ rw regular; cycle_le_row_e = omega (arith, ap row_of c.ride_stop.ensures) }

@@ -1,12 +1,10 @@
 -- `state::last_cycle` meets its contract: the sample last judged is one of those that can count, and beside stretches there are four cycles.
-use mathlib.Core.Path.{◌≡◌, ap, ◌∙◌}
-use Prim.Native.Nat.{ℕ, ◌*◌, ◌/◌, ◌<◌}
+use mathlib.Core.Path.{ap, ◌∙◌}
+use Prim.Native.Nat.{ℕ, ◌*◌, ◌<◌}
 use native.Mathlib.Nat.{div-lt_iff_lt-mul}
 use native.Mathlib.Omega.{arith}
 use Rattle.rules.specs.declared.Method.{Method}
-use Rattle.rules.specs.Bench.{most_cycles}
 use Rattle.state.specs.State.{most_by}
-use Rattle.state.specs.Refusals.{last_cycle}
 use Rattle.state.proofs.Checked.{limits, judged_most}
 use Rattle.state.proofs.Stretches.{shortened_length, last_most}
 use Rattle.state.proofs.last_cycle.Goals as goal
@@ -19,24 +17,8 @@ module _ (s : Start) where
   real : 0 < N
   real = omega (arith, (limits _ s.requires.2).long)
 
--- by the regular method
-at-regular : (c : In-Regular) → (
-    let s = c.before.before.before.before.before.before in
-    let k = c.last_judged-last.result / N c.before.before.before.before.before.before.before in
-    (k ≡ last_cycle s.args.run s.args.cycle.now) × (k < most_cycles))
-at-regular c =
-    let s = c.before.before.before.before.before.before in
-    let regular = c.in-Regular.is in
-    let last = c.last_judged-last.ensures in
-    let most = ap (λ (y : Method). most_by y (N c.before.before.before.before.before.before.before)) regular in
-    let few = judged_most s.args.run.progress.end _ _ _ (limits _ s.requires.2).progress (omega (arith, most, real c.before.before.before.before.before.before.before)) in
-    (rw (regular, last, s.requires.1), (div-lt_iff_lt-mul (real c.before.before.before.before.before.before.before)).1 (omega (arith, last, most, few)))
-
 pub overflow_mul-n : goal.overflow_mul-n
 overflow_mul-n c = omega (arith, (limits _ c.requires.2).short)
-
-pub overflow_cast-result : goal.overflow_cast-result
-overflow_cast-result c = omega (arith, (at-regular (goal.at.overflow_cast-result c).In-Regular).1)
 
 pub last_around-requires : goal.last_around-requires
 last_around-requires c =
@@ -45,7 +27,14 @@ last_around-requires c =
     (real (goal.at.last_around-requires c).Start, omega (arith, g.short), (shortened_length g.method c.in-Shortened.is).1)
 
 pub returns-in-Regular : goal.returns-in-Regular
-returns-in-Regular c = at-regular (goal.at.returns-in-Regular c).In-Regular
+returns-in-Regular c =
+    let regular = c.in-Regular.is in
+    let last = c.last_judged-last.ensures in
+    let n = N (goal.at.returns-in-Regular c).Start in
+    let long = real (goal.at.returns-in-Regular c).Start in
+    let most = ap (λ (y : Method). most_by y n) regular in
+    let few = judged_most c.args.run.progress.end _ _ _ (limits _ c.requires.2).progress (omega (arith, most, long)) in
+    (rw (regular, last, c.requires.1), (div-lt_iff_lt-mul long).1 (omega (arith, last, most, few)))
 
 pub returns-in-Shortened : goal.returns-in-Shortened
 returns-in-Shortened c =

@@ -1,5 +1,5 @@
 -- `step::judge_one` meets its contract, put together from what each callee ensures.
-use mathlib.Core.Bool.{Bool, true, false, cond}
+use mathlib.Core.Bool.{Bool, true, false, not, cond}
 use mathlib.Core.List.{List}
 use mathlib.Core.Path.{◌≡◌, sym, ap, ◌∙◌}
 use Prim.Native.Nat.{ℕ, ◌*◌}
@@ -7,18 +7,20 @@ use native.Mathlib.Omega.{arith}
 use lib.IntN.{ℤ}
 use Rattle.rules.specs.declared.Method.{Method}
 use Rattle.rules.specs.declared.End.TheVariants.{Stop as stop}
-use Rattle.rules.specs.Plan.{plan}
-use Rattle.ledger.specs.Row.{is_over}
+use Rattle.rules.specs.Band.{inside_of}
+use Rattle.window.specs.Moving.{least_in, greatest_in}
+use Rattle.map.specs.Map.{opened, marked_if}
+use Rattle.ledger.specs.Row.{is_over, outside_added}
 use Rattle.state.specs.State.{Left, left}
 use Rattle.state.specs.Refusals.{not_stretched}
-use Rattle.step.specs.Step.{State, ended_by, counted_one, out_now}
-use Rattle.step.specs.Where.{Going, standing, progressed, Counts, with_memory, taking, one_judged}
+use Rattle.step.specs.Step.{State, ended_by, counted_one}
+use Rattle.step.specs.Where.{Going, standing, progressed, Counts, one_judged}
 use Rattle.laws.proofs.Sound.{Sound, sound}
 use Rattle.laws.proofs.Bounds.{within}
 use Rattle.step.proofs.Standing.{position_most}
 use Rattle.step.proofs.Judging.{out_in, judged_as}
 use Rattle.step.proofs.judge_one.Goals as goal
-use Rattle.step.proofs.judge_one.Goals.{After-ledger-1, Start}
+use Rattle.step.proofs.judge_one.Goals.{Start}
 
 -- the cycle, the lent memory at the entry, and what holds of them
 abbrev b : Start → List ℕ
@@ -36,32 +38,23 @@ counts s = s.requires.counts.0
 good : (s : Start) → Sound (b s)
 good s = sound (b s) (counts s).sound
 
--- whether the sample is outside, as the first of them found it
-abbrev out : After-ledger-1 → Bool
-out c = c.is_outside-outside.result
-
-out-known : (c : After-ledger-1)
-    → out c ≡ out_now (plan (b c.before.before.before.before.before.before.before.before.before.before.before.before.before) c.args.t c.args.y) (with_memory (taking c.args.g not_stretched) (l c.before.before.before.before.before.before.before.before.before.before.before.before.before) (m c.before.before.before.before.before.before.before.before.before.before.before.before.before)) c.args.x
-out-known c =
-    let s = c in
-    c.is_outside-outside.ensures
-    ∙ out_in (b c.before.before.before.before.before.before.before.before.before.before.before.before.before) s.args.t s.args.y s.args.g not_stretched (l c.before.before.before.before.before.before.before.before.before.before.before.before.before) (m c.before.before.before.before.before.before.before.before.before.before.before.before.before) s.args.x (counts c.before.before.before.before.before.before.before.before.before.before.before.before.before) s.requires.counts.1 (omega arith)
-
 -- what is left of a state
 abbrev left_by : List ℕ → ℕ → Method → State → Left Going
 left_by b w y z = record { answer = standing b w y z.progress; memory = z.memory }
 
--- what is left, where the run stands at r, and v says whether it stops
-by : (c : After-ledger-1) (v : Bool) → is_over (9 * c.args.g.row) (l c.before.before.before.before.before.before.before.before.before.before.before.before.before) (out c) c.args.t.allowance ≡ v → (r : Going)
-    → r ≡ standing (b c.before.before.before.before.before.before.before.before.before.before.before.before.before) c.args.t.time c.args.y (cond v (ended_by c.args.g.progress stop) (counted_one c.args.g.progress c.args.x))
-    → left r c.count_in_cycle-over.new.ledger c.mark_sample.new.map
-    ≡ one_judged (b c.before.before.before.before.before.before.before.before.before.before.before.before.before) c.args.t c.args.y c.args.g (l c.before.before.before.before.before.before.before.before.before.before.before.before.before) (m c.before.before.before.before.before.before.before.before.before.before.before.before.before) c.args.x
-by c v q r e =
-    let s = c in
-    let ledger = c.count_in_cycle-over.ensures.ledger_after in
-    let map = c.mark_sample.ensures in
+-- what is left, where the run stands at r; o says whether the sample is outside, and v whether it stops the run
+by : (s : Start) (o v : Bool) → o ≡ not (inside_of (least_in s.args.g.window) (greatest_in s.args.g.window) s.args.t.speed s.args.x.speed)
+    → is_over (9 * s.args.g.row) (l s) o s.args.t.allowance ≡ v
+    → (r : Going) → r ≡ standing (b s) s.args.t.time s.args.y (cond v (ended_by s.args.g.progress stop) (counted_one s.args.g.progress s.args.x))
+    → {ledger : List ℤ} {map : List ℕ}
+    → ledger ≡ outside_added (9 * s.args.g.row) (l s) o
+    → map ≡ marked_if (opened (m s) s.args.g.position) s.args.g.position o
+    → left r ledger map ≡ one_judged (b s) s.args.t s.args.y s.args.g (l s) (m s) s.args.x
+by s o v outside q r e ledger map =
+    let known = outside ∙ out_in (b s) s.args.t s.args.y s.args.g not_stretched (l s) (m s) s.args.x (counts s) s.requires.counts.1 (omega arith) in
     (λ i. left (e i) (ledger i) (map i))
-    ∙ ap (left_by (b c.before.before.before.before.before.before.before.before.before.before.before.before.before) s.args.t.time s.args.y) (sym (judged_as (b c.before.before.before.before.before.before.before.before.before.before.before.before.before) s.args.t s.args.y s.args.g not_stretched (l c.before.before.before.before.before.before.before.before.before.before.before.before.before) (m c.before.before.before.before.before.before.before.before.before.before.before.before.before) s.args.x (counts c.before.before.before.before.before.before.before.before.before.before.before.before.before) s.requires.counts.1 (omega arith) (out c) (out-known c) v q))
+    ∙ ap (left_by (b s) s.args.t.time s.args.y)
+    (sym (judged_as (b s) s.args.t s.args.y s.args.g not_stretched (l s) (m s) s.args.x (counts s) s.requires.counts.1 (omega arith) o known v q))
 
 pub overflow_cast-x : goal.overflow_cast-x
 overflow_cast-x c = let s = c in omega (arith, (within s.args.x s.requires.counts.2).speed)
@@ -78,15 +71,15 @@ count_in_cycle-over-requires c =
 
 pub returns-then-over : goal.returns-then-over
 returns-then-over c =
-    let a = c in
-    let s = a in
-    by (goal.at.returns-then-over c).After-ledger-1 true (sym a.count_in_cycle-over.ensures.value ∙ c.if-over.true) _
-    (c.ended_by.ensures ∙ ap (λ (z : Going). progressed z (ended_by s.args.g.progress stop)) (counts (goal.at.returns-then-over c).Start).stands)
+    let s = (goal.at.returns-then-over c).Start in
+    by s _ true c.is_outside-outside.ensures (sym c.count_in_cycle-over.ensures.value ∙ c.if-over.true) _
+    (c.ended_by.ensures ∙ ap (λ (z : Going). progressed z (ended_by s.args.g.progress stop)) (counts s).stands)
+    c.count_in_cycle-over.ensures.ledger_after c.mark_sample.ensures
 
 pub counted_by-requires : goal.counted_by-requires
 counted_by-requires c = let s = c in (counts (goal.at.counted_by-requires c).Start, s.requires.counts.1)
 
 pub returns : goal.returns
 returns c =
-    let a = c in
-    by (goal.at.returns c).After-ledger-1 false (sym a.count_in_cycle-over.ensures.value ∙ c.if-over.false) _ c.counted_by.ensures
+    by (goal.at.returns c).Start _ false c.is_outside-outside.ensures (sym c.count_in_cycle-over.ensures.value ∙ c.if-over.false) _
+    c.counted_by.ensures c.count_in_cycle-over.ensures.ledger_after c.mark_sample.ensures

@@ -1,20 +1,19 @@
 -- `wide::more` meets its contract. Assumes nothing.
 use mathlib.Core.Path.{◌∙◌}
-use borrow.Author.Rules.{rules}
 use Rattle.wide.specs.Ratio.{more_of}
 use Rattle.wide.proofs.Answers.{more_large, more_none, more_some}
 use Rattle.wide.proofs.more.Goals as goal
 
-pub returns-then-m-ge-TOP : goal.returns-then-m-ge-TOP
-returns-then-m-ge-TOP c = rw c.in-Is.is (more_large _ _ _ _ _ c.if-m-ge-TOP.true)
-
-pub returns-in-Over : goal.returns-in-Over
+pub returns-in_err-v : goal.returns-in_err-v
 unfolding more_of
-returns-in-Over c = search rules
+returns-in_err-v c = rw c.in_err-v.was c.from_residual.ensures
 
-pub returns-then-r-m : goal.returns-then-r-m
-returns-then-r-m c =
-    rw c.in-Is.is (c.multiply.ensures ∙ more_some _ _ _ _ _ c.if-r-m.true)
+pub returns-then-m-ge-TOP : goal.returns-then-m-ge-TOP
+returns-then-m-ge-TOP c = rw c.in_ok-v.was (more_large _ _ _ _ _ c.if-m-ge-TOP.true)
 
-pub returns-else-r-m : goal.returns-else-r-m
-returns-else-r-m c = rw c.in-Is.is (more_none _ _ _ _ _ c.if-r-m.false)
+pub returns : goal.returns
+returns c =
+    rw c.in_ok-v.was (c.multiply.ensures ∙ more_some _ _ _ _ _ c.if-v-m.false)
+
+pub returns-then-v-m : goal.returns-then-v-m
+returns-then-v-m c = rw c.in_ok-v.was (more_none _ _ _ _ _ c.if-v-m.true)

@@ -9,11 +9,6 @@ use Rattle.wide.proofs.Halves.{odd, even, done}
 use Rattle.wide.proofs.multiply.Goals as goal
 use Rattle.wide.proofs.multiply.Goals.{then-left-eq1, else-left-eq1}
 
-pub loop-left-init : goal.loop-left-init
-loop-left-init c =
-    let a = c.args in
-    (c.requires.0, mod-lt _ (omega arith), ap (λ (t : ℕ). value a.a a.m + t * a.y) (div-add-mod' a.x a.m))
-
 pub returns-then-acc-ge-TOP : goal.returns-then-acc-ge-TOP
 returns-then-acc-ge-TOP c = large_quotient _ _ (omega arith) (omega arith) _ c.if-acc-ge-TOP.true (omega arith)
 
@@ -23,15 +18,6 @@ returns-then-step-ge-TOP c =
     let left = c.loop-left-test.true in
     large_quotient _ _ (omega arith) (omega arith) _ c.if-step-ge-TOP.true
     (omega (arith, le-mul_of_pos_right (step.q * c.args.m) left))
-
-pub add-acc-requires : goal.add-acc-requires
-add-acc-requires c = omega arith
-
-pub add-step-requires : goal.add-step-requires
-add-step-requires c = omega arith
-
-pub loop-left-smaller : goal.loop-left-smaller
-loop-left-smaller c = omega arith
 
 pub returns-then-acc-lt-TOP : goal.returns-then-acc-lt-TOP
 returns-then-acc-lt-TOP c =

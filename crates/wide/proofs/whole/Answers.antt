@@ -10,8 +10,8 @@ returns-then-m-eq0 c = no_divisor _ _ c.if-m-eq0.true
 pub returns-then-m-ge-TOP : goal.returns-then-m-ge-TOP
 returns-then-m-ge-TOP c = large_divisor _ _ c.if-m-ge-TOP.true
 
-pub returns-then-q-lt-TOP : goal.returns-then-q-lt-TOP
-returns-then-q-lt-TOP c = exact _ _ _ _ (div-add-mod' _ _) (mod-lt _ (omega arith)) (omega arith) (omega arith)
+pub returns : goal.returns
+returns c = exact _ _ _ _ (div-add-mod' _ _) (mod-lt _ (omega arith)) (omega arith) (omega arith)
 
-pub returns-else-q-lt-TOP : goal.returns-else-q-lt-TOP
-returns-else-q-lt-TOP c = large_quotient _ _ (omega arith) (omega arith) _ (omega arith) (div-mul-le_self _ _)
+pub returns-then-q-ge-TOP : goal.returns-then-q-ge-TOP
+returns-then-q-ge-TOP c = large_quotient _ _ (omega arith) (omega arith) _ (omega arith) (div-mul-le_self _ _)

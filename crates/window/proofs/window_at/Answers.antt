@@ -1,33 +1,16 @@
 -- `window::window_at` meets its contract, put together from what each callee ensures; that it holds lo and hi is the law of the fewer places.
 use mathlib.Core.Path.{◌≡◌, ap, ◌∙◌}
-use native.Mathlib.Omega.{arith}
-use Rattle.laws.proofs.Sound.{sound}
 use Rattle.window.specs.Moving.{Window, window_of, least_in, greatest_in}
 use Rattle.window.proofs.Fewer.{least_in_lem, greatest_in_lem}
 use Rattle.window.proofs.Moves.{window_made}
 use Rattle.window.proofs.window_at.Goals as goal
 use Rattle.window.proofs.window_at.Goals.{After-until_of}
 
-pub seconds_of-t-requires : goal.seconds_of-t-requires
-seconds_of-t-requires c = let s = sound _ c.requires.0 in omega arith
-
-pub overflow_mul-n : goal.overflow_mul-n
-overflow_mul-n c = let s = sound _ c.requires.0 in omega arith
-
-pub overflow_add-p : goal.overflow_add-p
-overflow_add-p c = let s = sound _ c.requires.0 in omega arith
-
-pub until_of-requires : goal.until_of-requires
-until_of-requires c = let s = sound _ c.requires.0 in omega arith
-
 abbrev made : After-until_of → Window
 made c = record {
-  left = c.left_edge-left.result.value;
-  leftrise = c.left_edge-left.result.rise;
-  low = c.inner_over-inner.result.low;
-  right = c.right_edge-right.result.value;
-  rightrise = c.right_edge-right.result.rise;
-  high = c.inner_over-inner.result.high;
+  left = c.left_edge-left.result;
+  right = c.right_edge-right.result;
+  inner = c.inner_over-inner.result;
   until = c.until_of.result;
 }
 
@@ -36,8 +19,8 @@ made-is c =
     let s = c in
     window_made s.args.cycle.now s.args.w s.args.p _ _ _ _ _ _ _ _
     c.seconds_of-t.ensures
-    c.less.ensures
-    c.smaller.ensures
+    c.saturating_sub.ensures
+    c.min.ensures
     c.left_edge-left.ensures
     c.right_edge-right.ensures
     c.inner_over-inner.ensures.0

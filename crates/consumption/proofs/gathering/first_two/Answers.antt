@@ -13,12 +13,6 @@ use Rattle.consumption.proofs.Gathers.{rates_two, energy_two, drawn_two, rated_t
 use Rattle.consumption.proofs.gathering.first_two.Goals as goal
 use Rattle.consumption.proofs.gathering.first_two.Goals.{After-rated_in-second}
 
-pub rated_in-first-requires : goal.rated_in-first-requires
-rated_in-first-requires c = (c.requires, omega arith)
-
-pub rated_in-second-requires : goal.rated_in-second-requires
-rated_in-second-requires c = (c.requires, omega arith)
-
 -- the two cycles
 module _ (c : After-rated_in-second) where
   energy_is : c.rated_in-first.result.energy + c.rated_in-second.result.energy ≡ up (energy_in c.args.ledger.now 0) + up (energy_in c.args.ledger.now 1)
@@ -35,7 +29,7 @@ returns c =
     let one = c.rated_in-first.ensures in
     let two = c.rated_in-second.ensures in
     let energy = energy_is (goal.at.returns c).After-rated_in-second ∙ energy_two l in
-    let drawn = c.both.ensures ∙ (λ i. leb 1 (one i).energy && leb 1 (two i).energy) ∙ drawn_two l in
+    let drawn = (λ i. leb 1 (one i).energy && leb 1 (two i).energy) ∙ drawn_two l in
     let rates = ap₂ ◌&&◌ (c.is_rate.ensures ∙ ap (λ (x : Rated). is_rate x.rate) one) (c.is_rate-2.ensures ∙ ap (λ (x : Rated). is_rate x.rate) two) in
-    let rated = c.both-2.ensures ∙ rates ∙ rated_two l in
+    let rated = rates ∙ rated_two l in
     λ i. record { first = one i; second = two i; rates = rates_two l i; energy = energy i; drawn = drawn i; rated = rated i }

@@ -13,9 +13,6 @@ use Rattle.consumption.proofs.Gathers.{gathered_energy_most, gathered_rates_most
 use Rattle.consumption.proofs.gathering.with_cycle.Goals as goal
 use Rattle.consumption.proofs.gathering.with_cycle.Goals.{After-rated_in-x}
 
-pub rated_in-x-requires : goal.rated_in-x-requires
-rated_in-x-requires c = (c.requires.0, c.requires.2)
-
 -- what was gathered, and the cycle
 module _ (c : After-rated_in-x) where
   rates_small : c.args.g.rates + c.rated_in-x.result.rate < 2 ^ 64
@@ -49,6 +46,6 @@ returns c =
     let x = c.rated_in-x.ensures in
     let rates = ap₂ (λ (y : Gathered) (z : Rated). y.rates + z.rate) g x ∙ rates_more l a.c h in
     let energy = ap₂ (λ (y : Gathered) (z : Rated). y.energy + z.energy) g x ∙ energy_more l a.c h in
-    let drawn = c.both.ensures ∙ (λ i. (g i).drawn && leb 1 (x i).energy) ∙ drawn_more l a.c h in
-    let rated = c.both-2.ensures ∙ ap₂ ◌&&◌ (ap (λ (y : Gathered). y.rated) g) (c.is_rate.ensures ∙ ap (λ (z : Rated). is_rate z.rate) x) ∙ rated_more l a.c h in
+    let drawn = (λ i. (g i).drawn && leb 1 (x i).energy) ∙ drawn_more l a.c h in
+    let rated = ap₂ ◌&&◌ (ap (λ (y : Gathered). y.rated) g) (c.is_rate.ensures ∙ ap (λ (z : Rated). is_rate z.rate) x) ∙ rated_more l a.c h in
     λ i. record { first = (g i).first; second = (g i).second; rates = rates i; energy = energy i; drawn = drawn i; rated = rated i }

@@ -12,11 +12,8 @@ use Rattle.desk.proofs.beginning.open_all.Given as goal
 abbrev pub InTurn : Desk → ℕ → Type 0
 InTurn on left = on.started ≡ false → (left ≡ 4) ⊎ ((4 ≤ on.opening.fields + left) × (on.opening.fields ≤ 3))
 
-abbrev pub invariant-loop-left : goal.invariant-loop-left
-invariant-loop-left l =
-    ((l.used ≤ length l.input) × (l.on.fields + l.left ≤ most_fields + 4) × (length l.room ≡ length l.initial.room) × (length l.ledger ≡ length l.initial.ledger) × (length l.map ≡ length l.initial.map))
+abbrev pub invariant-loop-turn : goal.invariant-loop-turn
+invariant-loop-turn l =
+    ((l.used ≤ length l.input) × (l.on.fields + (4 - l._turn) ≤ most_fields + 4) × (length l.room ≡ length l.initial.room) × (length l.ledger ≡ length l.initial.ledger) × (length l.map ≡ length l.initial.map))
     × (behind l.used (open_all (laid_of l.on l.room l.ledger l.map) (drop l.used l.input)) ≡ open_all (laid_of l.initial.on l.initial.room l.initial.ledger l.initial.map) l.input)
-    × InTurn l.on l.left
-
-abbrev pub decreases-loop-left : goal.decreases-loop-left
-decreases-loop-left l = l.left
+    × InTurn l.on (4 - l._turn)

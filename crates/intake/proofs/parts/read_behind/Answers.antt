@@ -39,7 +39,7 @@ space f same =
     let size : f.args.held + n - f.args.held ≡ n = omega arith in
     let few = length-take (f.args.held + n - f.args.held) (drop f.args.held f.args.buffer.now) in
     let most = f.at_most.ensures in
-    let w = f.fill-got.ensures in (
+    let w = f.fill-got.ensures.within in (
       omega (arith, same, f.requires),
       within_more _ _ f.fill-got.result (omega (arith, size, few, same, most, f.requires)) w,
       within_more _ _ f.fill-got.result (omega (arith, size, few, most)) w,

@@ -1,9 +1,8 @@
--- `ledger::totals::energy_from` meets its contract. The loop's invariant: the sum is that of the cycles passed, from a on.
+-- `ledger::totals::energy_from` meets its contract. The loop's invariant: the sum is that of the cycles from a up to c.
 use mathlib.Core.List.{List}
 use mathlib.Core.Path.{◌≡◌}
-use Prim.Native.Nat.{ℕ, ◌+◌, ◌-◌, ◌≤◌}
+use Prim.Native.Nat.{ℕ, ◌+◌, ◌-◌}
 use lib.IntN.{ℤ}
-use Rattle.rules.specs.Bench.{most_cycles}
 use Rattle.rules.specs.Words.{sumℤ}
 use Rattle.ledger.specs.Row.{energy_in}
 use Rattle.ledger.proofs.totals.energy_from.Given as goal
@@ -12,8 +11,5 @@ use Rattle.ledger.proofs.totals.energy_from.Given as goal
 abbrev pub from : List ℤ → ℕ → ℕ → ℤ
 from l a k = energy_in l (a + k)
 
-abbrev pub invariant-loop-k : goal.invariant-loop-k
-invariant-loop-k l = (l.k ≤ most_cycles - l.a) × (l.sum ≡ sumℤ (from l.ledger l.a) l.k)
-
-abbrev pub decreases-loop-k : goal.decreases-loop-k
-decreases-loop-k l = l.rest - l.k
+abbrev pub invariant-loop-c : goal.invariant-loop-c
+invariant-loop-c l = l.sum ≡ sumℤ (from l.ledger l.a) (l.c - l.a)

@@ -14,25 +14,21 @@ use Rattle.ledger.proofs.totals.sum_by.Goals.{In-loop-k}
 
 pub loop-k-init : goal.loop-k-init
 unfolding fold
-loop-k-init c = (omega arith, refl)
+loop-k-init c = refl
 
 pub bounds-ledger-a : goal.bounds-ledger-a
 bounds-ledger-a c = omega (arith, c.requires.2.within c.loop-k.k c.loop-k-test.true, bounded_long _ c.requires.0)
 
 -- its number is added
 one_more_lem : (c : In-loop-k) → (
-    let a = c.args in
-    let at-k = c.loop-k in
-    Added w64 a.n (from a.ledger.now a.a a.d) at-k.sum-bits at-k.k (to_z w64 (of_z w64 (from a.ledger.now a.a a.d at-k.k))))
+    let numbers = from c.args.ledger.now c.args.a c.args.d in
+    Added w64 numbers c.loop-k.sum-bits c.loop-k.k (to_z w64 (of_z w64 (numbers c.loop-k.k))))
 one_more_lem c =
     let sized = λ (j : ℕ) (l : j < c.args.n). bounded_sized c.args.ledger.now c.requires.0 (c.args.a + c.args.d * j) (c.requires.2.within j l) in
-    added c.requires.1 tt sized (record { most = c.loop-k.invariant.0; is = c.loop-k.invariant.1 }) c.loop-k-test.true
-    (read (sfits w64 tt (sized c.loop-k.k c.loop-k-test.true)))
+    added c.requires.1 tt sized c.loop-k.invariant c.loop-k-test.true (read (sfits w64 tt (sized c.loop-k.k c.loop-k-test.true)))
 
 pub overflow_add-sum-in-loop-k : goal.overflow_add-sum-in-loop-k
 overflow_add-sum-in-loop-k c = (one_more_lem (goal.at.overflow_add-sum-in-loop-k c).In-loop-k).fits
 
 pub loop-k-preserved : goal.loop-k-preserved
-loop-k-preserved c =
-    let s = (one_more_lem (goal.at.loop-k-preserved c).In-loop-k).summed in
-    (s.most, s.is)
+loop-k-preserved c = (one_more_lem (goal.at.loop-k-preserved c).In-loop-k).is

@@ -21,7 +21,7 @@ returns c =
     let n = end in
     let b = n.args.cycle.now in
     let n-is = n.phases_in-n.ensures.0 in
-    let seconds = end.end_of-seconds.ensures ∙ ap (phase_end b) (end.last_of.ensures ∙ ap (λ (k : ℕ). k - 1) n-is) in
+    let seconds = end.end_of-seconds.ensures ∙ ap (phase_end b) (end.saturating_sub.ensures ∙ ap (λ (k : ℕ). k - 1) n-is) in
     wrote_is
     (wrote_most (wrote_then (wrote_then (wrote_then first.put_text-word.ensures second.put_number-next.ensures (omega arith)) third.put_text-ends.ensures (omega arith)) fourth.put_ends.ensures (omega arith)) (omega arith))
     (λ i. spaced (spell "cycle") ++ spaced (digits (seconds i)) ++ spaced (spell "phases") ++ in_turn (end_of_phase b) (n-is i))

@@ -1,7 +1,8 @@
 -- `paperwhelk::sheets::print_whole` meets its contract: the desk that the record brought is printed, by a refused field or by the end of the input.
-use mathlib.Core.Path.{◌≡◌, ap, ◌∙◌}
+use mathlib.Core.Path.{◌≡◌, sym, ap, ◌∙◌}
 use Rattle.desk.specs.declared.Desk.{Desk}
-use Rattle.desk.specs.Feeding.{outcome_said, Lent, laid_of, empty_desk, fed_left, feed_of}
+use Rattle.desk.specs.Feeding.{Lent, laid_of, empty_desk, fed_left, feed_of}
+use Rattle.laws.specs.Answers.{refuses, answer_said}
 use Rattle.prints.proofs.Texts.{as_text}
 use Rattle.paperwhelk.proofs.Whole.{used_whole, refused_whole, closed_whole}
 use Rattle.paperwhelk.proofs.sheets.print_whole.Goals as goal
@@ -29,16 +30,16 @@ overflow_sub-left c =
     let x = (goal.at.overflow_sub-left c).After-feed-x in
     used_whole (memory x) c.args.«record».now (fed x)
 
-pub returns-in-Refused : goal.returns-in-Refused
-returns-in-Refused c =
-    let x = (goal.at.returns-in-Refused c).After-feed-x in
+pub returns-in-Err : goal.returns-in-Err
+returns-in-Err c =
+    let x = (goal.at.returns-in-Err c).After-feed-x in
     as_text c.args.lines.now
-    (refused_whole (memory x) c.args.«record».now (fed x) c.in-Refused.number (ap outcome_said c.in-Refused.is))
+    (refused_whole (memory x) c.args.«record».now (fed x) c.number.result (ap answer_said c.in-Err.is ∙ sym (ap refuses c.number.ensures)))
     (c.refuse.ensures.value, c.refuse.ensures.out_after)
 
 pub returns : goal.returns
 returns c =
     let x = (goal.at.returns c).After-feed-x in
     as_text c.args.lines.now
-    (closed_whole (memory x) c.args.«record».now (fed x) (ap outcome_said c.in_default.is))
+    (closed_whole (memory x) c.args.«record».now (fed x) (ap answer_said c.in_default.is))
     (c.close.ensures.value, c.close.ensures.out_after)

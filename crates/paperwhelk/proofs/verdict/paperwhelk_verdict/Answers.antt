@@ -1,20 +1,19 @@
--- `paperwhelk::verdict::paperwhelk_verdict` meets its contract: each answer passes the tests before it. A verdict is at most 2, so that the cast keeps it.
+-- `paperwhelk::verdict::paperwhelk_verdict` meets its contract: each answer passes the tests before it.
 use mathlib.Core.Bool.{true}
 use mathlib.Core.Path.{◌≡◌, sym, ap, ◌∙◌}
-use Prim.Native.Nat.{◌≤◌, ◌<◌, ◌^◌}
 use native.Mathlib.Omega.{arith}
 use lib.IntN.{pos}
 use mir.Syntax.{w32}
-use mir.ValLaws.{to_z_pos}
+use Rattle.numbers.proofs.Signed.{read}
 use Rattle.numbers.proofs.Tests.{pass, stop, tests}
 use Rattle.rules.specs.declared.Tolerances.{Tolerances}
 use Rattle.rules.specs.Bench.{tolerable}
 use Rattle.rules.specs.Cycle.{valid}
-use Rattle.laws.proofs.Band.{tolerated, verdict_most}
+use Rattle.laws.proofs.Band.{tolerated}
 use Rattle.laws.proofs.Sound.{sound}
 use Rattle.rules.specs.Question.{question}
 use Rattle.paperwhelk.proofs.verdict.paperwhelk_verdict.Goals as goal
-use Rattle.paperwhelk.proofs.verdict.paperwhelk_verdict.Goals.{After-verdict_at, Else-not-is_cycle, Else-not-is_tolerable, Start}
+use Rattle.paperwhelk.proofs.verdict.paperwhelk_verdict.Goals.{Else-not-is_cycle, Else-not-is_tolerable, Start}
 
 -- what is asked about, and what the tests that passed say of it
 abbrev given : Start → Tolerances
@@ -25,9 +24,6 @@ is-valid c = sym c.is_cycle.ensures ∙ c.if-not-is_cycle.false
 
 is-tolerated : (c : Else-not-is_tolerable) → tolerable (given c.before.before.before.before.before.before) ≡ true
 is-tolerated c = sym c.is_tolerable.ensures ∙ c.if-not-is_tolerable.false
-
-small : (c : After-verdict_at) → c.verdict_at.result < 2 ^ 31
-small c = let h : c.verdict_at.result ≤ 2 = rw c.verdict_at.ensures (verdict_most _ _ _ _) in omega arith
 
 pub returns-then-not-is_cycle : goal.returns-then-not-is_cycle
 unfolding question
@@ -64,9 +60,6 @@ pub verdict_at-requires : goal.verdict_at-requires
 verdict_at-requires c =
     (is-valid (goal.at.verdict_at-requires c).Else-not-is_cycle, (tolerated _ (is-tolerated (goal.at.verdict_at-requires c).Else-not-is_tolerable)).time, omega arith)
 
-pub overflow_cast-result : goal.overflow_cast-result
-overflow_cast-result c = record { sfits = small (goal.at.overflow_cast-result c).After-verdict_at }
-
 pub returns : goal.returns
 unfolding question
 returns c =
@@ -74,4 +67,4 @@ returns c =
     (pass _ (is-tolerated (goal.at.returns c).Else-not-is_tolerable)
     (pass _ (omega tests)
     (pass _ (omega tests)
-    (to_z_pos w32 _ (small (goal.at.returns c).After-verdict_at) ∙ ap pos c.verdict_at.ensures))))
+    (read {w = w32} (record { sfits = c.from.type_inv }) ∙ c.from.ensures ∙ ap pos c.verdict_at.ensures))))

@@ -2,17 +2,19 @@
 use Rattle.rules.specs.Text.{recharge_line}
 use Rattle.sheet.proofs.lines.recharge_line.Goals as goal
 
-pub returns-in-Is : goal.returns-in-Is
+pub returns-in-Ok-Some : goal.returns-in-Ok-Some
 unfolding recharge_line
-returns-in-Is c =
-    rw c.in-Is.is c.number_line.ensures
+returns-in-Ok-Some c =
+    let e = rw c.in-Ok-Some.is at c.in-Ok-Some.field-0-is in
+    rw (c.in-Ok-Some.is, e) c.number_line.ensures
 
-pub returns-in-Absent : goal.returns-in-Absent
+pub returns-in-Ok-None : goal.returns-in-Ok-None
 unfolding recharge_line
-returns-in-Absent c =
-    rw c.in-Absent.is c.text_line.ensures
+returns-in-Ok-None c =
+    let e = rw c.in-Ok-None.is at c.in-Ok-None.field-0-is in
+    rw (c.in-Ok-None.is, e) c.text_line.ensures
 
-pub returns-in-Refused : goal.returns-in-Refused
+pub returns-in-Err : goal.returns-in-Err
 unfolding recharge_line
-returns-in-Refused c =
-    rw c.in-Refused.is c.refused_line.ensures
+returns-in-Err c =
+    rw c.in-Err.is c.refused_line.ensures

@@ -5,6 +5,3 @@ use Rattle.sources.proofs.begun.begun_e.Goals as goal
 
 pub overflow_add-result : goal.overflow_add-result
 overflow_add-result c = omega (arith, shortened_length c.requires.1 c.in-Shortened.is)
-
-pub returns-in-Shortened : goal.returns-in-Shortened
-returns-in-Shortened c = rw c.in-Shortened.is

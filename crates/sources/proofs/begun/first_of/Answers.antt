@@ -1,5 +1,4 @@
 -- `sources::begun::first_of` meets its contract: in each arm the method is known.
-use mathlib.Core.Path.{◌∙◌}
 use Prim.Native.Nat.{◌≤◌, ◌*◌}
 use native.Mathlib.Nat.{mul-le-mul}
 use native.Mathlib.Omega.{arith}
@@ -30,6 +29,3 @@ first_around-requires c =
 pub returns-in-Regular : goal.returns-in-Regular
 returns-in-Regular c =
     (rw c.in-Regular.is, omega (arith, few (goal.at.returns-in-Regular c).Start))
-
-pub returns-in-Shortened : goal.returns-in-Shortened
-returns-in-Shortened c = (c.first_around.ensures.0 ∙ rw c.in-Shortened.is, c.first_around.ensures.1)

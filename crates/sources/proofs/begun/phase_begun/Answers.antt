@@ -1,20 +1,7 @@
 -- `sources::begun::phase_begun` meets its contract: the phase is there or not.
-use mathlib.Core.Path.{ap, ◌∙◌}
-use Prim.Native.Nat.{ℕ, ◌+◌, ◌*◌}
 use native.Mathlib.Omega.{arith}
-use borrow.Author.Tests.{lt-ltb, le-ltb}
-use lib.Dec.{ltb}
 use Rattle.laws.proofs.Sound.{sound}
-use Rattle.rules.specs.Cycle.{phases}
 use Rattle.sources.proofs.begun.phase_begun.Goals as goal
 
 pub bounds-cycle-0 : goal.bounds-cycle-0
 bounds-cycle-0 c = omega (arith, sound _ c.requires.0)
-
-pub returns-then-k-wide : goal.returns-then-k-wide
-returns-then-k-wide c = let a = c.args in
-    ap (λ (x : ℕ). ltb (a.first + 20 * x) a.closed) c.start_of.ensures ∙ rw (lt-ltb a.k (phases a.cycle.now) (omega arith))
-
-pub returns : goal.returns
-returns c = let a = c.args in
-    rw (le-ltb a.k (phases a.cycle.now) (omega arith))

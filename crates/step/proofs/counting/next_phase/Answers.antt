@@ -34,8 +34,8 @@ overflow_add-position c = let s = sound _ c.requires.0 in omega arith
 pub end_of-requires : goal.end_of-requires
 end_of-requires c = let s = sound _ c.requires.0 in omega (arith, phase_there (goal.at.end_of-requires c).Start)
 
-pub returns-then-position-end_of : goal.returns-then-position-end_of
-returns-then-position-end_of c =
+pub returns-then-position-from : goal.returns-then-position-from
+returns-then-position-from c =
     let start = c in
     stays start.args.cycle.now (sound _ start.requires.0) start.args.phase start.args.position start.requires.2 start.requires.1 (omega arith)
 

@@ -1,5 +1,4 @@
 -- `step::lending::add_in_cycle` meets its contract: what is done to the nine numbers that are lent on is done to the ledger at their places.
-use borrow.Author.Rules.{rules}
 use Rattle.ledger.proofs.Rows.{nine_length, nine_small, nine_interval}
 use Rattle.step.proofs.lending.add_in_cycle.Goals as goal
 

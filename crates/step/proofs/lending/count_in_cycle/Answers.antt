@@ -1,6 +1,5 @@
 -- `step::lending::count_in_cycle` meets its contract: what is done to the nine numbers that are lent on is done to the ledger at their places.
 use mathlib.Core.Path.{◌∙◌}
-use borrow.Author.Rules.{rules}
 use Rattle.ledger.proofs.Rows.{nine_length, nine_small, nine_over, nine_outside}
 use Rattle.step.proofs.lending.count_in_cycle.Goals as goal
 

@@ -1,5 +1,4 @@
 -- `step::stretches::counted_beside` meets its contract: behind the last sample of M stands the first of cycle 3, behind any other one of the same stretch.
-use mathlib.Core.Logic.{⊎_elim}
 use mathlib.Core.Path.{◌≡◌, sym, ◌∙◌}
 use Prim.Native.Nat.{◌+◌, ◌*◌, ◌<◌}
 use native.Mathlib.Omega.{arith}
@@ -14,7 +13,7 @@ use Rattle.step.proofs.Standing.{row_is}
 use Rattle.step.proofs.Placing.{stays_is, resumes_is}
 use Rattle.step.proofs.Beside.{resumes, stays, third}
 use Rattle.step.proofs.stretches.counted_beside.Goals as goal
-use Rattle.step.proofs.stretches.counted_beside.Goals.{Start, then-g-eq-ROW_M+else-seconds_of-y, else-g-eq-ROW_M}
+use Rattle.step.proofs.stretches.counted_beside.Goals.{Start, else-g-eq-ROW_M-via-then-g-eq-ROW_M+else-seconds_of-y, else-g-eq-ROW_M-via-else-g-eq-ROW_M}
 
 module _ (c : Start) where
   good : Sound c.args.cycle.now
@@ -53,9 +52,9 @@ returns c =
     let y = start.args.y in
     let g = start.args.g in
     -- the last of M does not come so far
-    let not_last : g.row ≡ row_m → g.progress.counted + 1 < joint b y.length 2 = λ e. elim c.if-g-eq-ROW_M.branch as (λ _. g.progress.counted + 1 < joint b y.length 2) [
-      | then-g-eq-ROW_M+else-seconds_of-y w ↦ omega (arith, w.seconds_of.ensures, w.if-seconds_of-y.false)
-      | else-g-eq-ROW_M w ↦ absurd (w.if-g-eq-ROW_M.false e)
+    let not_last : g.row ≡ row_m → g.progress.counted + 1 < joint b y.length 2 = λ e. elim c.else-g-eq-ROW_M.branch as (λ _. g.progress.counted + 1 < joint b y.length 2) [
+      | else-g-eq-ROW_M-via-then-g-eq-ROW_M+else-seconds_of-y w ↦ omega (arith, w.seconds_of.ensures, w.if-seconds_of-y.false)
+      | else-g-eq-ROW_M-via-else-g-eq-ROW_M w ↦ absurd (w.if-g-eq-ROW_M.false e)
     ] in
     c.moved_by.ensures
     ∙ stays_is b (good (goal.at.returns c).Start) start.args.w (with_stretches y) g start.requires.0.stands start.args.x

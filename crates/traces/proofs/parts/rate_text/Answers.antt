@@ -1,5 +1,5 @@
 -- `traces::parts::rate_text` meets its contract.
-use mathlib.Core.Path.{◌≡◌, sym, ap, ◌∙◌, subst}
+use mathlib.Core.Path.{◌≡◌, sym, ap, ◌∙◌}
 use mathlib.Core.Bool.{Bool, true, cond, ◌&&◌}
 use mathlib.Core.List.{List, ◌++◌}
 use Prim.Native.Nat.{ℕ}
@@ -9,7 +9,6 @@ use lib.Signed.{le_z}
 use lib.IntN.{pos}
 use mir.Syntax.{w64}
 use mir.Val.{SFits}
-use Rattle.numbers.specs.Whole.{Sized}
 use Rattle.numbers.proofs.Signed.{read}
 use Rattle.rules.specs.Words.{spell, up}
 use Rattle.rules.specs.declared.Gathered.{Gathered}
@@ -17,8 +16,6 @@ use Rattle.rules.specs.Closing.{rate}
 use Rattle.rules.specs.Text.{digits, spaced, ended, line}
 use Rattle.rules.specs.Trace.{finished_word, rate_text}
 use Rattle.sheet.proofs.Overlaid.{wrote_then, wrote_most, wrote_is}
-use Rattle.traces.specs.Bounds.{most_rated}
-use Rattle.traces.proofs.Rates.{tested}
 use Rattle.traces.proofs.parts.rate_text.Goals as goal
 use Rattle.traces.proofs.parts.rate_text.Goals.{Else-not-has_rate, Start}
 
@@ -44,13 +41,6 @@ returns-then-not-has_rate c =
     let g = test.args.g in
     let none = sym test.has_rate.ensures ∙ test.if-not-has_rate.true in
     wrote_most (wrote_is call.finished_word.ensures (ap (λ (b : Bool). cond b (rated_text g) (ended (finished_word g.finished))) (sym none))) (omega arith)
-
-pub rate_of-q-requires : goal.rate_of-q-requires
-rate_of-q-requires c =
-    let s = c in
-    let x = tested s.args.g.finished s.args.g.energy s.args.g.distance (has (goal.at.rate_of-q-requires c).Else-not-has_rate) in
-    let e = read (energy-fits (goal.at.rate_of-q-requires c).Start) in
-    (ap (le_z (pos 1)) e ∙ x.energy, ap (le_z (pos 1)) (read (distance-fits (goal.at.rate_of-q-requires c).Start)) ∙ x.distance, subst (Sized most_rated) (sym e) s.requires.1)
 
 pub returns : goal.returns
 unfolding rate_text

@@ -1,14 +1,16 @@
 -- `tracing::behind::behind_lines` meets its contract: the whole energy fits, and its natural part is handed on.
-use mathlib.Core.Path.{◌≡◌, ap, ap₂, ◌∙◌}
+use mathlib.Core.Path.{◌≡◌, sym, ap, ap₂, ◌∙◌}
 use Prim.Native.Nat.{ℕ}
 use native.Mathlib.Omega.{arith}
 use borrow.Author.Rules.{rules}
-use lib.IntN.{◌+ℤ◌}
+use lib.IntN.{◌+ℤ◌, nat_abs}
 use mir.Syntax.{w64}
 use mir.Val.{SFits}
-use Rattle.consumption.proofs.Weights.{machine}
+use Rattle.std.specs.Prelude.{Result}
+use Rattle.std.specs.Int.{FitsUnsignedBits}
+use Rattle.std.specs.Result.{OkIff, result_unwrap_or}
+use Rattle.consumption.proofs.Weights.{machine, natural}
 use Rattle.numbers.proofs.Signed.{read}
-use Rattle.numbers.proofs.Whole.{abs_is}
 use Rattle.rules.specs.Words.{up}
 use Rattle.rules.specs.Trace.{sum_text}
 use Rattle.sheet.proofs.Overlaid.{wrote_then, wrote_is}
@@ -30,14 +32,12 @@ outside_fits c = search rules
 whole_is : (c : After-whole_of-whole) → machine c.whole_of-whole.result ≡ c.args.amounts.before +ℤ c.args.f.drawn
 whole_is c = read {w = w64} (record { sfits = c.whole_of-whole.type_inv }) ∙ c.whole_of-whole.ensures ∙ ap₂ ◌+ℤ◌ (read (before_fits c.before.before.before.before.before)) (read (drawn_fits c.before.before.before.before.before))
 
-pub closing_part-requires : goal.closing_part-requires
-closing_part-requires c =
-    let whole = c in
-    let s = whole in
-    let a = s.args in
-    let E = a.amounts.before +ℤ a.f.drawn in
-    let size = c.positive.ensures ∙ ap up (whole_is (goal.at.closing_part-requires c).After-whole_of-whole) in
-    (omega arith, s.requires.1, omega (arith, size, abs_is E, s.requires.2.size), s.requires.3)
+natural_is : {E : Type 0} (c : After-whole_of-whole) (r : Result ℕ E)
+    → OkIff r (FitsUnsignedBits 64 (machine c.whole_of-whole.result)) (nat_abs (machine c.whole_of-whole.result))
+    → result_unwrap_or r 0 ≡ up (c.args.amounts.before +ℤ c.args.f.drawn)
+natural_is c r h =
+    let fits : SFits w64 c.whole_of-whole.result = record { sfits = c.whole_of-whole.type_inv } in
+    natural r fits (read fits) h ∙ ap up (sym (read fits) ∙ whole_is c)
 
 pub returns : goal.returns
 returns c =
@@ -47,7 +47,7 @@ returns c =
     let whole = sums in
     let s = whole in
     let a = s.args in
-    let size_is = size.positive.ensures ∙ ap up (whole_is (goal.at.returns c).After-whole_of-whole) in
+    let size_is = c.unwrap_or.ensures ∙ natural_is (goal.at.returns c).After-whole_of-whole c.try_from.result c.try_from.ensures in
     let outside = read (outside_fits (goal.at.returns c).Start) in
     let drawn = read (drawn_fits (goal.at.returns c).Start) in
     wrote_then

@@ -6,8 +6,5 @@ use Rattle.tracing.proofs.offering.stop_line.Goals as goal
 pub returns-in-None : goal.returns-in-None
 returns-in-None c = rw c.in-None.is (wrote_most (nothing _ _) (omega arith))
 
-pub returns-in-Stop : goal.returns-in-Stop
-returns-in-Stop c = let call = c in rw call.in-Stop.is call.stop_text.ensures
-
 pub returns-in-Limit : goal.returns-in-Limit
 returns-in-Limit c = rw c.in-Limit.is (wrote_most (nothing _ _) (omega arith))

@@ -1,9 +1,7 @@
 -- `tracing::parts::phase_lines` meets its contract.
-use mathlib.Core.Path.{◌≡◌, refl, ap}
+use mathlib.Core.Path.{refl, ap}
 use native.Mathlib.Omega.{arith}
 use borrow.Author.Rules.{rules}
-use Rattle.rules.specs.Bench.{most_phases}
-use Rattle.rules.specs.Listing.{in_turn}
 use Rattle.rules.specs.Trace.{phase_line}
 use Rattle.sheet.proofs.Overlaid.{wrote_most, wrote_is}
 use Rattle.listing.proofs.Texts.{none_in_turn, more_in_turn}
@@ -13,16 +11,7 @@ use Rattle.tracing.proofs.parts.phase_lines.Goals as goal
 pub loop-k-init : goal.loop-k-init
 loop-k-init c =
     let a = c.args in
-    (omega arith, refl, none_in_turn (phase_at a.run a.cycle.now a.ledger.now a.c) a.out.now a.at)
-
-pub phase_line-next-requires : goal.phase_line-next-requires
-phase_line-next-requires c = let at = c in let w = at.loop-k.invariant.2 in omega (arith, w.most, w.place)
-
-pub overflow_add-k : goal.overflow_add-k
-overflow_add-k c = omega arith
-
-pub loop-k-smaller : goal.loop-k-smaller
-loop-k-smaller c = omega arith
+    (refl, none_in_turn (phase_at a.run a.cycle.now a.ledger.now a.c) a.out.now a.at)
 
 pub loop-k-preserved : goal.loop-k-preserved
 loop-k-preserved c =
@@ -31,14 +20,4 @@ loop-k-preserved c =
     let at = part in
     let a = at.args in
     let text = ap (phase_line a.c at.loop-k.k) part.phase_on-g.ensures in
-    (omega arith, search rules, wrote_most (more_in_turn (phase_at a.run a.cycle.now a.ledger.now a.c) at.loop-k.k at.loop-k.invariant.2 (wrote_is call.phase_line-next.ensures text) (omega arith)) (omega arith))
-
-pub shape_of-out : goal.shape_of-out
-shape_of-out c = c.loop-k.invariant.1
-
-pub returns : goal.returns
-returns c =
-    let at = c in
-    let a = at.args in
-    let done : at.loop-k.k ≡ most_phases = omega arith in
-    wrote_most (wrote_is at.loop-k.invariant.2 (ap (in_turn (phase_at a.run a.cycle.now a.ledger.now a.c)) done)) (omega arith)
+    (search rules, wrote_most (more_in_turn (phase_at a.run a.cycle.now a.ledger.now a.c) at.loop-k.k at.loop-k.invariant.1 (wrote_is call.phase_line-next.ensures text) (omega arith)) (omega arith))

@@ -1,15 +1,11 @@
 -- `tracing::parts::phase_lines` meets its contract.
 use mathlib.Core.Path.{◌≡◌}
-use Prim.Native.Nat.{◌-◌, ◌*◌, ◌≤◌}
+use Prim.Native.Nat.{◌*◌}
 use lib.ListN.{length}
-use Rattle.rules.specs.Bench.{most_phases}
 use Rattle.rules.specs.Listing.{in_turn}
 use Rattle.sheet.specs.Overlaid.{Wrote}
 use Rattle.tracing.specs.Traced.{phase_at}
 use Rattle.tracing.proofs.parts.phase_lines.Given as goal
 
 abbrev pub invariant-loop-k : goal.invariant-loop-k
-invariant-loop-k l = (l.k ≤ most_phases) × (length l.out ≡ length l.initial.out) × Wrote (117 * l.k) l.initial.out l.at (in_turn (phase_at l.run l.cycle l.ledger l.c) l.k) l.out l.next
-
-abbrev pub decreases-loop-k : goal.decreases-loop-k
-decreases-loop-k l = most_phases - l.k
+invariant-loop-k l = (length l.out ≡ length l.initial.out) × Wrote (117 * l.k) l.initial.out l.at (in_turn (phase_at l.run l.cycle l.ledger l.c) l.k) l.out l.next

@@ -1,5 +1,0 @@
--- `cycle::point_of` meets its contract: `wide` ensures that the phase count is the first byte.
-use Rattle.cycle.proofs.point_of.Goals as goal
-
-pub returns : goal.returns
-returns c = cc

@@ -1,2 +1,0 @@
--- Laws of the system's answers.
-pub mod Meanings
