@@ -5,7 +5,7 @@ ghost use Rattle.std.specs.Prelude.{◌≡◌, true, ◌+◌, ◌-◌, ◌*◌, 
 ghost use Rattle.rules.specs.Words.{all_below};
 ghost use Rattle.rules.specs.Cycle.{phases, phase_end, phase_start, seconds, point, rises, is_speed, valid, positions, phase_at};
 
-use numbers::read16;
+use numbers::{read16, wide};
 use rules::limits::{LEAST_BYTES, LEAST_SECONDS, MOST_PHASES, MOST_SECONDS, MOST_SPEED};
 
 // The limits of seconds, as wide as lengths are.
@@ -26,7 +26,7 @@ pub fn point_of(cycle: &[u8], k: usize) -> u16
     requires { 2 + 2 * phases cycle.now + 2 * k < length cycle.now }
     ensures { result ≡ point cycle.now k }
 {
-    read16(cycle, 1 + 2 * usize::from(cycle[0]) + 2 * k)
+    read16(cycle, 1 + 2 * wide(cycle[0]) + 2 * k)
 }
 
 // T.
@@ -34,7 +34,7 @@ pub fn seconds_of(cycle: &[u8]) -> u32
     requires { (1 ≤ phases cycle.now) × (2 * phases cycle.now < length cycle.now) }
     ensures { result ≡ seconds cycle.now }
 {
-    u32::from(end_of(cycle, usize::from(cycle[0]) - 1))
+    u32::from(end_of(cycle, wide(cycle[0]) - 1))
 }
 
 // The second at which phase k starts.
@@ -67,7 +67,7 @@ pub fn is_cycle(cycle: &[u8]) -> bool
     if cycle.len() < LEAST_BYTES {
         return false;
     }
-    let p = usize::from(cycle[0]);
+    let p = wide(cycle[0]);
     if p < 1 || MOST_PHASES < p {
         return false;
     }
@@ -84,7 +84,7 @@ pub fn phase_of(cycle: &[u8], p: u32) -> usize
     requires { (valid cycle.now ≡ true) × (p < positions cycle.now) }
     ensures { result ≡ phase_at cycle.now p }
 {
-    let phases = usize::from(cycle[0]);
+    let phases = wide(cycle[0]);
     for k in 0..phases {
         if p < 20 * u32::from(end_of(cycle, k)) {
             return k;

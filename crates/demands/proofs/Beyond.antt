@@ -1,7 +1,7 @@
 -- "what lies beyond is never touched": of every single call, on any state and memory.
 -- Assumes nothing.
 use Rattle.rules.specs.declared.Refusal.{Refusal}
-use Rattle.std.specs.Prelude.{Result, Ok, Err}
+use Rattle.std.specs.Prelude.{Result}
 use mathlib.Core.Bool.{Bool, true, false, cond}
 use mathlib.Core.List.{List}
 use mathlib.Core.Path.{◌≡◌, refl, subst⁻¹, ◌∙◌}

@@ -24,7 +24,7 @@ use Rattle.judge.proofs.Runs as runs
 use Rattle.rules.specs.Closing.{ClosingAnswer, Figure}
 use Rattle.closing.specs.Answers.{whole, refusal_of}
 use Rattle.reading.specs.declared.Reading.{Reading}
-use Rattle.reading.specs.Answers.{step_said, is_reading, read_ground}
+use Rattle.reading.specs.Answers.{is_reading, read_ground}
 use Rattle.demands.specs.Calls.{SampleCall, BlockCall, ClosingCall}
 use Rattle.demands.specs.Demand2.{NeverRefused}
 use Rattle.demands.specs.Runs.{On, SampleOn, BlockOn, ClosingOn, Driven, closing_amounts}

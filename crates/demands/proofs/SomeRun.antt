@@ -1,7 +1,6 @@
 -- Demand 2 speaks of something: by calls that keep the contracts there is a run of every list of samples within their limits, 4,000,000 at most.
 -- Assumes nothing.
-use Rattle.rules.specs.declared.Refusal.{Refusal}
-use Rattle.std.specs.Prelude.{Result, Ok, Err}
+use Rattle.std.specs.Prelude.{Ok}
 use mathlib.Core.Bool.{true}
 use mathlib.Core.List.{List, [], ◌∷◌, ◌++◌, append-nil, append_assoc}
 use mathlib.Core.Path.{◌≡◌, refl, sym, subst, ◌∙◌}

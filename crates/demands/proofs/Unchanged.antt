@@ -3,7 +3,7 @@
 use Rattle.std.specs.Prelude.{Result, Ok, Err}
 use mathlib.Core.Bool.{Bool, true, false}
 use mathlib.Core.List.{List}
-use mathlib.Core.Path.{◌≡◌, sym, ap, subst, ◌∙◌}
+use mathlib.Core.Path.{◌≡◌, refl, sym, ap, subst, ◌∙◌}
 use Prim.Native.Nat.{ℕ, ◌+◌, ◌<◌}
 use native.Mathlib.Nat.{zero-add}
 use borrow.Author.Tests.{lt-leb}
@@ -13,11 +13,12 @@ use lib.Seq.{drop-append_seam}
 use Rattle.rules.specs.declared.Figures.{Figures}
 use Rattle.rules.specs.declared.Refusal.{Refusal}
 use Rattle.laws.specs.Answers.{answer_said, number_of}
+use Rattle.laws.proofs.Answers.{number_said}
 use Rattle.rules.specs.Words.{unless}
 use Rattle.rules.specs.Record.{sheet_of}
 use Rattle.rules.specs.Text.{printed}
 use Rattle.state.specs.State.{Left}
-use Rattle.numbers.proofs.Tests.{stop, settled_refused}
+use Rattle.numbers.proofs.Tests.{stop}
 use Rattle.judge.proofs.Promises as judge
 use Rattle.opening.specs.declared.OpenStep.TheVariants as opening
 use Rattle.reading.specs.declared.Step.TheVariants as step
@@ -95,7 +96,9 @@ refused_changes_nothing = record {
       let fed = d.kept ∙ (λ j. feed_of (laid_of (s.state j) (s.bytes j) (s.ledger j) (s.map j)) (input j)) in
       let end = ap (λ (y : Consumed). y.laid) fed ∙ desk.feed_alone (laid_of x r.now l.now m.now) i.now ∙ sym (ap (λ (y : Consumed). y.laid) p) in
       (ap (λ (y : Laid). y.desk) end, λ j. (tt, (tt, ((end j).room, ((end j).memory.ledger, ((end j).memory.map, tt))))));
-  figures_of_refused_has_no_figure = λ c h x e. h (ap (λ (y : Result Figures Refusal). number_of (answer_said y)) e);
+  figures_of_refused_has_no_figure = λ c h x e.
+      let number_is = ap number_of c.kept ∙ number_said _ _ refl in
+      h (sym number_is ∙ ap (λ (y : Result Figures Refusal). number_of (answer_said y)) e);
 }
 
 -- ---- lines

@@ -9,14 +9,13 @@ use native.Mathlib.Omega.{arith}
 use lib.ListN.{get_or, replicate}
 use Rattle.laws.specs.Answers.{refuses, answer_said}
 use Rattle.laws.proofs.Answers.{given_refused}
+use denote.Param.Laws.{Laws}
+use denote.RattleType.{RattleType}
 use Rattle.opening.specs.declared.Opening.{Opening}
 use Rattle.opening.specs.declared.OpenStep.TheVariants as step
-use Rattle.rules.specs.Numbered.{number}
-use Rattle.rules.specs.declared.Refusal.{Refusal}
-use Rattle.opening.specs.declared.OpenAnswer.{OpenAnswer}
-use Rattle.opening.specs.Answers.{open_step_said, OpenSaid, open_said}
-use Rattle.opening.specs.Begin.{refused_at}
+use Rattle.opening.specs.Answers.{open_step_said_by, OpenSaid}
 use Rattle.opening.specs.contracts as opening_contracts
+use Rattle.opening.proofs.refused_at
 use Rattle.opening.proofs.characters_of
 use Rattle.reading.specs.declared.Reading.{Reading}
 use Rattle.reader.proofs.Endings.{only_whole}
@@ -26,13 +25,16 @@ use Rattle.reader.proofs.reading_of
 use Rattle.reader.proofs.ended
 use Rattle.demands.specs.Calls.{Call}
 
--- a refusal of the number n, where the answer is another's, or no refusal at all
-module _ (o : Opening) (n : ℕ) (a : OpenAnswer) (kept : open_said a ≡ refused_at o n) where
-  pub refused_another_number_breaks : (e : Refusal) → (number e ≡ n → ⊥) → a.step ≡ Err e → ⊥
-  refused_another_number_breaks e h is = let z : refuses (number e) ≡ refuses n = sym (ap open_step_said is) ∙ ap (λ (x : OpenSaid). x.says) kept in h cc
+-- a refusal that is another's, by any number that says it, or no refusal at all
+module _ (R : RattleType) (L : Laws R) (c : Call (opening_contracts.refused_at.ended R) (refused_at.Reads.Learnt R L)) where
+  pub refused_another_number_breaks : (said : R.Denot → ℕ) (e : R.Denot) → (said e ≡ said c.args.1.0 → ⊥) → c.answer.step ≡ Err e → ⊥
+  refused_another_number_breaks said e h is =
+      let z : refuses (said e) ≡ refuses (said c.args.1.0) = sym (ap (open_step_said_by said) is) ∙ ap (λ (x : OpenSaid). x.says) (c.kept.1 said) in h cc
 
-  pub refused_as_incomplete_breaks : a.step ≡ Ok step.Incomplete → ⊥
-  refused_as_incomplete_breaks e = given_refused (sym (ap open_step_said e) ∙ ap (λ (x : OpenSaid). x.says) kept)
+  pub refused_as_incomplete_breaks : c.answer.step ≡ Ok step.Incomplete → ⊥
+  refused_as_incomplete_breaks e =
+      let said : R.Denot → ℕ = λ _. 0 in
+      given_refused (sym (ap (open_step_said_by said) e) ∙ ap (λ (x : OpenSaid). x.says) (c.kept.1 said))
 
 -- an opening whose vehicle is seventeen bytes of 0, or that has a cycle already
 module _ (c : Call reader_contracts.blank.ended blank.Reads.Learnt) where

@@ -9,7 +9,7 @@ use Rattle.rules.specs.Table.{tags}
 use Rattle.rules.specs.Front.{front_of}
 use Rattle.rules.specs.Question.{minus}
 use Rattle.rules.specs.Text.{printed}
-use Rattle.laws.specs.Answers.{number_of, figure_said, closing_said, answer_said, refuses}
+use Rattle.laws.specs.Answers.{number_of, figure_said, closing_said, answer_said}
 use Rattle.state.specs.State.{run_ground}
 use Rattle.state.specs.Refusals.{start_refusal, sample_refusal}
 use Rattle.blocks.specs.Blocks.{block_refusal}
@@ -180,8 +180,9 @@ pub record RefusedChangesNothing : Type 0 where
   pub feed_none_accepted_changes_nothing : (c : FeedCall) → c.answer.used ≡ 0 → FeedStayed c
   pub feed_refused_leaves_no_trace : (c d : FeedCall) → Shorter c.answer.used (feed_given c) (feed_given d)
       → (d.answer.desk ≡ c.answer.desk) × (d.lasts ≡ c.lasts)
-  -- "no figure"
-  pub figures_of_refused_has_no_figure : (c : FiguresCall) → (number_of (answer_said c.answer) ≡ 0 → ⊥) → (x : Figures) → c.answer ≡ Ok x → ⊥
+  -- "no figure": where the number is not 0
+  pub figures_of_refused_has_no_figure : (c : FiguresCall) → (let (r, (b, (l, (m, _)))) = c.args in (read_ground r b.now l.now m.now ≡ 0 → ⊥))
+      → (x : Figures) → c.answer ≡ Ok x → ⊥
 
 -- ---- "every other lent buffer": lines shorter than 512 bytes stay as they were, and the result is 0; what lies beyond the text is never touched
 

@@ -25,7 +25,7 @@ use Rattle.desk.proofs.Opens.{Onward, View, stays, goes, view_of}
 pub opens_by : (d : Desk) (o : Opening) {s s' : Result OpenStep Refusal} {r : FedSaid} → s ≡ s' → r ≡ opens_as d (open_step_said s') o → r ≡ opens_as d (open_step_said s) o
 opens_by d o e h = h ∙ ap (λ (z : Result OpenStep Refusal). opens_as d (open_step_said z) o) (sym e)
 
-pub one_left : (x : Laid) (i : List ℕ) (a : OpenAnswer) {room : List ℕ} {l : List ℤ} {m : List ℕ} {r : FedSaid}
+pub one_left : (x : Laid) (i : List ℕ) (a : OpenAnswer Refusal) {room : List ℕ} {l : List ℤ} {m : List ℕ} {r : FedSaid}
     → open_left a room l m ≡ front_opened x.desk.opening x.room x.memory.ledger x.memory.map i → r ≡ opens_as x.desk (open_step_said a.step) a.opening
     → fed_on r room l m ≡ open_one x i
 one_left x i a {room = room} {l = l} {m = m} e h = (λ j. fed_on (h j) room l m) ∙ ap (opens_to x) e

@@ -21,7 +21,7 @@ pub fn stopped(desk: Desk, outcome: Result<(), Refusal>) -> Fed
 }
 
 // The answer to a field until the start.
-fn opened(desk: Desk, answer: OpenAnswer) -> Fed
+fn opened(desk: Desk, answer: OpenAnswer<Refusal>) -> Fed
     requires { desk.fields ≤ most_fields + 4 }
     ensures { fed_said result ≡ opens_as desk (open_step_said answer.step) answer.opening }
 {

@@ -4,7 +4,7 @@
 ghost use Rattle.std.specs.Prelude.{false, IfErr, OnOk, ◌≡◌, ◌≤◌, length};
 ghost use Rattle.edges.specs.Answers.{meant, is_again, Within};
 
-use std::io::{Error, ErrorKind, Read, Write};
+use std::io::{Cursor, Error, ErrorKind, Read, Write};
 use std::os::fd::AsRawFd;
 use std::{fmt, io};
 
@@ -14,6 +14,11 @@ const STDIN_FILENO: i32 = 0;
 const STDOUT_FILENO: i32 = 1;
 
 const STDERR_FILENO: i32 = 2;
+
+// How long a fault's line is lent, and how many digits a number has at most.
+const MOST_FAULT: usize = 80;
+
+const MOST_DIGITS: usize = 20;
 
 // Why a program ends before its work is done: the input could not be read, or the system took no more of the output.
 #[derive(Clone, Copy, Debug, PartialEq, Eq)]
@@ -65,12 +70,10 @@ fn read_once(rt: HostRuntime, part: &mut [u8]) -> io::Result<usize>
     from.read(part)
 }
 
-// One call that writes to standard output.
-fn write_once(rt: HostRuntime, text: &[u8]) -> io::Result<usize>
+// One call that writes.
+fn write_once<W: Write>(to: &mut W, text: &[u8]) -> io::Result<usize>
     ensures { Within (length text.now) result }
 {
-    let mut to = rt.stdout();
-    prove!(to.as_raw_fd() == STDOUT_FILENO);
     to.write(text)
 }
 
@@ -90,31 +93,37 @@ pub fn fill(rt: HostRuntime, part: &mut [u8]) -> io::Result<usize>
 
 // Reads from standard input until the part is full; false where the input ends before, or reading fails.
 pub fn fill_whole(rt: HostRuntime, part: &mut [u8]) -> bool {
-    let mut input = rt.stdin();
-    prove!(input.as_raw_fd() == STDIN_FILENO);
-    input.read_exact(part).is_ok()
+    let mut from = 0;
+    // Stays: no index is counted; how far a turn leads the system says.
+    while from < part.len() {
+        match fill(rt, &mut part[from..]) {
+            Ok(n) if n > 0 => from += n,
+            _ => return false,
+        }
+    }
+    true
 }
 
-// Writes from the front of the text to standard output.
-fn put_some(rt: HostRuntime, text: &[u8]) -> io::Result<usize>
+// Writes from the front of the text.
+fn put_some<W: Write>(to: &mut W, text: &[u8]) -> io::Result<usize>
     ensures { Within (length text.now) result }
 {
     for _ in 0..u64::MAX {
-        if let Some(got) = meaning(write_once(rt, text)) {
+        if let Some(got) = meaning(write_once(to, text)) {
             return got;
         }
     }
     Err(unanswered())
 }
 
-// Writes the text to standard output: how many of its bytes the system took, all of them or those before it took no more.
-fn put(rt: HostRuntime, text: &[u8]) -> usize
+// Writes the text: how many of its bytes the system took, all of them or those before it took no more.
+fn put<W: Write>(to: &mut W, text: &[u8]) -> usize
     ensures { result ≤ length text.now }
 {
     let mut rest = text;
     // Stays: no index is counted; how far a turn leads the system says.
     while !rest.is_empty() {
-        match put_some(rt, rest) {
+        match put_some(to, rest) {
             Ok(n) if n > 0 => rest = &rest[n..],
             _ => return text.len() - rest.len(),
         }
@@ -122,16 +131,25 @@ fn put(rt: HostRuntime, text: &[u8]) -> usize
     text.len()
 }
 
+// The text goes to standard output: how many of its bytes did.
+fn put_out(rt: HostRuntime, text: &[u8]) -> usize
+    ensures { result ≤ length text.now }
+{
+    let mut to = rt.stdout();
+    prove!(to.as_raw_fd() == STDOUT_FILENO);
+    put(&mut to, text)
+}
+
 // The text goes to standard output: whether all of it did.
 pub fn say(rt: HostRuntime, text: &[u8]) -> bool {
-    put(rt, text) == text.len()
+    put_out(rt, text) == text.len()
 }
 
 // The first bytes of the lines, so many of them, go to standard output: how many did; none where there are not so many.
 pub fn send(rt: HostRuntime, lines: &[u8], n: usize) -> usize
     ensures { (result ≤ n) × (result ≤ length lines.now) }
 {
-    lines.get(..n).map_or(0, |text| put(rt, text))
+    lines.get(..n).map_or(0, |text| put_out(rt, text))
 }
 
 // The same: a fault where not all did.
@@ -149,19 +167,31 @@ pub fn print(rt: HostRuntime, lines: &[u8], n: usize) -> Result<(), Fault>
 pub fn tell(rt: HostRuntime, text: &[u8]) -> bool {
     let mut err = rt.stderr();
     prove!(err.as_raw_fd() == STDERR_FILENO);
-    err.write_all(text).is_ok()
+    put(&mut err, text) == text.len()
 }
 
-// What went wrong goes to standard error, behind the program's name: whether all of it did.
+// What was written to the front of a line.
+fn written<const N: usize>(line: &Cursor<[u8; N]>) -> &[u8] {
+    line.get_ref()
+        .get(..line.position() as usize)
+        .unwrap_or(&[])
+}
+
+// What went wrong goes to standard error, behind the program's name: whether all of it did. It is one text, so that the lines of programs that share standard
+// error stay whole; where the name is too long for that, it goes in parts.
 pub fn tell_fault(rt: HostRuntime, program: &str, fault: Fault) -> bool {
     let mut log = rt.stderr();
     prove!(log.as_raw_fd() == STDERR_FILENO);
-    writeln!(log, "{program}: {fault}").is_ok()
+    let mut line = Cursor::new([0u8; MOST_FAULT]);
+    if writeln!(line, "{program}: {fault}").is_err() {
+        return writeln!(log, "{program}: {fault}").is_ok();
+    }
+    let text = written(&line);
+    put(&mut log, text) == text.len()
 }
 
 // A number goes to standard output, by its digits: whether all of them did.
 pub fn say_number(rt: HostRuntime, n: u64) -> bool {
-    let mut out = rt.stdout();
-    prove!(out.as_raw_fd() == STDOUT_FILENO);
-    write!(out, "{n}").is_ok()
+    let mut digits = Cursor::new([0u8; MOST_DIGITS]);
+    write!(digits, "{n}").is_ok() && say(rt, written(&digits))
 }

@@ -1,6 +1,6 @@
 -- The figures that the report prints, read off a reading and its ledger.
 -- Assumes nothing.
-use Rattle.std.specs.Prelude.{true, List, ◌≡◌, ℕ, ℤ, pos, ◌+ℤ◌}
+use Rattle.std.specs.Prelude.{true, List, ◌≡◌, ℕ, ℤ, ◌+ℤ◌}
 use Rattle.laws.specs.Answers.{Said, gives, or_refused}
 use Rattle.rules.specs.declared.Figures.{Figures}
 use Rattle.rules.specs.Closing.{least_finished}

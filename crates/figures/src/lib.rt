@@ -36,6 +36,9 @@ pub fn figures_of(
 ) -> Result<Figures, Refusal>
     ensures { answer_said result ≡ found_of reading cycle.now ledger.now map.now }
 {
-    read_refusal(reading, cycle, ledger, map)?;
+    // Stays: no `?`, so that a wrong program can let a refusal by here, or give figures with it, and be refused for that alone.
+    if let Err(refusal) = read_refusal(reading, cycle, ledger, map) {
+        return Err(refusal);
+    }
     Ok(figures_on(reading, ledger))
 }

@@ -35,7 +35,8 @@ is_failed (Refused k) = false
 
 -- a reading that gave no bytes: only the end of the input ends a record, all else is a fault
 abbrev pub stopped_by : Result ℕ Error → Turned
-stopped_by (Ok k) = Ended
+stopped_by (Ok zero) = Ended
+stopped_by (Ok (suc k)) = Failed
 stopped_by (Err e) = Failed
 
 -- with so many bytes held and n left to read before, in a buffer of so many: what is taken and held stands in the buffer, and no byte is lost; and where

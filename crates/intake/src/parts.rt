@@ -69,7 +69,8 @@ fn stopped_by(got: io::Result<usize>) -> Turned
     ensures { result ≡ stopped_by got }
 {
     match got {
-        Ok(_) => Turned::Ended,
+        Ok(0) => Turned::Ended,
+        Ok(_) => Turned::Failed,
         Err(_) => Turned::Failed,
     }
 }

@@ -4,6 +4,7 @@ ghost use Rattle.rules.specs.Listing.{in_turn, phases_in, end_of_phase, cycle_li
 ghost use Rattle.sheet.specs.Overlaid.{Wrote};
 
 use cycle::end_of;
+use numbers::wide;
 use rules::Tolerances;
 use rules::limits::MOST_PHASES;
 use sheet::text::{put_number, put_text};
@@ -13,7 +14,7 @@ fn phases_in(cycle: &[u8]) -> usize
     requires { 9 ≤ length cycle.now }
     ensures { (result ≡ phases_in cycle.now) × (result ≤ 4) }
 {
-    usize::from(cycle[0]).min(MOST_PHASES)
+    wide(cycle[0]).min(MOST_PHASES)
 }
 
 // The byte behind the end of phase k of n: a newline behind the last.

@@ -49,7 +49,7 @@ pub fn read16(b: &[u8], i: usize) -> u16
     requires { i + 1 < length b.now }
     ensures { result ≡ be 2 b.now i }
 {
-    u16::from_be_bytes([b[i], b[i + 1]])
+    pair(b[i], b[i + 1])
 }
 
 // The four-byte number at place i.

@@ -11,14 +11,13 @@ use lib.ListN.{length}
 use Rattle.rules.specs.Words.{all_below, every}
 use Rattle.numbers.proofs.Tests.{pass, both, not_refused}
 use Rattle.rules.specs.Cycle.{most_bytes}
-use Rattle.rules.specs.Table.{number, cycle, begins, by_row, length_allowed, among, behind_tolerances, behind_stretches, behind_after, block_places, tags, run1}
+use Rattle.rules.specs.Table.{begins, by_row, length_allowed, among, behind_tolerances, behind_stretches, behind_after, block_places, tags, run1}
 use Rattle.laws.specs.Beside.{may_stand}
 use Rattle.rules.specs.Values.{is_number}
 use Rattle.laws.specs.Answers.{Said, gives, refuses}
 use Rattle.laws.proofs.Answers.{known_by, refusal_of, of_number}
 use Rattle.laws.proofs.Places.{every_among}
 use Rattle.laws.proofs.Tags.{by_tag, no_length}
-use Rattle.state.specs.State.{lent}
 use Rattle.opening.specs.declared.Opening.{Opening}
 use Rattle.opening.specs.declared.OpenAnswer.{OpenAnswer}
 use Rattle.opening.specs.declared.OpenStep.{OpenStep}
@@ -44,7 +43,7 @@ same_step = known_by open_step_said back known
     known (Ok Incomplete) = refl
     known (Err e) = ap Err (of_number e)
 
-pub same_opened : (x y : OpenAnswer) → open_said x ≡ open_said y → x ≡ y
+pub same_opened : (x y : OpenAnswer Refusal) → open_said x ≡ open_said y → x ≡ y
 same_opened x y e =
     let step_is = same_step x.step y.step (ap (λ (z : OpenSaid). z.says) e) in
     let opening-is = ap (λ (z : OpenSaid). z.opening) e in

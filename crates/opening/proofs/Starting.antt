@@ -17,7 +17,7 @@ use Rattle.rules.specs.declared.Method.TheVariants.{Regular as by_cycles}
 use Rattle.rules.specs.Bench.{tolerable}
 use Rattle.rules.specs.Cycle.{valid}
 use Rattle.rules.specs.Shown.{ledger_numbers, map_words}
-use Rattle.rules.specs.Table.{cycle, tolerances, begins, by_row, length_allowed, place_after, tags}
+use Rattle.rules.specs.Table.{tolerances, begins, by_row, length_allowed, place_after, tags}
 use Rattle.rules.specs.Front.{Field, Front as Stands, front_of}
 use Rattle.rules.specs.Machine.{to_field, reply_as, reply_at}
 use Rattle.rules.specs.Values.{is_number, tolerances_in}

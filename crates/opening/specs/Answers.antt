@@ -55,20 +55,26 @@ pub data Opened : Type 0 where
   starts : ℕ → Run → Opened
   unfinished : Opened
 
--- what the cases say
+-- what the cases say, of a refusal by what its reason says
+abbrev pub open_step_said_by : {R : Type 0} → (R → ℕ) → Result OpenStep R → Said Opened
+open_step_said_by said (Ok (Taken n)) = gives (opens n)
+open_step_said_by said (Ok (Started n r)) = gives (starts n r)
+open_step_said_by said (Ok Incomplete) = gives unfinished
+open_step_said_by said (Err e) = refuses (said e)
+
 abbrev pub open_step_said : Result OpenStep Refusal → Said Opened
-open_step_said (Ok (Taken n)) = gives (opens n)
-open_step_said (Ok (Started n r)) = gives (starts n r)
-open_step_said (Ok Incomplete) = gives unfinished
-open_step_said (Err e) = refuses (number e)
+open_step_said = open_step_said_by number
 
 -- with the opening that is left
 pub record OpenSaid : Type 0 where
   pub says : Said Opened
   pub opening : Opening
 
-abbrev pub open_said : OpenAnswer → OpenSaid
-open_said a = record { says = open_step_said a.step; opening = a.opening }
+abbrev pub open_said_by : {R : Type 0} → (R → ℕ) → OpenAnswer R → OpenSaid
+open_said_by said a = record { says = open_step_said_by said a.step; opening = a.opening }
+
+abbrev pub open_said : OpenAnswer Refusal → OpenSaid
+open_said = open_said_by number
 
 -- ---- the answer
 
@@ -86,7 +92,7 @@ pub record OpenLeft : Type 0 where
   pub room : List ℕ
   pub memory : Memory
 
-abbrev pub open_left : OpenAnswer → List ℕ → List ℤ → List ℕ → OpenLeft
+abbrev pub open_left : OpenAnswer Refusal → List ℕ → List ℤ → List ℕ → OpenLeft
 open_left a room l m = record { answer = open_said a; room = room; memory = lent l m }
 
 abbrev pub not_opened : Opening → List ℕ → Stage → Said Opened → OpenLeft

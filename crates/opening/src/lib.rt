@@ -1,16 +1,15 @@
 // The first four fields: mark, vehicle number, cycle and tolerances.
 #![tactic(auto)]
 
-ghost use Rattle.std.specs.Prelude.{◌≡◌, true, ◌+◌, ◌≤◌, length};
+ghost use Rattle.std.specs.Prelude.{Err, ℕ, ◌≡◌, true, ◌+◌, ◌≤◌, length};
 ghost use Rattle.rules.specs.Words.{unless};
 ghost use Rattle.rules.specs.Cycle.{valid};
-ghost use Rattle.rules.specs.Numbered.{number};
 ghost use Rattle.laws.specs.Answers.{refused_by};
 ghost use Rattle.state.specs.State.{left};
 ghost use Rattle.rules.specs.Table.{length_allowed, tags};
 ghost use Rattle.rules.specs.Values.{tolerances_in};
 ghost use Rattle.records.specs.Stage.{written};
-ghost use Rattle.opening.specs.Answers.{is_opening, open_ground, open_said, open_left, field_opened};
+ghost use Rattle.opening.specs.Answers.{is_opening, open_ground, open_said, open_said_by, open_left, field_opened};
 ghost use Rattle.opening.specs.Begin.{refused_at, number_answer, cycle_answer, start_opened};
 
 use cycle::is_cycle;
@@ -37,10 +36,10 @@ pub enum OpenStep {
     Incomplete,
 }
 
-// A refused field leaves the opening as it was.
+// A refused field leaves the opening as it was; R is what says why it is refused.
 #[derive(Clone, Copy)]
-pub struct OpenAnswer {
-    pub step: Result<OpenStep, Refusal>,
+pub struct OpenAnswer<R> {
+    pub step: Result<OpenStep, R>,
     pub opening: Opening,
 }
 
@@ -94,9 +93,10 @@ pub fn open_refusal(o: Opening, room: &[u8]) -> Result<(), Refusal>
     Ok(())
 }
 
-// A refused field leaves the opening as it was.
-fn refused_at(o: Opening, refusal: Refusal) -> OpenAnswer
-    ensures { open_said result ≡ refused_at o (number refusal) }
+// A refused field leaves the opening as it was, whatever says why: a `Refusal`, or any number.
+pub fn refused_at<R>(o: Opening, refusal: R) -> OpenAnswer<R>
+    ensures value { result ≡ record { step = Err refusal; opening = o } }
+    ensures said { (said : R → ℕ) → open_said_by said result ≡ refused_at o (said refusal) }
 {
     OpenAnswer {
         step: Err(refusal),
@@ -116,7 +116,7 @@ fn with_field(o: Opening) -> Opening
 }
 
 // The vehicle number, in a field of n bytes.
-fn open_number(o: Opening, v: &[u8], n: usize) -> OpenAnswer
+fn open_number(o: Opening, v: &[u8], n: usize) -> OpenAnswer<Refusal>
     requires { (o.fields ≤ 3) × (length v.now ≡ 17) }
     ensures { open_said result ≡ number_answer o v.now n }
 {
@@ -134,7 +134,7 @@ fn open_number(o: Opening, v: &[u8], n: usize) -> OpenAnswer
 }
 
 // The cycle, in a field of n bytes.
-fn open_cycle(o: Opening, room: &mut [u8], v: &[u8], n: usize) -> OpenAnswer
+fn open_cycle(o: Opening, room: &mut [u8], v: &[u8], n: usize) -> OpenAnswer<Refusal>
     requires { (o.fields ≤ 3) × (length v.now ≤ length room.old) }
     ensures result_value { open_said result ≡ cycle_answer o v.now n }
     ensures room_after { room.new ≡ unless room.old (valid v.now) (written room.old v.now) }
@@ -161,7 +161,7 @@ fn open_start(
     map: &mut [u64],
     v: &[u8],
     n: usize,
-) -> OpenAnswer
+) -> OpenAnswer<Refusal>
     requires { (o.fields ≤ 3) × (o.cycle ≤ length room.now) × (6 ≤ length v.now) }
     ensures { left (open_said result) ledger.new map.new
         ≡ start_opened o room.now ledger.old map.old v.now n }
@@ -191,7 +191,7 @@ pub fn open_whole(
     map: &mut [u64],
     tag: u8,
     v: &[u8],
-) -> OpenAnswer
+) -> OpenAnswer<Refusal>
     requires { (length_allowed tags tag (length v.now) ≡ true) × (open_ground o room.old ≡ 0) }
     ensures { open_left result room.new ledger.new map.new
         ≡ field_opened o room.old ledger.old map.old (record { tag = tag; value = v.now }) }

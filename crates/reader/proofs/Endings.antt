@@ -6,7 +6,7 @@ use Prim.Native.Nat.{ℕ}
 use borrow.Author.Tests.{eqb-true}
 use lib.Dec.{eqb}
 use Rattle.rules.specs.Words.{unless}
-use Rattle.laws.specs.Answers.{Said, gives, refuses}
+use Rattle.laws.specs.Answers.{refuses}
 use Rattle.reading.specs.declared.Reading.{Reading}
 use Rattle.reading.specs.Answers.{ReadSaid, AllSaid}
 use Rattle.reading.proofs.Answered.{same_step}

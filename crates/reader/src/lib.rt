@@ -47,25 +47,19 @@ pub fn open(
     room: &mut [u8],
     ledger: &mut [i64],
     map: &mut [u64],
-) -> OpenAnswer
+) -> OpenAnswer<Refusal>
     ensures { open_left result room.new ledger.new map.new
         ≡ front_opened opening room.old ledger.old map.old input.now }
 {
     if let Err(refusal) = opening::open_refusal(opening, room) {
-        return OpenAnswer {
-            step: Err(refusal),
-            opening,
-        };
+        return opening::refused_at(opening, refusal);
     }
     match front_of(input) {
         Ok(None) => OpenAnswer {
             step: Ok(OpenStep::Incomplete),
             opening,
         },
-        Err(impossible) => OpenAnswer {
-            step: Err(impossible),
-            opening,
-        },
+        Err(impossible) => opening::refused_at(opening, impossible),
         Ok(Some(front)) => opening::open_whole(
             opening,
             room,

@@ -8,9 +8,10 @@ fn put(out: &mut [u8], at: usize, text: &[u8]) -> usize
     requires { at + length text.now ≤ length out.old }
     ensures { Wrote (length text.now) out.old at text.now out.new result }
 {
-    let end = at + text.len();
-    out[at..end].copy_from_slice(text);
-    end
+    for i in 0..text.len() {
+        out[at + i] = text[i];
+    }
+    at + text.len()
 }
 
 // The text, and the byte `last`.

@@ -7,6 +7,7 @@ ghost use Rattle.state.specs.State.{is_run};
 ghost use Rattle.sources.specs.Sources.{most_first, first_around, first_in, phase_begun, phase_finished, begun_m, finished_m, begun_e};
 
 use cycle::end_of;
+use numbers::wide;
 use rules::Method;
 use rules::limits::MOST_OFFERED;
 use state::Run;
@@ -55,7 +56,7 @@ pub fn phase_begun(cycle: &[u8], k: usize, first: u32, closed: u32) -> bool
     requires { (valid cycle.now ≡ true) × (first ≤ most_first) }
     ensures { result ≡ phase_begun cycle.now k first closed }
 {
-    k < usize::from(cycle[0]) && first + 20 * (start_of(cycle, k) as u32) < closed
+    k < wide(cycle[0]) && first + 20 * (start_of(cycle, k) as u32) < closed
 }
 
 // Whether it is finished.
@@ -63,7 +64,7 @@ pub fn phase_finished(cycle: &[u8], k: usize, first: u32, closed: u32) -> bool
     requires { (valid cycle.now ≡ true) × (first ≤ most_first) }
     ensures { result ≡ phase_finished cycle.now k first closed }
 {
-    k < usize::from(cycle[0]) && first + 20 * (end_of(cycle, k) as u32) <= closed
+    k < wide(cycle[0]) && first + 20 * (end_of(cycle, k) as u32) <= closed
 }
 
 // Whether M has begun, behind two cycles of n positions.

@@ -4,6 +4,7 @@ ghost use Rattle.rules.specs.Bench.{most_positions, most_offered};
 ghost use Rattle.state.specs.Refusals.{finished_around, judged_by, last_around};
 
 use crate::Progress;
+use numbers::{less, smaller};
 use rules::End;
 
 // The sample last judged, and 0 before the first.
@@ -12,7 +13,7 @@ pub fn last_judged(progress: Progress) -> u32
 {
     match progress.end {
         End::Stop => progress.counted,
-        End::None | End::Limit => progress.counted.saturating_sub(1),
+        End::None | End::Limit => less(progress.counted, 1),
     }
 }
 
@@ -27,7 +28,7 @@ pub fn finished_around(closed: u32, n: u32, m: u32) -> u32
     if closed < 2 * n + m {
         return 2;
     }
-    4.min((closed - m) / n)
+    smaller(4, (closed - m) / n)
 }
 
 // The cycle, of n positions each, that stands last among the samples up to sample j, with M of m samples behind the second.

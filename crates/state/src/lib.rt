@@ -14,6 +14,7 @@ ghost use Rattle.state.specs.Refusals.{with_method, start_refusal, sample_refusa
 use around::{finished_around, last_around, last_judged};
 use cycle::{end_of, is_cycle, seconds_of};
 use ledger::whole::is_bounded;
+use numbers::{less, smaller, wide};
 use own::is_run;
 use rules::limits::{LEDGER_NUMBERS, MAP_WORDS, MOST_OFFERED};
 use rules::{End, Method, Moment, Refusal, Sample, Tolerances};
@@ -89,7 +90,7 @@ fn end_or_zero(cycle: &[u8], k: usize) -> u16
     requires { valid cycle.now ≡ true }
     ensures { result ≡ end_or_zero cycle.now k }
 {
-    if k < usize::from(cycle[0]) {
+    if k < wide(cycle[0]) {
         return end_of(cycle, k);
     }
     0
@@ -188,7 +189,7 @@ pub fn sample_refusal(
 pub fn closed_of(progress: Progress) -> u32
     ensures { result ≡ closed_by progress }
 {
-    progress.offered.saturating_sub(1).min(progress.counted)
+    smaller(less(progress.offered, 1), progress.counted)
 }
 
 // The energy of M and E.

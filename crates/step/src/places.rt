@@ -10,6 +10,7 @@ ghost use Rattle.step.specs.Where.{next_at, next_of, progressed};
 
 use crate::{Going, Next};
 use cycle::{end_of, phase_of, seconds_of};
+use numbers::smaller;
 use rules::limits::{ROW_E, ROW_M};
 use rules::{End, Method, Moment};
 use state::Progress;
@@ -24,7 +25,7 @@ pub fn until_in(cycle: &[u8], window: Window, phase: usize) -> u32
     requires { 2 + 2 * phase < length cycle.now }
     ensures { result ≡ min window.until (20 * phase_end cycle.now phase) }
 {
-    window.until.min(20 * u32::from(end_of(cycle, phase)))
+    smaller(window.until, 20 * u32::from(end_of(cycle, phase)))
 }
 
 // The run stands where it stood, with other progress that counts as many samples.

@@ -49,6 +49,7 @@ pub fn pass_through(
         (round_of result.turn buffer.new room.new ledger.new map.new) result.spot }
 {
     let mut walk = begin(most);
+    // Stays: no index is counted; a turn leads on by what was read.
     while walk.turn.left > 0 {
         walk = pass_on(rt, walk, buffer, room, ledger, map);
         if !goes_on(walk.turn.turned) {

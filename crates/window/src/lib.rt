@@ -12,6 +12,7 @@ ghost use Rattle.window.specs.Sides.{number_of};
 
 use cycle::{point_of, seconds_of};
 use ends::{left_edge, moved, right_edge, until_of};
+use numbers::{larger, less, smaller};
 use rules::Tolerances;
 
 // An end of the window: its value, and what that gains at the next place, kept 1500 higher.
@@ -66,10 +67,10 @@ fn inner_over(cycle: &[u8], j: u32, k: u32) -> Inner
 {
     let mut low: u32 = 30000;
     let mut high: u32 = 0;
-    for i in 0..k.saturating_sub(j) {
+    for i in 0..less(k, j) {
         let x = 20 * u32::from(point_of(cycle, (j + 1 + i) as usize));
-        low = low.min(x);
-        high = high.max(x);
+        low = smaller(low, x);
+        high = larger(high, x);
     }
     Inner { low, high }
 }
@@ -85,7 +86,7 @@ pub fn window_at(cycle: &[u8], w: u32, p: u32) -> Window
     let n = 20 * t;
     let left = left_edge(cycle, w, p);
     let right = right_edge(cycle, w, p, t);
-    let inner = inner_over(cycle, p.saturating_sub(w) / 20, n.min(p + w) / 20);
+    let inner = inner_over(cycle, less(p, w) / 20, smaller(n, p + w) / 20);
     Window {
         left,
         right,
@@ -133,8 +134,8 @@ pub fn verdict_in(window: Window, s: u32, v: u32) -> Side
         inner,
         ..
     } = window;
-    let lo = left.value.min(right.value).min(inner.low);
-    let hi = left.value.max(right.value).max(inner.high);
+    let lo = smaller(smaller(left.value, right.value), inner.low);
+    let hi = larger(larger(left.value, right.value), inner.high);
     side_of(lo, hi, s, v)
 }
 

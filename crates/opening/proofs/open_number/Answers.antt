@@ -1,13 +1,14 @@
 -- `opening::open_number` meets its contract: the number is tested, then kept.
 use mathlib.Core.Path.{sym, ◌∙◌}
 use Prim.Native.Nat.{◌+◌}
+use Rattle.rules.specs.Numbered.{number}
 use Rattle.numbers.proofs.Tests.{pass, stop}
 use Rattle.laws.specs.Answers.{gives}
 use Rattle.opening.specs.Answers.{opens}
 use Rattle.opening.proofs.open_number.Goals as goal
 
 pub returns-then-not-is_number : goal.returns-then-not-is_number
-returns-then-not-is_number c = c.refused_at.ensures ∙ stop _ (sym c.is_number.ensures ∙ c.if-not-is_number.true)
+returns-then-not-is_number c = c.refused_at.ensures.said number ∙ stop _ (sym c.is_number.ensures ∙ c.if-not-is_number.true)
 
 pub returns : goal.returns
 returns c =

@@ -1,6 +1,7 @@
 -- `opening::open_start` meets its contract: the judge's answer to the start is the field's.
 use mathlib.Core.Path.{sym}
 use lib.Seq.{length-take-le}
+use Rattle.rules.specs.Numbered.{number}
 use Rattle.opening.proofs.Starting.{start_refused, start_taken}
 use Rattle.opening.proofs.open_start.Goals as goal
 
@@ -17,7 +18,7 @@ returns-in-Err c =
     let t = start in
     let a = t.args in
     start_refused a.o a.room.now a.ledger.now a.map.now a.v.now a.n t.tolerances_of.ensures _ start.start-answer.ensures
-    known.in-Err.is c.refused_at.ensures
+    known.in-Err.is (c.refused_at.ensures.said number)
 
 pub returns-in-Ok : goal.returns-in-Ok
 returns-in-Ok c =

@@ -4,6 +4,7 @@ use mathlib.Core.Path.{◌≡◌, sym, ◌∙◌}
 use native.Mathlib.Omega.{arith}
 use Prim.Native.Nat.{◌≤◌}
 use lib.ListN.{length}
+use Rattle.rules.specs.Numbered.{number}
 use Rattle.laws.proofs.Tags.{Sizes, sizes}
 use Rattle.fields.specs.Fields.{has_row}
 use Rattle.opening.proofs.Readied.{Ready, ground_ready}
@@ -30,7 +31,7 @@ pub returns-then-not-is_value : goal.returns-then-not-is_value
 returns-then-not-is_value c =
     let t = c in
     let a = t.args in
-    no_row a.o a.room.now a.ledger.now a.map.now a.v.now a.tag (sym t.is_value.ensures ∙ t.if-not-is_value.true) c.refused_at.ensures
+    no_row a.o a.room.now a.ledger.now a.map.now a.v.now a.tag (sym t.is_value.ensures ∙ t.if-not-is_value.true) (c.refused_at.ensures.said number)
 
 pub overflow_add-o : goal.overflow_add-o
 overflow_add-o c = omega (arith, (ready (goal.at.overflow_add-o c).Start).few)
@@ -41,7 +42,7 @@ returns-then-tag-o c =
     let e = t in
     let s = e in
     let a = s.args in
-    out_of_order a.o a.room.now a.ledger.now a.map.now a.v.now a.tag (row (goal.at.returns-then-tag-o c).Else-not-is_value) (ready (goal.at.returns-then-tag-o c).Start).few s.requires.0 t.if-tag-o.true c.refused_at-then-tag-o.ensures
+    out_of_order a.o a.room.now a.ledger.now a.map.now a.v.now a.tag (row (goal.at.returns-then-tag-o c).Else-not-is_value) (ready (goal.at.returns-then-tag-o c).Start).few s.requires.0 t.if-tag-o.true (c.refused_at-then-tag-o.ensures.said number)
 
 pub open_number-requires : goal.open_number-requires
 open_number-requires c = let s = c in ((ready (goal.at.open_number-requires c).Start).few, (lengths (goal.at.open_number-requires c).Start).number c.in-2.is)

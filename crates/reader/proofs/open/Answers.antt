@@ -1,12 +1,12 @@
 -- `reader::open` meets its contract: the room and the opening are tested, then what stands at the front is answered.
-use mathlib.Core.Path.{◌≡◌, refl, sym, ◌∙◌}
+use mathlib.Core.Path.{refl, sym, ◌∙◌}
 use native.Mathlib.Omega.{arith}
+use Rattle.rules.specs.Numbered.{number}
 use Rattle.laws.proofs.Tags.{sizes}
 use Rattle.fields.proofs.Fronts.{Whole, said_whole, said_incomplete, said_impossible}
 use Rattle.laws.specs.Answers.{refuses}
 use Rattle.laws.proofs.Answers.{numbered, ok_is}
 use Rattle.state.specs.State.{lent}
-use Rattle.opening.specs.Answers.{open_ground}
 use Rattle.opening.proofs.Starting.{ground_refuses, ground_passes}
 use Rattle.reader.proofs.open.Goals as goal
 use Rattle.reader.proofs.open.Goals.{In-Ok-Some}
@@ -17,7 +17,7 @@ whole c = said_whole _ _ c.front_of.ensures (ok_is c.in-Ok-Some.is c.in-Ok-Some.
 pub returns-in-Err : goal.returns-in-Err
 returns-in-Err c =
     let a = c.args in
-    ground_refuses a.opening a.room.now a.ledger.now a.map.now a.input.now c.in-Err.ensures (numbered c.in-Err.refusal) refl
+    ground_refuses a.opening a.room.now a.ledger.now a.map.now a.input.now c.in-Err.ensures (numbered c.in-Err.refusal) (c.refused_at.ensures.said number)
 
 pub overflow_add-front : goal.overflow_add-front
 overflow_add-front c = let w = whole (goal.at.overflow_add-front c).In-Ok-Some in omega (arith, (sizes _ _ w.allowed).most, w.size)
@@ -42,7 +42,7 @@ returns-in-Err-front_of c =
     let a = c.args in
     let (none, eight) = said_impossible _ _ c.front_of.ensures c.in-Err-front_of.is in
     ground_passes a.opening a.room.now a.ledger.now a.map.now a.input.now (sym c.in_default.ensures) none
-    (λ i. record { answer = record { says = refuses (eight i); opening = a.opening }; room = a.room.now; memory = lent a.ledger.now a.map.now })
+    (λ i. record { answer = (c.refused_at-in-Err-front_of.ensures.said number ∙ (λ j. record { says = refuses (eight j); opening = a.opening })) i; room = a.room.now; memory = lent a.ledger.now a.map.now })
 
 pub returns-in-Ok-Some : goal.returns-in-Ok-Some
 returns-in-Ok-Some c =

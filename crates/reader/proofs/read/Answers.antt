@@ -1,8 +1,7 @@
 -- `reader::read` meets its contract: a test that refuses leaves all as it was; else the input is read from where the run stands.
-use mathlib.Core.Path.{◌≡◌, sym, ◌∙◌}
+use mathlib.Core.Path.{◌≡◌, sym}
 use borrow.Author.Rules.{rules}
 use lib.ListN.{length}
-use Rattle.reading.specs.Answers.{read_ground}
 use Rattle.laws.proofs.Answers.{numbered}
 use Rattle.reader.proofs.Answering.{along_asked, ready_at, read_refuses, read_taken}
 use Rattle.reader.proofs.read.Goals as goal

@@ -1,5 +1,5 @@
 -- `reader::read_all` meets its contract: a test that refuses leaves all as it was; else the fields are read.
-use mathlib.Core.Path.{sym, ◌∙◌}
+use mathlib.Core.Path.{sym}
 use Rattle.laws.proofs.Answers.{numbered}
 use Rattle.reader.proofs.Answering.{all_refuses}
 use Rattle.reader.proofs.read_all.Goals as goal

@@ -15,6 +15,6 @@ pub loop-i-preserved : goal.loop-i-preserved
 loop-i-preserved c =
     let f : ℕ → ℕ = λ i. 20 * point c.args.cycle.now (c.args.j + 1 + i) in
     let x : 20 * c.from-x.result ≡ f c.loop-i.i = ap (λ (n : ℕ). 20 * n) (c.from-x.ensures ∙ c.point_of.ensures) in (
-      c.min-low.ensures ∙ ap₂ min c.loop-i.invariant.0 x ∙ sym (fold_more min 30000 f c.loop-i.i),
-      c.max-high.ensures ∙ ap₂ max c.loop-i.invariant.1 x ∙ sym (fold_more max 0 f c.loop-i.i),
+      c.smaller-low.ensures ∙ ap₂ min c.loop-i.invariant.0 x ∙ sym (fold_more min 30000 f c.loop-i.i),
+      c.larger-high.ensures ∙ ap₂ max c.loop-i.invariant.1 x ∙ sym (fold_more max 0 f c.loop-i.i),
     )

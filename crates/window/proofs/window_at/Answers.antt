@@ -19,8 +19,8 @@ made-is c =
     let s = c in
     window_made s.args.cycle.now s.args.w s.args.p _ _ _ _ _ _ _ _
     c.seconds_of-t.ensures
-    c.saturating_sub.ensures
-    c.min.ensures
+    c.less.ensures
+    c.smaller.ensures
     c.left_edge-left.ensures
     c.right_edge-right.ensures
     c.inner_over-inner.ensures.0
