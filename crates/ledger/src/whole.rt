@@ -1,10 +1,14 @@
 // The whole ledger.
-ghost use Rattle.std.specs.Prelude.{◌≡◌, ◌≤◌, length, pos};
+ghost use Rattle.std.specs.Prelude.{◌≡◌, ◌≤◌, ◌<◌, ◌+◌, ◌*◌, length, pos};
 ghost use Rattle.numbers.specs.Lists.{cleared};
+ghost use Rattle.rules.specs.Bench.{most_cycles};
 ghost use Rattle.rules.specs.Shown.{in_bounds, ledger_numbers};
-ghost use Rattle.ledger.specs.Row.{bounded};
+ghost use Rattle.rules.specs.Words.{all_below};
+ghost use Rattle.ledger.specs.Row.{at, bounded};
 
-use rules::limits::{LEAST_ENERGY, LEDGER_NUMBERS, MOST_DISTANCE, MOST_ENERGY, MOST_OUTSIDE};
+use rules::limits::{
+    LEAST_ENERGY, LEDGER_NUMBERS, MOST_CYCLES, MOST_DISTANCE, MOST_ENERGY, MOST_OUTSIDE,
+};
 use values::is_between;
 
 // Whether z may stand at place i.
@@ -19,12 +23,21 @@ fn is_in_bounds(i: usize, z: i64) -> bool
     }
 }
 
+// Whether the nine numbers of cycle c are in bounds.
+// Row by row, since no place is divided by 9 then; over all 576 numbers at once the test takes several times as long.
+fn is_row_bounded(ledger: &[i64], c: usize) -> bool
+    requires { (ledger_numbers ≤ length ledger.now) × (c < most_cycles) }
+    ensures { result ≡ all_below 9 (λ k. in_bounds (9 * c + k) (at ledger.now (9 * c + k))) }
+{
+    (0..9).all(|k| is_in_bounds(k, ledger[9 * c + k]))
+}
+
 // Whether the ledger is long enough and its 576 numbers are in bounds.
 #[tactic(auto, unfolding(crate::specs::Row::bounded))]
 pub fn is_bounded(ledger: &[i64]) -> bool
     ensures { result ≡ bounded ledger.now }
 {
-    LEDGER_NUMBERS <= ledger.len() && (0..LEDGER_NUMBERS).all(|i| is_in_bounds(i, ledger[i]))
+    LEDGER_NUMBERS <= ledger.len() && (0..MOST_CYCLES).all(|c| is_row_bounded(ledger, c))
 }
 
 // The first 576 numbers are zero.

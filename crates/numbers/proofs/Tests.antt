@@ -4,8 +4,8 @@ use mathlib.Core.Bool.{Bool, true, false, not, ◌&&◌, false≢true, and-true,
 use mathlib.Core.List.{List, [], ◌∷◌, ◌++◌}
 use mathlib.Core.Logic.{◌⊎◌, inl, inr, ⊎_elim}
 use mathlib.Core.Path.{◌≡◌, refl, sym, ap, ap₂, subst, ◌∙◌}
-use Prim.Native.Nat.{ℕ, zero, suc, ◌+◌, ◌≤◌, ◌<◌, zero-le, suc-le-suc}
-use native.Mathlib.Nat.{le_refl, le_step, le_of_suc-le-suc, not-suc-le-zero, eq-or-lt_of_le, add-zero, zero-add}
+use Prim.Native.Nat.{ℕ, zero, suc, ◌+◌, ◌*◌, ◌≤◌, ◌<◌, zero-le, suc-le-suc}
+use native.Mathlib.Nat.{le_refl, le_step, le_of_suc-le-suc, not-suc-le-zero, eq-or-lt_of_le, add-zero, add-suc, zero-add, mul-zero, mul-suc}
 use native.Mathlib.Numerals.{add-one}
 use native.Mathlib.Omega.{arith}
 use lib.Dec.{T, T_not, leb, leb→le, le→leb}
@@ -113,6 +113,20 @@ all_range_from a (suc n) f =
 
 pub all_range : (n : ℕ) (f : ℕ → Bool) → list_all f (range_with_len 0 n) ≡ all_below n f
 all_range n f = all_range_from 0 n f ∙ all_same n (λ k. f (0 + k)) f (λ k l. ap f (zero-add k))
+
+-- the first a numbers, and b more; so row by row, n numbers in each
+all_split : (a b : ℕ) (f : ℕ → Bool) → all_below (a + b) f ≡ (all_below a f && all_below b (λ k. f (a + k)))
+unfolding all_below
+all_split a zero f = rw (add-zero a) (sym (and-true (all_below a f)))
+all_split a (suc b) f =
+    rw (add-suc a b)
+    (ap (λ (x : Bool). x && f (a + b)) (all_split a b f) ∙ and_assoc (all_below a f) (all_below b (λ k. f (a + k))) (f (a + b)))
+
+pub all_rows : (n m : ℕ) (f : ℕ → Bool) → all_below m (λ c. all_below n (λ k. f (n * c + k))) ≡ all_below (n * m) f
+unfolding all_below
+all_rows n zero f = rw (mul-zero n) refl
+all_rows n (suc m) f =
+    rw (mul-suc n m) (ap (λ (x : Bool). x && all_below n (λ k. f (n * m + k))) (all_rows n m f) ∙ sym (all_split (n * m) n f))
 
 -- a loop tests the numbers below n, and all below k have passed
 pub record Passing (n : ℕ) (test : ℕ → Bool) (k : ℕ) : Type 0 where
