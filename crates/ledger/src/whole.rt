@@ -24,7 +24,7 @@ fn is_in_bounds(i: usize, z: i64) -> bool
 }
 
 // Whether the nine numbers of cycle c are in bounds.
-// Row by row, since no place is divided by 9 then; over all 576 numbers at once the test takes several times as long.
+// Row by row, where the rest by 9 is known when this is built; over all 576 numbers at once the test takes several times as long.
 fn is_row_bounded(ledger: &[i64], c: usize) -> bool
     requires { (ledger_numbers ≤ length ledger.now) × (c < most_cycles) }
     ensures { result ≡ all_below 9 (λ k. in_bounds (9 * c + k) (at ledger.now (9 * c + k))) }

@@ -114,7 +114,7 @@ all_range_from a (suc n) f =
 pub all_range : (n : ℕ) (f : ℕ → Bool) → list_all f (range_with_len 0 n) ≡ all_below n f
 all_range n f = all_range_from 0 n f ∙ all_same n (λ k. f (0 + k)) f (λ k l. ap f (zero-add k))
 
--- the first a numbers, and b more; so row by row, n numbers in each
+-- the first a numbers, and b more
 all_split : (a b : ℕ) (f : ℕ → Bool) → all_below (a + b) f ≡ (all_below a f && all_below b (λ k. f (a + k)))
 unfolding all_below
 all_split a zero f = rw (add-zero a) (sym (and-true (all_below a f)))
@@ -122,6 +122,7 @@ all_split a (suc b) f =
     rw (add-suc a b)
     (ap (λ (x : Bool). x && f (a + b)) (all_split a b f) ∙ and_assoc (all_below a f) (all_below b (λ k. f (a + k))) (f (a + b)))
 
+-- n numbers at a time
 pub all_rows : (n m : ℕ) (f : ℕ → Bool) → all_below m (λ c. all_below n (λ k. f (n * c + k))) ≡ all_below (n * m) f
 unfolding all_below
 all_rows n zero f = rw (mul-zero n) refl
