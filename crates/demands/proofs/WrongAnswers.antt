@@ -12,8 +12,10 @@ use Rattle.laws.proofs.Answers.{given_refused}
 use denote.Param.Laws.{Laws}
 use denote.RattleType.{RattleType}
 use Rattle.opening.specs.declared.Opening.{Opening}
+use Rattle.opening.specs.declared.OpenAnswer.{OpenAnswer}
 use Rattle.opening.specs.declared.OpenStep.TheVariants as step
-use Rattle.opening.specs.Answers.{open_step_said_by, OpenSaid}
+use Rattle.opening.specs.Answers.{open_step_said_by, OpenSaid, open_said_by}
+use Rattle.opening.specs.Begin.{refused_at as refused_opening}
 use Rattle.opening.specs.contracts as opening_contracts
 use Rattle.opening.proofs.refused_at
 use Rattle.opening.proofs.characters_of
@@ -25,16 +27,22 @@ use Rattle.reader.proofs.reading_of
 use Rattle.reader.proofs.ended
 use Rattle.demands.specs.Calls.{Call}
 
--- a refusal that is another's, by any number that says it, or no refusal at all
+-- an answer to a field that is refused with the number n, whoever gives it and whatever says why: a refusal that is another's, or no refusal at all
+module _ {R : Type 0} (said : R → ℕ) (o : Opening) (n : ℕ) (a : OpenAnswer R) (kept : open_said_by said a ≡ refused_opening o n) where
+  pub refused_opening_another_number_breaks : (e : R) → (said e ≡ n → ⊥) → a.step ≡ Err e → ⊥
+  refused_opening_another_number_breaks e h is =
+      let z : refuses (said e) ≡ refuses n = sym (ap (open_step_said_by said) is) ∙ ap (λ (x : OpenSaid). x.says) kept in h cc
+
+  pub refused_opening_as_incomplete_breaks : a.step ≡ Ok step.Incomplete → ⊥
+  refused_opening_as_incomplete_breaks e = given_refused (sym (ap (open_step_said_by said) e) ∙ ap (λ (x : OpenSaid). x.says) kept)
+
+-- the same of `refused_at`, by any number that says the refusal
 module _ (R : RattleType) (L : Laws R) (c : Call (opening_contracts.refused_at.ended R) (refused_at.Reads.Learnt R L)) where
   pub refused_another_number_breaks : (said : R.Denot → ℕ) (e : R.Denot) → (said e ≡ said c.args.1.0 → ⊥) → c.answer.step ≡ Err e → ⊥
-  refused_another_number_breaks said e h is =
-      let z : refuses (said e) ≡ refuses (said c.args.1.0) = sym (ap (open_step_said_by said) is) ∙ ap (λ (x : OpenSaid). x.says) (c.kept.1 said) in h cc
+  refused_another_number_breaks said = refused_opening_another_number_breaks said c.args.0 (said c.args.1.0) c.answer (c.kept.1 said)
 
   pub refused_as_incomplete_breaks : c.answer.step ≡ Ok step.Incomplete → ⊥
-  refused_as_incomplete_breaks e =
-      let said : R.Denot → ℕ = λ _. 0 in
-      given_refused (sym (ap (open_step_said_by said) e) ∙ ap (λ (x : OpenSaid). x.says) (c.kept.1 said))
+  refused_as_incomplete_breaks = let said : R.Denot → ℕ = λ _. 0 in refused_opening_as_incomplete_breaks said c.args.0 0 c.answer (c.kept.1 said)
 
 -- an opening whose vehicle is seventeen bytes of 0, or that has a cycle already
 module _ (c : Call reader_contracts.blank.ended blank.Reads.Learnt) where
